@@ -2,7 +2,7 @@
 use Rattle.std.proofs.Common.{◌≡◌, ◌≤◌, ℕ, suc, ◌+◌, List, [], ◌∷◌, ◌++◌, length, map, Option, None, Some, Contains, refl, ap, sym, ◌∙◌, add-zero, arith}
 use Rattle.std.proofs.lemmas.Grind.{flat_map-append}
 use Rattle.std.proofs.lemmas.List.{length-append, length-map}
-use Rattle.plain_store.specs.{Reply, Setup}
+use Rattle.record.specs.plain_store.{Reply, Setup}
 use Rattle.record.specs.{Entry, Event, Mark, Past, Taken, entry_of, history, last_call, own, past_of, reply_taken, takings}
 use Rattle.record.specs.declared.marks.Mark.TheVariants as mark
 use Rattle.record.proofs.Width.{IsGood, is_good}

@@ -5,8 +5,8 @@ use Rattle.std.proofs.Math.Nat.{min-eq_left}
 use Rattle.std.proofs.Math.Seq.{take-append_seam}
 use Rattle.std.proofs.lemmas.List.Sums.{fold-append}
 use Rattle.std.specs.List.{list_any}
-use Rattle.plain_store.specs.{Command, Contents, Reply, Setup, opening_store}
-use Rattle.plain_store.specs.declared.commands.Command.TheVariants.{Ask}
+use Rattle.record.specs.plain_store.{Command, Contents, Reply, Setup, opening_store}
+use Rattle.record.specs.plain_store.declared.commands.Command.TheVariants.{Ask}
 use Rattle.record.specs.{Entry, Event, Mark, Past, Refusal, Taken, added, call_number, called_in, calls_full, calls_in, entry_of, history, is_called, last_command, own, past_of, process_of, refused_at, stage, starts, store_after, takings}
 use Rattle.record.specs.declared.events.Event.TheVariants as event
 use Rattle.record.specs.declared.marks.Mark.TheVariants as mark

@@ -1,7 +1,7 @@
 -- The end of a picture: its lines, its marks, and how it is drawn.
 use Rattle.std.proofs.Common.{◌≡◌, ℕ, false, true≢false, List, [], ◌∷◌, ◌++◌, length, map, ◌==◌, Option, Some, refl, ap, subst, sym, ◌∙◌, append-nil}
 use Rattle.bstr.specs.Text.{lines_from}
-use Rattle.plain_store.specs.{Setup}
+use Rattle.record.specs.plain_store.{Setup}
 use Rattle.draw.specs.{Canvas, DrawsLast, DrawsOn, DrawsRest, DrawsUpToVerdict, GivesRead, GivesVerdict, Overhears, Says, SaysEnd, end_given, given, kept, marks_given, marks_says, says_text, shown_of, texts_given}
 use Rattle.draw.proofs.Drawn.{rest_behind}
 use Rattle.draw.proofs.Giving.{marks_append, marks_of_lines, marks_of_reads, texts_append, texts_of_lines, texts_of_reads}

@@ -7,7 +7,7 @@ use Rattle.picture.specs.columns.{OverlappedRead, Saying, given_access, marks_sa
 use Rattle.picture.specs.columns.declared.told.Saying.TheVariants.{Marked, Refused, Tired, Shown as ShowsStore, Ended, LockMarked, LockEnded}
 use Rattle.picture.specs.declared.reads.Reads.{Reads as Mode}
 use Rattle.picture.specs.declared.reads.Reads.TheVariants.{All, Hidden, Shown}
-use Rattle.plain_store.specs.{Setup}
+use Rattle.record.specs.plain_store.{Setup}
 use Rattle.record.specs.{Mark}
 use Rattle.draw.specs.{Gives, GivesAccess, GivesLine, GivesRead, GivesVerdict, Says, given, lines_given, mark_given, marks_after, marks_given, marks_says, says_marks, says_of, says_text, shown_of, text_given, texts_given, waiting}
 

@@ -4,8 +4,8 @@ use Rattle.std.specs.Prelude.{fold}
 use Rattle.std.specs.List.{list_any}
 use Rattle.std.proofs.lemmas.Bool.{ltb-true}
 use Rattle.std.proofs.lemmas.Grind.{fold-append}
-use Rattle.plain_store.specs.{Setup, changes}
-use Rattle.plain_store.proofs.GoodSetups.{few-processes}
+use Rattle.record.specs.plain_store.{Setup, changes}
+use Rattle.record_accesses.proofs.plain_store.GoodSetups.{few-processes}
 use Rattle.record.specs.{Call, Entry, Event, Past, Stage, Wait, bits_with, entered_if_none, entry_of, has, history, inside, is_below, is_entered, is_fresh, is_last, lets_by, marks_of, past_of, reply, stage, stage_after, store_read, value_of, waits_of}
 use Rattle.record.specs.declared.marks.Mark.TheVariants.{Taken}
 use Rattle.record.specs.declared.stages.Stage.TheVariants.{Idle, Doorway, Waiting, Inside, Leaving, Settling, Down}

@@ -1,7 +1,7 @@
 -- A process with the stage `inside` is inside, and no two are.
 use Rattle.std.proofs.Common.{◌≡◌, ◌<◌, ℕ, ◌==◌, Bool, true, false, cond, List, [], ◌∷◌, flat_map, fold, Ok, refl, sym, ◌∙◌, arith}
-use Rattle.plain_store.specs.{Setup, checked}
-use Rattle.plain_store.proofs.GoodSetups.{few-processes}
+use Rattle.record.specs.plain_store.{Setup, checked}
+use Rattle.record_accesses.proofs.plain_store.GoodSetups.{few-processes}
 use Rattle.record.specs.{Mark, Past, Stage, inside, inside_after, past_of, stage, stage_after}
 use Rattle.record.specs.declared.marks.Mark.TheVariants as mark
 use Rattle.record.specs.declared.stages.Stage.TheVariants.{Idle, Inside}

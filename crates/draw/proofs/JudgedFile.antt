@@ -2,7 +2,7 @@
 use Rattle.std.proofs.Common.{◌≡◌, ℕ, ◌+◌, ◌≤◌, nat_lt, Bool, true, false, if◌then◌else◌, List, [], ◌∷◌, ◌++◌, length, reverse, Option, Some, None, Result, Ok, Err, IfSome, refl, ap, sym, subst, ◌∙◌, append-nil, append_assoc, arith}
 use Rattle.std.proofs.lemmas.List.{length-reverse, reverse-append}
 use Rattle.std.specs.Option.{option_to_list}
-use Rattle.plain_store.specs.{Setup}
+use Rattle.record.specs.plain_store.{Setup}
 use Rattle.std.specs.Io.KnownBytes.{IsAtEnd, prepend_known}
 use Rattle.scenario.specs.files.{Fault, FaultKind, Given, LineState, TakesNext, UnlessMemory, coming, unless_ended, words_of, words_read}
 use Rattle.scenario.specs.files.declared.faults.Fault.TheVariants as fault
@@ -17,7 +17,7 @@ use Rattle.judge.specs.Trials.{Stands as HearerStands}
 use Rattle.judge.proofs.Ends.{GoesOnTo, Onwards, at_end, goes_on_at_first, of_input, onwards_fault, onwards_on}
 use Rattle.judge.proofs.Trials.{unless_then}
 use Rattle.judge.proofs.Lines.{later_left}
-use Rattle.draw.specs.{All, DrawnEntry, DrawsBandsOf, EndsAt, GoesOn, HasRead, HasStopped, IsDrawFault, IsJudged, IsShown, LineStops, SaysAll, Sheet, Stands, TellsOfLines, UpTo, entries_of}
+use Rattle.draw.specs.{All, DrawnEntry, DrawsBandsOf, EndsAsked, GoesOn, HasRead, HasStopped, IsDrawFault, IsJudged, IsShown, LineStops, SaysAll, Sheet, Stands, TellsOfLines, UpTo, entries_of}
 use Rattle.draw.proofs.RecordEnds.{drawn_count}
 use Rattle.draw.proofs.Lines.{head_stays}
 use Rattle.draw.proofs.Whole.{if_some}
@@ -72,12 +72,12 @@ module _ {H : Type 0} (HasHeard : H → Setup → List Entry → List ℕ → Ty
   all_shown j t before entries first now false shows shown = absurd (cc)
 
   -- no more entries are drawn than lines were taken
-  pub shown_few : (to_come rest : Option (List ℕ)) (taken : ℕ) (reader : Option Progress) (j : Option H) (t : Sheet) (first now : Option (List ℕ)) (b : Bool) → b ≡ true → Judged HasHeard Keeps finds_good to_come rest taken reader j b t first now → entries_of t.drawing ≤ taken
+  pub shown_few : (to_come rest : Option (List ℕ)) (taken : ℕ) (reader : Option Progress) (j : Option H) (t : Sheet) (first now : Option (List ℕ)) (b : Bool) → b ≡ true → Judged HasHeard Keeps finds_good to_come rest taken reader j b t first now → entries_of t.entries ≤ taken
   shown_few to_come rest taken reader j t first now b shows u =
       let v = u.onwards in
       let stands = all_shown j t v.before v.entries first now b shows u.shown in
       let few : length v.entries ≤ taken = v.few in
-      let count = drawn_count t.reads t.form t.drawing v.before (reverse v.entries) first now stands.draws in
+      let count = drawn_count t.reads t.form t.entries.drawing t.entries.stored.items v.before (reverse v.entries) first now stands.draws in
       omega (arith, few, count, length-reverse v.entries)
 
   -- before the first line, where no bytes have come yet
@@ -253,7 +253,7 @@ module _ {H : Type 0} (HasHeard : H → Setup → List Entry → List ℕ → Ty
   -- what is shown, and what the judge tells
   judged_bands : (Tells : Setup → List Entry → List ℕ → List ℕ → ℕ → Type 0) (shows : Bool) (j : Option H) (t : Sheet) (before : Option Progress) (entries : List Entry) (numbers : List ℕ) (first now after : Option (List ℕ)) (p : Progress) (drawn : DrawnEntry) (told : List ℕ) (status : ℕ) →
       before ≡ Some p → HearsAt HasHeard j before entries numbers → IsShown Keeps finds_good shows j t before entries first now → Tells p.head.setup entries numbers told status →
-      ((p : Progress) (past : Past) (first : Option (List ℕ)) → t.reader ≡ Some p → Stands t (Some p) past first now → (drawn.setup ≡ p.head.setup) × EndsAt t.reads t.form p.head.setup past told drawn.height first after) →
+      ((p : Progress) (past : Past) (first : Option (List ℕ)) → t.reader ≡ Some p → Stands t (Some p) past first now → (drawn.setup ≡ p.head.setup) × EndsAsked t.reads t.form p.head.setup past told drawn.shows drawn.height first after) →
       IsJudged Keeps Tells status (DrawsBandsOf t.reads t.form drawn first after) p.head.setup entries numbers
   judged_bands Tells true j t before entries numbers first now after p drawn told status is heard shown tells ends =
       let both = ends p (reverse entries) first (shown.1.reader ∙ is) (subst (λ (o : Option Progress). Stands t o (reverse entries) first now) is shown.1) in
@@ -282,7 +282,7 @@ module _ {H : Type 0} (HasHeard : H → Setup → List Entry → List ℕ → Ty
 
   -- all that a text says was read
   pub read_judged : (to_come : Option (List ℕ)) (taken : ℕ) (reader : Option Progress) (j : Option H) (t : Sheet) (first now : Option (List ℕ)) (u : HasRead HasHeard Keeps finds_good to_come taken reader j t first now) (Tells : Setup → List Entry → List ℕ → List ℕ → ℕ → Type 0) (told : Telling) (drawn : DrawnEntry) (after : Option (List ℕ)) → TellsOfLines Tells (Some told) u.before u.entries u.numbers →
-      ((p : Progress) (past : Past) (first : Option (List ℕ)) → t.reader ≡ Some p → Stands t (Some p) past first now → (drawn.setup ≡ p.head.setup) × EndsAt t.reads t.form p.head.setup past told.text.items drawn.height first after) →
+      ((p : Progress) (past : Past) (first : Option (List ℕ)) → t.reader ≡ Some p → Stands t (Some p) past first now → (drawn.setup ≡ p.head.setup) × EndsAsked t.reads t.form p.head.setup past told.text.items drawn.shows drawn.height first after) →
       IfSome to_come (IsOfRecord (IsJudged Keeps Tells told.status (DrawsBandsOf t.reads t.form drawn first after)))
   read_judged to_come taken reader j t first now u Tells told drawn after is ends =
       let p : Progress = is.0 in

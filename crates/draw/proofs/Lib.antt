@@ -10,6 +10,7 @@ pub mod Written
 pub mod Giving
 pub mod Drawn
 -- What parts give, and how they are drawn
+pub mod AccessItems
 pub mod PartsRead
 pub mod Drawings
 -- Runs
@@ -33,6 +34,7 @@ pub mod RecordGiving
 pub mod Ending
 mod Lines
 mod Sheeted
+mod Stored
 mod JudgedFile
 pub mod RecordEnds
 pub mod Whole

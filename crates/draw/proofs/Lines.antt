@@ -1,8 +1,8 @@
 -- What a line of a record file leaves of what was drawn before it.
-use Rattle.std.proofs.Common.{◌≡◌, ℕ, ◌≤◌, Bool, true, false, List, [], ◌∷◌, ◌++◌, length, reverse, IsSome, Option, Some, None, Ok, refl, ap, sym, subst, ◌∙◌, append-nil, arith}
+use Rattle.std.proofs.Common.{◌≡◌, ℕ, ◌≤◌, Bool, true, false, List, [], ◌∷◌, ◌++◌, length, reverse, Option, Some, None, Ok, refl, ap, sym, subst, ◌∙◌, append-nil, arith}
 use Rattle.std.proofs.lemmas.List.{reverse-append}
 use Rattle.std.specs.Option.{option_to_list}
-use Rattle.plain_store.specs.{Setup}
+use Rattle.record.specs.plain_store.{Setup}
 use Rattle.scenario.specs.files.{words_of, words_read}
 use Rattle.picture.specs.{Form}
 use Rattle.picture.specs.declared.reads.Reads.{Reads as Mode}
@@ -12,41 +12,41 @@ use Rattle.judge.specs.record_file.scenario.{Progress as Head, spaced}
 use Rattle.judge.proofs.record_file.EntryLines.{entry_of_line}
 use Rattle.judge.specs.{say_entry}
 use Rattle.judge.proofs.Lines.{Left, clear_twice, empty, first_left, later_left, short_read}
-use Rattle.draw.specs.{DrawsAt, DrawsPast, GoesOn, IsDrawn, RecordDrawing, Sheet, Stands}
+use Rattle.draw.specs.{AreDrawn, AreReadBy, AreShownBy, AreStored, DrawsAt, DrawsPast, GoesOn, RecordDrawing, RecordEntries, Sheet, Stands}
 
 -- behind an entry the head stays
 pub head_stays : (b : Bool) (p next : Progress) → p.ended ≡ true → Left b p next → (next.ended ≡ true) × (next.head ≡ p.head)
 head_stays false p next ended left = left.1 ended
 head_stays true p next ended left = (left.1, left.2)
 
-module _ (reads : Mode) (form : Form) (old : Option (List ℕ)) where
+module _ (asked : Mode) (form : Form) (old : Option (List ℕ)) where
   -- a picture is of the setup that was read
-  drawn_at : (s t : Setup) (d : RecordDrawing) (past : Past) (new : Option (List ℕ)) → s ≡ t → IsDrawn reads form s past d old new → IsDrawn reads form t past d old new
-  drawn_at s t d past new same drawn = subst (λ s. IsDrawn reads form s past d old new) same drawn
+  drawn_at : (s t : Setup) (d : RecordDrawing) (past : Past) (new : Option (List ℕ)) → s ≡ t → AreDrawn asked form s past d old new → AreDrawn asked form t past d old new
+  drawn_at s t d past new same drawn = subst (λ s. AreDrawn asked form s past d old new) same drawn
 
   -- behind a line that says no entry
-  pub drawn_still : (words : List (List ℕ)) (before now : Option Progress) (d : Option RecordDrawing) (past : Past) (new : Option (List ℕ)) → words_read record_grammar words before ≡ Ok now → cleared before ≡ before → entry_in now ≡ [] → DrawsAt reads form d before past old new → DrawsAt reads form d (cleared now) (entry_in now ++ past) old new
-  drawn_still words before now None past new read clear none drawn = (ap (λ l. l ++ past) none ∙ drawn.0, drawn.1)
-  drawn_still words None now (Some d) past new read clear none drawn = absurd drawn
-  drawn_still words (Some p) now (Some d) past new read clear none drawn = by (later_left words p now read)
+  pub drawn_still : (words : List (List ℕ)) (before now : Option Progress) (d : Option RecordDrawing) (stored : List Entry) (past : Past) (new : Option (List ℕ)) → words_read record_grammar words before ≡ Ok now → cleared before ≡ before → entry_in now ≡ [] →
+      AreReadBy d stored asked form before past old new → AreReadBy d stored asked form (cleared now) (entry_in now ++ past) old new
+  drawn_still words before now None stored past new read clear none drawn = subst (λ (l : List Entry). AreStored asked (l ++ past) stored old new) (sym none) drawn
+  drawn_still words None now (Some d) stored past new read clear none drawn = absurd drawn
+  drawn_still words (Some p) now (Some d) stored past new read clear none drawn = by (later_left words p now read)
     where
-      whole : (next : Progress) → (next.ended ≡ true) × (next.head ≡ p.head) → DrawsAt reads form (Some d) (cleared (Some next)) past old new
+      whole : (next : Progress) → (next.ended ≡ true) × (next.head ≡ p.head) → AreReadBy (Some d) stored asked form (cleared (Some next)) past old new
       whole next stays = (stays.0, drawn_at p.head.setup next.head.setup d past new (ap (λ (h : Head). h.setup) (sym stays.1)) drawn.1)
 
-      by : (next : Progress) × (now ≡ Some next) × Left (say_entry words) p next → DrawsAt reads form (Some d) (cleared now) (entry_in now ++ past) old new
+      by : (next : Progress) × (now ≡ Some next) × Left (say_entry words) p next → AreReadBy (Some d) stored asked form (cleared now) (entry_in now ++ past) old new
       by next =
-          subst (λ (l : List Entry). DrawsAt reads form (Some d) (cleared now) (l ++ past) old new) (sym none)
-          (subst (λ (o : Option Progress). DrawsAt reads form (Some d) (cleared o) past old new) (sym next.1) (whole next.0 (head_stays (say_entry words) p next.0 drawn.0 next.2)))
+          subst (λ (l : List Entry). AreReadBy (Some d) stored asked form (cleared now) (l ++ past) old new) (sym none)
+          (subst (λ (o : Option Progress). AreReadBy (Some d) stored asked form (cleared o) past old new) (sym next.1) (whole next.0 (head_stays (say_entry words) p next.0 drawn.0 next.2)))
 
-  -- behind one that says an entry, which was drawn
-  pub drawn_more : (words : List (List ℕ)) (before : Option Progress) (now : Progress) (e : Entry) (d d' : Option RecordDrawing) (past : Past) (new new' : Option (List ℕ)) → words_read record_grammar words before ≡ Ok (Some now) → cleared before ≡ before → now.entry ≡ Some e →
-      IsSome d' → (DrawsPast reads form d now.head.setup past old new → DrawsPast reads form d' now.head.setup (e ∷ past) old new') → DrawsAt reads form d before past old new → DrawsAt reads form d' (cleared (Some now)) (entry_in (Some now) ++ past) old new'
-  drawn_more words None now e d d' past new new' read clear says some draws drawn =
+  -- behind one that says an entry, which was stored or drawn
+  pub drawn_more : (words : List (List ℕ)) (before : Option Progress) (now : Progress) (e : Entry) (d d' : Option RecordDrawing) (stored stored' : List Entry) (past : Past) (new new' : Option (List ℕ)) → words_read record_grammar words before ≡ Ok (Some now) → cleared before ≡ before → now.entry ≡ Some e →
+      (AreShownBy d stored asked form now.head.setup past old new → AreShownBy d' stored' asked form now.head.setup (e ∷ past) old new') → AreReadBy d stored asked form before past old new → AreReadBy d' stored' asked form (cleared (Some now)) (entry_in (Some now) ++ past) old new'
+  drawn_more words None now e d d' stored stored' past new new' read clear says draws drawn =
       let no : e ∷ [] ≡ [] = sym (ap option_to_list says) ∙ (first_left words (Some now) read).0 in absurd (cc)
-  drawn_more words (Some p) now e d None past new new' read clear says some draws drawn = absurd (cc)
-  drawn_more words (Some p) now e d (Some k) past new new' read clear says some draws drawn = by (later_left words p (Some now) read)
+  drawn_more words (Some p) now e d d' stored stored' past new new' read clear says draws drawn = by (later_left words p (Some now) read)
     where
-      before_it : (d : Option RecordDrawing) → DrawsAt reads form d (Some p) past old new → now.head ≡ p.head → DrawsPast reads form d now.head.setup past old new
+      before_it : (d : Option RecordDrawing) → AreReadBy d stored asked form (Some p) past old new → now.head ≡ p.head → AreShownBy d stored asked form now.head.setup past old new
       before_it None drawn same = drawn
       before_it (Some i) drawn same = drawn_at p.head.setup now.head.setup i past new (ap (λ (h : Head). h.setup) (sym same)) drawn.1
 
@@ -54,13 +54,17 @@ module _ (reads : Mode) (form : Form) (old : Option (List ℕ)) where
       ends false next is left = let no : Some e ≡ None = sym says ∙ ap (λ (p : Progress). p.entry) is ∙ left.0 ∙ empty p clear in absurd (cc)
       ends true next is left = (ap (λ (p : Progress). p.ended) is ∙ left.1, ap (λ (p : Progress). p.head) is ∙ left.2)
 
-      by : (next : Progress) × (Some now ≡ Some next) × Left (say_entry words) p next → DrawsAt reads form (Some k) (cleared (Some now)) (entry_in (Some now) ++ past) old new'
+      after_it : (d' : Option RecordDrawing) → now.ended ≡ true → AreShownBy d' stored' asked form now.head.setup (e ∷ past) old new' → AreReadBy d' stored' asked form (cleared (Some now)) (e ∷ past) old new'
+      after_it None ended shown = shown
+      after_it (Some k) ended shown = (ended, shown)
+
+      by : (next : Progress) × (Some now ≡ Some next) × Left (say_entry words) p next → AreReadBy d' stored' asked form (cleared (Some now)) (entry_in (Some now) ++ past) old new'
       by next =
           let is = next.1 in
           let same : now ≡ next.0 = cc in
           let both = ends (say_entry words) next.0 same next.2 in
-          subst (λ (o : Option Entry). DrawsAt reads form (Some k) (cleared (Some now)) (option_to_list o ++ past) old new') (sym says)
-          (both.0, draws (before_it d drawn both.1))
+          subst (λ (o : Option Entry). AreReadBy d' stored' asked form (cleared (Some now)) (option_to_list o ++ past) old new') (sym says)
+          (after_it d' both.0 (draws (before_it d drawn both.1)))
 
 -- Behind a line, where it ends well.
 
@@ -69,7 +73,7 @@ module _ (line : List ℕ) (before now : Option Progress) (old t : Sheet) (past 
   read_at : words_read record_grammar (words_of line) before ≡ Ok now
   read_at = ap (λ (o : Option Progress). words_read record_grammar (words_of line) o) (sym stands.reader) ∙ read
 
-  ends_well : t.reader ≡ cleared now → DrawsAt t.reads t.form t.drawing (cleared now) (entry_in now ++ past) first after → GoesOn (line_read line before) t past first after
+  ends_well : t.reader ≡ cleared now → DrawsAt t.reads t.form t.entries (cleared now) (entry_in now ++ past) first after → GoesOn (line_read line before) t past first after
   ends_well reader drawn = record {
     now = now;
     says = short_read line before short ∙ read_at;
@@ -77,32 +81,32 @@ module _ (line : List ℕ) (before now : Option Progress) (old t : Sheet) (past 
   }
 
   -- it says no entry
-  pub ends_quiet : t.reader ≡ cleared now → t.reads ≡ old.reads → t.form ≡ old.form → t.drawing ≡ old.drawing → after ≡ taken → entry_in now ≡ [] → GoesOn (line_read line before) t past first after
+  pub ends_quiet : t.reader ≡ cleared now → t.reads ≡ old.reads → t.form ≡ old.form → t.entries ≡ old.entries → after ≡ taken → entry_in now ≡ [] → GoesOn (line_read line before) t past first after
   ends_quiet reader reads form same kept none =
-      ends_well reader (drawn_still t.reads t.form first (words_of line) before now t.drawing past after read_at stands.clear none
-      (subst (λ (m : Mode). DrawsAt m t.form t.drawing before past first after) (sym reads) (subst (λ (f : Form). DrawsAt old.reads f t.drawing before past first after) (sym form)
-      (subst (λ (d : Option RecordDrawing). DrawsAt old.reads old.form d before past first after) (sym same) (subst (λ (w : Option (List ℕ)). DrawsAt old.reads old.form old.drawing before past first w) (sym kept) stands.draws)))))
+      ends_well reader (drawn_still t.reads t.form first (words_of line) before now t.entries.drawing t.entries.stored.items past after read_at stands.clear none
+      (subst (λ (m : Mode). DrawsAt m t.form t.entries before past first after) (sym reads) (subst (λ (f : Form). DrawsAt old.reads f t.entries before past first after) (sym form)
+      (subst (λ (e : RecordEntries). DrawsAt old.reads old.form e before past first after) (sym same) (subst (λ (w : Option (List ℕ)). DrawsAt old.reads old.form old.entries before past first w) (sym kept) stands.draws)))))
 
--- it says one, which was drawn
+-- it says one, which was stored or drawn
 pub ends_drawn : (line : List ℕ) (before : Option Progress) (now : Progress) (e : Entry) (old t : Sheet) (past : Past) (first taken after : Option (List ℕ)) → length line ≤ 128 → Stands old before past first taken → words_read record_grammar (words_of line) old.reader ≡ Ok (Some now) → now.entry ≡ Some e →
-    t.reader ≡ cleared (Some now) → t.reads ≡ old.reads → t.form ≡ old.form → IsSome t.drawing →
-    ((past : Past) (first : Option (List ℕ)) → DrawsPast old.reads old.form old.drawing now.head.setup past first taken → DrawsPast old.reads old.form t.drawing now.head.setup (e ∷ past) first after) → GoesOn (line_read line before) t past first after
-ends_drawn line before now e old t past first taken after short stands read says reader reads form some draws =
+    t.reader ≡ cleared (Some now) → t.reads ≡ old.reads → t.form ≡ old.form →
+    ((past : Past) (first : Option (List ℕ)) → DrawsPast old.reads old.form old.entries now.head.setup past first taken → DrawsPast old.reads old.form t.entries now.head.setup (e ∷ past) first after) → GoesOn (line_read line before) t past first after
+ends_drawn line before now e old t past first taken after short stands read says reader reads form draws =
     ends_well line before (Some now) old t past first taken after short stands read reader
-    (subst (λ (m : Mode). DrawsAt m t.form t.drawing (cleared (Some now)) (entry_in (Some now) ++ past) first after) (sym reads) (subst (λ (f : Form). DrawsAt old.reads f t.drawing (cleared (Some now)) (entry_in (Some now) ++ past) first after) (sym form)
-    (drawn_more old.reads old.form first (words_of line) before now e old.drawing t.drawing past taken after (read_at line before (Some now) old t past first taken after short stands read) stands.clear says some (draws past first) stands.draws)))
+    (subst (λ (m : Mode). DrawsAt m t.form t.entries (cleared (Some now)) (entry_in (Some now) ++ past) first after) (sym reads) (subst (λ (f : Form). DrawsAt old.reads f t.entries (cleared (Some now)) (entry_in (Some now) ++ past) first after) (sym form)
+    (drawn_more old.reads old.form first (words_of line) before now e old.entries.drawing t.entries.drawing old.entries.stored.items t.entries.stored.items past taken after (read_at line before (Some now) old t past first taken after short stands read) stands.clear says (draws past first) stands.draws)))
 
--- it is as it is printed for a Step, which was heard behind an entry
-pub ends_stepped : (line : List ℕ) (old t : Sheet) (d d' : RecordDrawing) (process : ℕ) (access : Access) (before : Option Progress) (past : Past) (first now : Option (List ℕ)) → length line ≤ 128 → line ≡ spaced (entry_words (step_entry process access)) → is_entry (step_entry process access) ≡ true → old.drawing ≡ Some d →
-    t.reader ≡ old.reader → t.reads ≡ old.reads → t.form ≡ old.form → t.drawing ≡ Some d' →
-    ((s : Setup) → IsDrawn old.reads old.form s past d first now → IsDrawn old.reads old.form s (step_entry process access ∷ past) d' first now) → Stands old before past first now → GoesOn (line_read line before) t past first now
-ends_stepped line old t d d' process access before past first now short printed sound some reader reads form drawing draws stands =
-    by before stands.clear (subst (λ (o : Option RecordDrawing). DrawsAt old.reads old.form o before past first now) some stands.draws) (reader ∙ stands.reader)
+-- it is as it is printed for a Step, which was drawn behind an entry that was drawn
+pub ends_stepped : (line : List ℕ) (old t : Sheet) (d d' : RecordDrawing) (process : ℕ) (access : Access) (before : Option Progress) (past : Past) (first now after : Option (List ℕ)) → length line ≤ 128 → line ≡ spaced (entry_words (step_entry process access)) → is_entry (step_entry process access) ≡ true → old.entries.drawing ≡ Some d →
+    t.reader ≡ old.reader → t.reads ≡ old.reads → t.form ≡ old.form → t.entries.drawing ≡ Some d' →
+    ((s : Setup) → AreDrawn old.reads old.form s past d first now → AreDrawn old.reads old.form s (step_entry process access ∷ past) d' first after) → Stands old before past first now → GoesOn (line_read line before) t past first after
+ends_stepped line old t d d' process access before past first now after short printed sound some reader reads form drawing draws stands =
+    by before stands.clear (subst (λ (o : Option RecordDrawing). AreReadBy o old.entries.stored.items old.reads old.form before past first now) some stands.draws) (reader ∙ stands.reader)
   where
     e : Entry
     e = step_entry process access
 
-    by : (b : Option Progress) → cleared b ≡ b → DrawsAt old.reads old.form (Some d) b past first now → t.reader ≡ b → GoesOn (line_read line b) t past first now
+    by : (b : Option Progress) → cleared b ≡ b → AreReadBy (Some d) old.entries.stored.items old.reads old.form b past first now → t.reader ≡ b → GoesOn (line_read line b) t past first after
     by None clear drawn same = absurd drawn
     by (Some p) clear drawn same = record {
       now = Some (record p { ended = true; entry = Some e });
@@ -110,8 +114,8 @@ ends_stepped line old t d d' process access before past first now short printed 
       stands = record {
         reader = same ∙ sym clear ∙ ap (λ (b : Bool). Some (record p { ended = b; entry = None })) drawn.0;
         clear = refl;
-        draws = subst (λ (m : Mode). DrawsAt m t.form t.drawing (Some (record p { ended = true; entry = None })) (e ∷ past) first now) (sym reads) (subst (λ (f : Form). DrawsAt old.reads f t.drawing (Some (record p { ended = true; entry = None })) (e ∷ past) first now) (sym form)
-            (subst (λ (o : Option RecordDrawing). DrawsAt old.reads old.form o (Some (record p { ended = true; entry = None })) (e ∷ past) first now) (sym drawing) (refl, draws p.head.setup drawn.1)));
+        draws = subst (λ (m : Mode). DrawsAt m t.form t.entries (Some (record p { ended = true; entry = None })) (e ∷ past) first after) (sym reads) (subst (λ (f : Form). DrawsAt old.reads f t.entries (Some (record p { ended = true; entry = None })) (e ∷ past) first after) (sym form)
+            (subst (λ (o : Option RecordDrawing). AreReadBy o t.entries.stored.items old.reads old.form (Some (record p { ended = true; entry = None })) (e ∷ past) first after) (sym drawing) (refl, draws p.head.setup drawn.1)));
       };
     }
 

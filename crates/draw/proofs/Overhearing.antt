@@ -5,9 +5,9 @@ use Rattle.std.proofs.lemmas.Bool.Decides.{nat_tests}
 use Rattle.record.specs.{Access, Entry, Past, begins_read, moves_of, same_bit}
 use Rattle.record.specs.safe_bit.{Move}
 use Rattle.record.specs.safe_bit.declared.Move.TheVariants.{BeginRead}
-use Rattle.plain_store.specs.declared.setups.Setup.{Setup as Given}
-use Rattle.plain_store.specs.{checked}
-use Rattle.plain_store.proofs.GoodSetups.{few-processes}
+use Rattle.record.specs.plain_store.declared.setups.Setup.{Setup as Given}
+use Rattle.record.specs.plain_store.{checked}
+use Rattle.record_accesses.proofs.plain_store.GoodSetups.{few-processes}
 use Rattle.judge.specs.read_law.{HasHeard, WatchState, ends_overlapped}
 use Rattle.judge.specs.read_law.laws.{IsThere}
 use Rattle.judge.proofs.read_law.Hears.{heard_none}

@@ -1,6 +1,6 @@
 -- What the memory of a run reports of an access is whether it ends an overlapped read.
 use Rattle.std.proofs.Common.{◌≡◌, Bool, false, List, [], Option, None, Some, IfSome, refl, ap, ◌∙◌}
-use Rattle.plain_store.specs.{Setup}
+use Rattle.record.specs.plain_store.{Setup}
 use Rattle.record.specs.{Access, Entry, Event, Past, entry_of, moves_of, past_of}
 use Rattle.record.specs.declared.events.Event.TheVariants.{Step}
 use Rattle.record.specs.safe_bit.{Move}

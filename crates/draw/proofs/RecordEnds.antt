@@ -1,6 +1,6 @@
 -- What is read of a whole file, line by line, and how that ends.
 use Rattle.std.proofs.Common.{◌≡◌, ℕ, ◌+◌, ◌≤◌, Bool, false, List, [], ◌++◌, length, reverse, Option, Some, None, Result, Ok, Err, IfOk, OnOk, IsErrAnd, IfSome, IsSome, refl, ap, sym, subst, ◌∙◌, arith}
-use Rattle.std.proofs.lemmas.List.{length-append, reverse-reverse}
+use Rattle.std.proofs.lemmas.List.{length-append, length-reverse, reverse-reverse}
 use Rattle.std.specs.Io.KnownBytes.{IsAtEnd, prepend_known}
 use Rattle.scenario.specs.files.{Fault, FaultKind, Given, GoesToNext, IsTooLong, LineFault, LineState, TakesLine, TakesNext, Told, UnlessMemory, coming, failed_reading, lines, unless_ended}
 use Rattle.scenario.specs.files.declared.faults.Fault.TheVariants as fault
@@ -10,12 +10,12 @@ use Rattle.picture.specs.declared.reads.Reads.{Reads as Mode}
 use Rattle.record.specs.{Entry, Past}
 use Rattle.judge.specs.record_file.{Progress, cleared, entry_in, line_read, record_of, rest_read}
 use Rattle.draw.specs.{failed_write}
-use Rattle.draw.specs.{DrawnEntry, DrawsAllBands, DrawsAt, EndsAt, GoesOn, IsDrawFault, LineStops, RecordDrawing, Sheet, Stands, entries_of}
+use Rattle.draw.specs.{AreReadBy, DrawnEntry, DrawsAllBands, EndsAsked, GoesOn, IsDrawFault, LineStops, RecordDrawing, Sheet, Stands, count_by, entries_of, full_view}
 use Rattle.judge.proofs.Ends.{at_end, line_fault, line_then, of_input, told_on}
 use Rattle.judge.proofs.Lines.{few_in, long_read}
 use Rattle.judge.proofs.Trials.{unless_then}
 use Rattle.draw.proofs.Lines.{reverse_in}
-use Rattle.draw.proofs.RecordGiving.{entries_of_record}
+use Rattle.draw.proofs.Sheeted.{drawn_as_many}
 
 -- All lines so far.
 
@@ -31,15 +31,15 @@ pub record Onwards (to_come rest : Option (List ℕ)) (taken : ℕ) (t : Sheet) 
   pub few : length past ≤ taken
   pub goes_on : Told to_come rest (GoesOnTo before (reverse past) taken)
 
--- as many entries were drawn as were said
-pub drawn_count : (reads : Mode) (form : Form) (d : Option RecordDrawing) (before : Option Progress) (past : Past) (old new : Option (List ℕ)) → DrawsAt reads form d before past old new → entries_of d ≡ length past
-drawn_count reads form None before past old new drawn = sym (ap length drawn.0)
-drawn_count reads form (Some d) None past old new drawn = absurd drawn
-drawn_count reads form (Some d) (Some p) past old new drawn = drawn.1.drawn.recalls.entries ∙ ap length (entries_of_record past)
+-- as many entries were stored or drawn as were said
+pub drawn_count : (asked : Mode) (form : Form) (d : Option RecordDrawing) (stored : List Entry) (before : Option Progress) (past : Past) (old new : Option (List ℕ)) → AreReadBy d stored asked form before past old new → count_by d stored ≡ length past
+drawn_count asked form None stored before past old new drawn = ap length drawn.are ∙ length-reverse past
+drawn_count asked form (Some d) stored None past old new drawn = absurd drawn
+drawn_count asked form (Some d) stored (Some p) past old new drawn = drawn_as_many (full_view asked) form p.head.setup past d old new drawn.1.drawn
 
-pub onwards_few : (to_come rest : Option (List ℕ)) (taken : ℕ) (t : Sheet) (old new : Option (List ℕ)) → Onwards to_come rest taken t old new → entries_of t.drawing ≤ taken
+pub onwards_few : (to_come rest : Option (List ℕ)) (taken : ℕ) (t : Sheet) (old new : Option (List ℕ)) → Onwards to_come rest taken t old new → entries_of t.entries ≤ taken
 onwards_few to_come rest taken t old new u =
-    let few : length u.past ≤ taken = u.few in let count = drawn_count t.reads t.form t.drawing u.before u.past old new u.stands.draws in omega (arith, few, count)
+    let few : length u.past ≤ taken = u.few in let count = drawn_count t.reads t.form t.entries.drawing t.entries.stored.items u.before u.past old new u.stands.draws in omega (arith, few, count)
 
 -- before the first line, where no bytes have come yet
 pub onwards_start : (to_come : Option (List ℕ)) (ahead : Given) (taken : ℕ) (t : Sheet) (old : Option (List ℕ)) → ahead.bytes ≡ [] → ahead.ended ≡ false → taken ≡ 0 → Stands t None [] old old → Onwards to_come (coming ahead to_come) taken t old old
@@ -96,16 +96,16 @@ onwards_none to_come mid taken t old new u none end =
 
 -- the picture of the whole
 pub onwards_drawn : (to_come mid : Option (List ℕ)) (taken : ℕ) (t : Sheet) (old new then : Option (List ℕ)) (u : Onwards to_come mid taken t old new) (p : Progress) (drawn : DrawnEntry) → t.reader ≡ Some p → IsAtEnd mid →
-    ((p : Progress) (past : Past) (first : Option (List ℕ)) → t.reader ≡ Some p → Stands t (Some p) past first new → (drawn.setup ≡ p.head.setup) × EndsAt t.reads t.form p.head.setup past [] drawn.height first then) →
+    ((p : Progress) (past : Past) (first : Option (List ℕ)) → t.reader ≡ Some p → Stands t (Some p) past first new → (drawn.setup ≡ p.head.setup) × EndsAsked t.reads t.form p.head.setup past [] drawn.shows drawn.height first then) →
     IfSome to_come (DrawsAllBands t.reads t.form drawn old then)
 onwards_drawn to_come mid taken t old new then u p drawn some end ends =
     of_input to_come mid (GoesOnTo u.before (reverse u.past) taken) (λ y. y ≡ []) (DrawsAllBands t.reads t.form drawn old then) (λ x y before is. record {
       said = record { setup = p.head.setup; entries = reverse u.past };
       says = sym before ∙ ap (λ (l : List ℕ). rest_read (taken + 1) l u.before (reverse u.past)) is ∙ ap (λ b. rest_read (taken + 1) [] b (reverse u.past)) (sym u.stands.reader ∙ some);
-      holds = record { setup = both.0; ends = subst (λ (past : Past). EndsAt t.reads t.form p.head.setup past [] drawn.height old then) (sym (reverse-reverse u.past)) both.1 };
+      holds = record { setup = both.0; ends = subst (λ (past : Past). EndsAsked t.reads t.form p.head.setup past [] drawn.shows drawn.height old then) (sym (reverse-reverse u.past)) both.1 };
     }) u.goes_on (at_end mid end)
   where
-    both : (drawn.setup ≡ p.head.setup) × EndsAt t.reads t.form p.head.setup u.past [] drawn.height old then
+    both : (drawn.setup ≡ p.head.setup) × EndsAsked t.reads t.form p.head.setup u.past [] drawn.shows drawn.height old then
     both = ends p u.past old some (subst (λ (o : Option Progress). Stands t o u.past old new) (sym u.stands.reader ∙ some) u.stands)
 
 -- what was read, where something was

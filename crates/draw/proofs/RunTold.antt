@@ -2,7 +2,7 @@
 use Rattle.std.proofs.Common.{◌≡◌, ℕ, suc, ◌+◌, ◌-◌, List, [], ◌∷◌, ◌++◌, flat_map, length, map, Option, None, Some, refl, ap, sym, ◌∙◌, append-nil, append_assoc, arith}
 use Rattle.std.proofs.lemmas.Grind.{flat_map-append}
 use Rattle.std.proofs.lemmas.List.{length-append}
-use Rattle.plain_store.specs.{Setup}
+use Rattle.record.specs.plain_store.{Setup}
 use Rattle.record.specs.{Entry, Mark, Past, Refusal, added, entry_of, process_of, refused}
 use Rattle.record.specs.declared.refusals.Refusal.TheVariants.{NoProcess}
 use Rattle.scenario.specs.{Line, Script}
@@ -11,8 +11,7 @@ use Rattle.course.specs.run_lines.{marked_text, refused_text, shown_text, tired_
 use Rattle.course.proofs.Grows.{Grows, line_grows}
 use Rattle.picture.specs.{Accesses, Item, Judges, Reads, Tells, sayings, seen_verdict, verdict_titles}
 use Rattle.picture.specs.columns.{given_access, marks_in, marks_said}
-use Rattle.picture.specs.declared.reads.Reads.{Reads as Mode}
-use Rattle.draw.specs.{Gives, GivesAccess, GivesLine, GivesRead, GivesVerdict, Part, ended_lines, entries_among, first_line, given, given_at_end, given_by, given_from, given_last, given_of, lines_told, marks_given, part_of_event, parts_at, parts_of, parts_texts, reads_since, run_given, says_end, says_of, texts_given}
+use Rattle.draw.specs.{Gives, GivesAccess, GivesLine, GivesRead, GivesVerdict, Part, AccessView, ended_lines, entries_among, first_line, given, given_at_end, given_by, given_from, given_last, given_of, lines_told, marks_given, part_of_event, parts_at, parts_of, parts_texts, reads_since, run_given, says_end, says_of, texts_given}
 use Rattle.draw.proofs.Giving.{marks_append, marks_of_items, marks_of_lines, text_of_saying, texts_append, texts_of_lines}
 use Rattle.draw.proofs.PartsRead.{marks_at, of_last, of_more, of_none, parts_marks, texts_at}
 
@@ -39,21 +38,21 @@ parts_more s (this ∷ more) before =
     let here : List Part = parts_at s (past_after s (more ++ before)) this in (here ++ rest.0, ap (λ l. here ++ l) rest.1 ∙ sym (append_assoc here rest.0 (parts_of s before)))
 
 -- What is read of what lines of a scenario give.
-module _ {A : Type 0} (of : List Gives → List A) (none : of [] ≡ []) (both : (gives more : List Gives) → of (gives ++ more) ≡ of gives ++ of more) (mode : Mode) (s : Setup) (so_far : List Part → List A)
-    (at : (n : ℕ) (before : List Part) (part : Part) → so_far (part ∷ before) ≡ so_far before ++ of (given_of mode s n before part)) where
-  of_line : (n : ℕ) (before after : List Happening) → Grows before after → so_far (parts_of s after) ≡ so_far (parts_of s before) ++ of (given_from mode s n (parts_of s before) (parts_of s after))
+module _ {A : Type 0} (of : List Gives → List A) (none : of [] ≡ []) (both : (gives more : List Gives) → of (gives ++ more) ≡ of gives ++ of more) (view : AccessView) (s : Setup) (so_far : List Part → List A)
+    (at : (n : ℕ) (before : List Part) (part : Part) → so_far (part ∷ before) ≡ so_far before ++ of (given_of view s n before part)) where
+  of_line : (n : ℕ) (before after : List Happening) → Grows before after → so_far (parts_of s after) ≡ so_far (parts_of s before) ++ of (given_from view s n (parts_of s before) (parts_of s after))
   of_line n before after grows =
       let more = parts_more s grows.more before in
       let is : parts_of s after ≡ more.0 ++ parts_of s before = ap (parts_of s) grows.is ∙ more.1 in
       let all : length (parts_of s after) ≡ length more.0 + length (parts_of s before) = ap length is ∙ length-append more.0 (parts_of s before) in
       let many : length more.0 ≡ length (parts_of s after) - length (parts_of s before) = omega (arith, all) in
-      ap so_far is ∙ of_last of none both mode s so_far at n more.0 (parts_of s before) ∙ (λ i. so_far (parts_of s before) ++ of (given_last mode s n (many i) (sym is i)))
+      ap so_far is ∙ of_last of none both view s so_far at n more.0 (parts_of s before) ∙ (λ i. so_far (parts_of s before) ++ of (given_last view s n (many i) (sym is i)))
 
-  pub of_lines : (n : ℕ) (lines : List Line) (run : Run) → so_far (parts_of s (runs s lines run).happened) ≡ so_far (parts_of s run.happened) ++ of (given_by mode s n lines run)
-  of_lines n [] run = of_none of none both mode s so_far at (so_far (parts_of s run.happened))
+  pub of_lines : (n : ℕ) (lines : List Line) (run : Run) → so_far (parts_of s (runs s lines run).happened) ≡ so_far (parts_of s run.happened) ++ of (given_by view s n lines run)
+  of_lines n [] run = of_none of none both view s so_far at (so_far (parts_of s run.happened))
   of_lines n (line ∷ lines) run =
       let after : Run = run_after s line run in
-      of_more of none both mode s so_far at (so_far (parts_of s run.happened)) (so_far (parts_of s after.happened)) (so_far (parts_of s (runs s lines after).happened)) (given_from mode s n (parts_of s run.happened) (parts_of s after.happened)) (given_by mode s (suc n) lines after)
+      of_more of none both view s so_far at (so_far (parts_of s run.happened)) (so_far (parts_of s after.happened)) (so_far (parts_of s (runs s lines after).happened)) (given_from view s n (parts_of s run.happened) (parts_of s after.happened)) (given_by view s (suc n) lines after)
       (of_line n run.happened after.happened (line_grows s line run)) (of_lines (suc n) lines after)
 
 -- The lines.
@@ -93,14 +92,14 @@ text_so_far s [] = refl
 text_so_far s (this ∷ before) = text_more (parts_of s before) (past_after s before) (entries_of_run s before) s this ∙ ap (λ l. l ++ text_at s (past_after s before) this) (text_so_far s before)
 
 -- of a whole run
-pub text_of_run : (mode : Mode) (said : Script) → ended_lines (texts_given (run_given mode said)) ≡ replayed said
-text_of_run mode said =
+pub text_of_run : (view : AccessView) (said : Script) → ended_lines (texts_given (run_given view said)) ≡ replayed said
+text_of_run view said =
     let s : Setup = said.setup in
     let all : List Happening = happenings said in
-    let front : List Gives = given_by mode s (first_line s) said.lines run_at_start in
-    ap ended_lines (texts_append front (given_at_end mode s (first_line s + length said.lines) all)) ∙ ended_append (texts_given front) (texts_given (given_at_end mode s (first_line s + length said.lines) all))
-    ∙ (λ i. (ap ended_lines (sym (of_lines texts_given refl texts_append mode s parts_texts (texts_at mode s) (first_line s) said.lines run_at_start)) ∙ text_so_far s all) i
-    ++ (ap ended_lines (texts_of_lines mode (first_line s + length said.lines) (length (past_after s all)) (reads_since s (parts_of s all)) (says_end (summary_of s all) ∷ [])) ∙ append-nil (end_line (summary_of s all))) i)
+    let front : List Gives = given_by view s (first_line s) said.lines run_at_start in
+    ap ended_lines (texts_append front (given_at_end view s (first_line s + length said.lines) all)) ∙ ended_append (texts_given front) (texts_given (given_at_end view s (first_line s + length said.lines) all))
+    ∙ (λ i. (ap ended_lines (sym (of_lines texts_given refl texts_append view s parts_texts (texts_at view s) (first_line s) said.lines run_at_start)) ∙ text_so_far s all) i
+    ++ (ap ended_lines (texts_of_lines view.reads (first_line s + length said.lines) (length (past_after s all)) (reads_since s (parts_of s all)) (says_end (summary_of s all) ∷ [])) ∙ append-nil (end_line (summary_of s all))) i)
 
 -- the lines among items
 texts_of_items : (items : List Item) → lines_told items ≡ texts_given (given items)
@@ -112,8 +111,8 @@ texts_of_items (Judges verdict ∷ before) =
     (λ i. texts_of_items before i ++ sym (append-nil (verdict_titles (seen_verdict verdict))) i) ∙ sym (texts_append (given before) (GivesVerdict (seen_verdict verdict) ∷ []))
 texts_of_items (Accesses access ∷ before) = texts_of_items before ∙ sym (append-nil (texts_given (given before))) ∙ sym (texts_append (given before) (GivesAccess (given_access access) ∷ []))
 
-pub lines_of_run : (mode : Mode) (said : Script) (items : List Item) → given items ≡ run_given mode said → ended_lines (lines_told items) ≡ replayed said
-lines_of_run mode said items are = ap ended_lines (texts_of_items items ∙ ap texts_given are) ∙ text_of_run mode said
+pub lines_of_run : (view : AccessView) (said : Script) (items : List Item) → given items ≡ run_given view said → ended_lines (lines_told items) ≡ replayed said
+lines_of_run view said items are = ap ended_lines (texts_of_items items ∙ ap texts_given are) ∙ text_of_run view said
 
 -- The marks.
 
@@ -129,11 +128,11 @@ marks_so_far s (Lacks p ∷ before) = append-nil (parts_marks (parts_of s before
 marks_so_far s (Tires p ∷ before) = append-nil (parts_marks (parts_of s before)) ∙ marks_so_far s before
 marks_so_far s (Looks ∷ before) = append-nil (parts_marks (parts_of s before)) ∙ marks_so_far s before
 
-pub marks_of_run : (mode : Mode) (said : Script) (items : List Item) → given items ≡ run_given mode said → flat_map marks_said (sayings items) ≡ marks_in (past_after said.setup (happenings said))
-marks_of_run mode said items are =
+pub marks_of_run : (view : AccessView) (said : Script) (items : List Item) → given items ≡ run_given view said → flat_map marks_said (sayings items) ≡ marks_in (past_after said.setup (happenings said))
+marks_of_run view said items are =
     let s : Setup = said.setup in
     let all : List Happening = happenings said in
-    let front : List Gives = given_by mode s (first_line s) said.lines run_at_start in
-    sym (marks_of_items items) ∙ ap marks_given are ∙ marks_append front (given_at_end mode s (first_line s + length said.lines) all)
-    ∙ ap (λ l. marks_given front ++ l) (marks_of_lines mode (first_line s + length said.lines) (length (past_after s all)) (reads_since s (parts_of s all)) (says_end (summary_of s all) ∷ [])) ∙ append-nil (marks_given front)
-    ∙ sym (of_lines marks_given refl marks_append mode s parts_marks (marks_at mode s) (first_line s) said.lines run_at_start) ∙ marks_so_far s all
+    let front : List Gives = given_by view s (first_line s) said.lines run_at_start in
+    sym (marks_of_items items) ∙ ap marks_given are ∙ marks_append front (given_at_end view s (first_line s + length said.lines) all)
+    ∙ ap (λ l. marks_given front ++ l) (marks_of_lines view.reads (first_line s + length said.lines) (length (past_after s all)) (reads_since s (parts_of s all)) (says_end (summary_of s all) ∷ [])) ∙ append-nil (marks_given front)
+    ∙ sym (of_lines marks_given refl marks_append view s parts_marks (marks_at view s) (first_line s) said.lines run_at_start) ∙ marks_so_far s all

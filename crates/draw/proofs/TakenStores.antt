@@ -4,7 +4,7 @@ use Rattle.std.proofs.lemmas.Bool.{cases_lt}
 use Rattle.std.proofs.lemmas.Bool.Decides.{nat_tests}
 use Rattle.std.proofs.lemmas.List.{get_or-set_same, get_or-set_other}
 use Rattle.std.proofs.lemmas.Option.{get_or_from_slice_get, slice_get-get_or, slice_get_within}
-use Rattle.plain_store.specs.{Command, Contents, Setup}
+use Rattle.record.specs.plain_store.{Command, Contents, Setup}
 use Rattle.record.specs.{Mark, is_called}
 use Rattle.record.specs.declared.marks.Mark.TheVariants as mark
 use Rattle.picture.specs.columns.{places_marked}

@@ -3,7 +3,7 @@ use Rattle.std.proofs.Common.{◌≡◌, ◌≢◌, ℕ, ◌==◌, Bool, true, f
 use Rattle.std.specs.Prelude.{fold}
 use Rattle.std.specs.List.{list_any}
 use Rattle.std.proofs.lemmas.Grind.{fold-append}
-use Rattle.plain_store.specs.{Setup, changes}
+use Rattle.record.specs.plain_store.{Setup, changes}
 use Rattle.record.specs.{Call, Entry, Event, Mark, Past, Stage, Wait, bits_with, entered_if_none, entry_of, history, is_fresh, is_last, lets_by, marks_of, past_of, placed, reply, stage, stage_after, store_read, value_of, waits_of}
 use Rattle.record.specs.declared.marks.Mark.TheVariants as mark
 use Rattle.record.specs.declared.stages.Stage.TheVariants as stages

@@ -1,6 +1,6 @@
 -- What a turn tells is drawn as the part that happens.
-use Rattle.std.proofs.Common.{◌≡◌, ◌+◌, ℕ, zero, suc, false, refl, List, [], ◌∷◌, ◌++◌, is_some, Option, None, Some, ap, sym, subst, ◌∙◌, arith, add-zero}
-use Rattle.plain_store.specs.{Setup}
+use Rattle.std.proofs.Common.{◌≡◌, ◌+◌, ℕ, zero, suc, false, refl, List, [], ◌∷◌, ◌++◌, Option, None, Some, ap, sym, subst, ◌∙◌, arith, add-zero}
+use Rattle.record.specs.plain_store.{Setup}
 use Rattle.record.specs.{Access, Entry, Event, Past, Refusal, added, process_of, refused}
 use Rattle.record.specs.declared.events.Event.TheVariants.{Step}
 use Rattle.record.proofs.Width.{is_good}
@@ -10,7 +10,7 @@ use Rattle.course.specs.{Happening, Happens, IsQuiet, Lacks, Looks, PassQuietly,
 use Rattle.course.specs.Writing.{Counts}
 use Rattle.course.specs.declared.told.Told.TheVariants as told
 use Rattle.course.proofs.Counting.{counts_heard, counts_passed, counts_stepped}
-use Rattle.draw.specs.{Drawing, DrawsTold, HasDrawn, HasDrawnRun, Kept, Part, PartEntry, PartLine, Recalls, RunDrawing, SaysRefusal, SaysStore, SaysTired, TellsEnd, TellsReads, entries_among, kept, part_of_event, part_told, parts_at, parts_of, tally}
+use Rattle.draw.specs.{Drawing, DrawsPart, DrawsTold, HasDrawn, HasDrawnRun, Kept, Part, PartEntry, PartLine, Recalls, RunDrawing, SaysRefusal, SaysStore, SaysTired, TellsEnd, TellsReads, AccessView, entries_among, kept, observes, part_of_event, part_told, parts_at, parts_of, tally}
 use Rattle.draw.proofs.Drawings.{drawn_more, drawn_none, drawn_quiet, recalls_passed}
 use Rattle.draw.proofs.OverlapsTold.{made_tells, stepped_tells}
 use Rattle.draw.proofs.RunTold.{entries_of_run}
@@ -44,53 +44,54 @@ tells_reads mode s before this answer h = subst (λ (past : Past). TellsReads mo
     by this (told.Shown store) tells = tt
 
 -- From here on.
-pub run_none : (mode : Mode) (s : Setup) (now : List Happening) (run : RunDrawing) (taken : Option (List ℕ)) → Counts s now (tally run) → Recalls mode s (parts_of s now) run.drawing →
-    HasDrawnRun mode s (parts_of s now) (kept run.drawing.canvas) taken now run taken
-run_none mode s now run taken counts recalls = record { counts = counts; drawn = drawn_none mode s (parts_of s now) run.drawing taken recalls }
+pub run_none : (view : AccessView) (s : Setup) (now : List Happening) (run : RunDrawing) (taken : Option (List ℕ)) → Counts s now (tally run) → Recalls view s (parts_of s now) run.drawing →
+    HasDrawnRun view s (parts_of s now) (kept run.drawing.canvas) taken now run taken
+run_none view s now run taken counts recalls = record { counts = counts; drawn = drawn_none view s (parts_of s now) run.drawing taken recalls }
 
-module _ (mode : Mode) (s : Setup) (start : List Part) (had : Kept) (old : Option (List ℕ)) where
+module _ (view : AccessView) (s : Setup) (start : List Part) (had : Kept) (old : Option (List ℕ)) where
   -- what a turn tells
   pub told_drawn : (before : List Happening) (this : Happening) (answer : Told) (run run' : RunDrawing) (mid new : Option (List ℕ)) → Happens s before this answer → DrawsTold run run' answer mid new →
-      tally run' ≡ counted answer (tally run) → run'.drawing.source ≡ run.drawing.source → HasDrawnRun mode s start had old before run mid → HasDrawnRun mode s start had old (this ∷ before) run' new
+      tally run' ≡ counted answer (tally run) → run'.drawing.source ≡ run.drawing.source → HasDrawnRun view s start had old before run mid → HasDrawnRun view s start had old (this ∷ before) run' new
   told_drawn before this answer run run' mid new h drew count source d = record {
     counts = counts_heard s before this answer (tally run) (tally run') h count d.counts;
-    drawn = subst (λ (parts : List Part). HasDrawn mode s start had old parts run'.drawing new) (sym (part_is s before this answer h))
-        (drawn_more mode s start had old (parts_of s before) (part_told answer) run.drawing run'.drawing mid new (drew mode s (parts_of s before) (tells_reads mode s before this answer h) d.drawn.recalls) source d.drawn);
+    drawn = subst (λ (parts : List Part). HasDrawn view s start had old parts run'.drawing new) (sym (part_is s before this answer h))
+        (drawn_more view s start had old (parts_of s before) (part_told answer) run.drawing run'.drawing mid new (drew view s (parts_of s before) (tells_reads view.reads s before this answer h) d.drawn.recalls) source d.drawn);
   }
 
   -- a Step without a mark, with its access
-  pub step_drawn : (before : List Happening) (made : Stepped) (run : RunDrawing) (d' : Drawing) (new : Option (List ℕ)) → StepsOn s before made → kept d'.canvas ≡ kept run.drawing.canvas → d'.source ≡ run.drawing.source → d'.entries ≡ run.drawing.entries + 1 →
-      ((mode : Mode) (s : Setup) (parts : List Part) (p : ℕ) → TellsEnd mode s (entries_among parts) (Some made.access) made.overlapped → Recalls mode s parts run.drawing → Recalls mode s (PartEntry (entry_by p (Some made.access) []) ∷ parts) d') →
-      HasDrawnRun mode s start had old before run new → HasDrawnRun mode s start had old (Tries (Step made.process made.flick) ∷ before) (record run { drawing = d' }) new
-  step_drawn before made run d' new on same source entries recalls d =
+  pub step_drawn : (before : List Happening) (made : Stepped) (run : RunDrawing) (d' : Drawing) (mid new : Option (List ℕ)) → StepsOn s before made → d'.source ≡ run.drawing.source → d'.entries ≡ run.drawing.entries + 1 →
+      ((view : AccessView) (s : Setup) (parts : List Part) → TellsEnd view.reads s (entries_among parts) (Some made.access) made.overlapped → Recalls view s parts run.drawing →
+      DrawsPart view s parts (PartEntry (entry_by made.process (Some made.access) [])) run.drawing d' mid new) →
+      HasDrawnRun view s start had old before run mid → HasDrawnRun view s start had old (Tries (Step made.process made.flick) ∷ before) (record run { drawing = d' }) new
+  step_drawn before made run d' mid new on source entries drew d =
       let event : Event = Step made.process made.flick in
       let past : Past = past_after s before in
       let parts : List Part = parts_of s before in
-      let tells = subst (λ (past : Past). TellsEnd mode s past (Some made.access) made.overlapped) (sym (entries_of_run s before)) (stepped_tells mode s before made on) in
+      let tells = subst (λ (past : Past). TellsEnd view.reads s past (Some made.access) made.overlapped) (sym (entries_of_run s before)) (stepped_tells view.reads s before made on) in
       record {
         counts = subst (λ (n : ℕ). Counts s (Tries event ∷ before) (record { events = n; taken = 0; refused = run.refused })) (sym entries) (counts_stepped s before made (tally run) on d.counts);
-        drawn = subst (λ (l : List Part). HasDrawn mode s start had old l d' new) (sym (ap (λ (o : Option Entry). part_of_event (process_of event) (refused s past event) o ++ parts) on.adds))
-            (drawn_quiet mode s start had old parts made.process (Some made.access) run.drawing d' new same source (recalls mode s parts made.process tells d.drawn.recalls) d.drawn);
+        drawn = subst (λ (l : List Part). HasDrawn view s start had old l d' new) (sym (ap (λ (o : Option Entry). part_of_event (process_of event) (refused s past event) o ++ parts) on.adds))
+            (drawn_more view s start had old parts (PartEntry (entry_by made.process (Some made.access) [])) run.drawing d' mid new (drew view s parts tells d.drawn.recalls) source d.drawn);
       }
 
-  -- events without a mark, where no reads are shown
+  -- events without a mark, where no access is observed
   quiet_part : (before : List Happening) (this : Happening) → IsQuiet s (past_after s before) (Some this) → (p : ℕ) × (access : Option Access) × (parts_of s (this ∷ before) ≡ PartEntry (entry_by p access []) ∷ parts_of s before)
   quiet_part before (Tries event) adds = (process_of event, adds.0, ap (λ (o : Option Entry). part_of_event (process_of event) (refused s (past_after s before) event) o ++ parts_of s before) adds.1)
   quiet_part before this adds = absurd adds
 
-  passed_drawn : (n : ℕ) (before after : List Happening) (d : Drawing) (new : Option (List ℕ)) → is_some d.canvas.overlaps ≡ false → PassQuietly s n before after →
-      HasDrawn mode s start had old (parts_of s before) d new → HasDrawn mode s start had old (parts_of s after) (record d { entries = d.entries + n }) new
+  passed_drawn : (n : ℕ) (before after : List Happening) (d : Drawing) (new : Option (List ℕ)) → observes d ≡ false → PassQuietly s n before after →
+      HasDrawn view s start had old (parts_of s before) d new → HasDrawn view s start had old (parts_of s after) (record d { entries = d.entries + n }) new
   passed_drawn zero before after d new none same h =
-      subst (λ (n : ℕ). HasDrawn mode s start had old (parts_of s after) (record d { entries = n }) new) (sym (add-zero d.entries)) (subst (λ (l : List Happening). HasDrawn mode s start had old (parts_of s l) d new) (sym same) h)
+      subst (λ (n : ℕ). HasDrawn view s start had old (parts_of s after) (record d { entries = n }) new) (sym (add-zero d.entries)) (subst (λ (l : List Happening). HasDrawn view s start had old (parts_of s l) d new) (sym same) h)
   passed_drawn (suc n) before after d new none (this, quiet, more) h =
       let one = quiet_part before this quiet in
       let next : Drawing = record d { entries = d.entries + 1 } in
       let sum : d.entries + 1 + n ≡ d.entries + suc n = omega arith in
-      subst (λ (k : ℕ). HasDrawn mode s start had old (parts_of s after) (record d { entries = k }) new) sum
-      (passed_drawn n (this ∷ before) after next new none more (subst (λ (l : List Part). HasDrawn mode s start had old l next new) (sym one.2)
-      (drawn_quiet mode s start had old (parts_of s before) one.0 one.1 d next new refl refl (recalls_passed mode s (parts_of s before) one.0 one.1 d none h.recalls) h)))
+      subst (λ (k : ℕ). HasDrawn view s start had old (parts_of s after) (record d { entries = k }) new) sum
+      (passed_drawn n (this ∷ before) after next new none more (subst (λ (l : List Part). HasDrawn view s start had old l next new) (sym one.2)
+      (drawn_quiet view s start had old (parts_of s before) one.0 one.1 d next new none refl refl (recalls_passed view s (parts_of s before) one.0 one.1 d none h.recalls) h)))
 
-  pub run_passed : (n : ℕ) (before after : List Happening) (run : RunDrawing) (d' : Drawing) (new : Option (List ℕ)) → is_some run.drawing.canvas.overlaps ≡ false → PassQuietly s n before after → (let d : Drawing = record run.drawing { entries = run.drawing.entries + n } in d' ≡ d) →
-      HasDrawnRun mode s start had old before run new → HasDrawnRun mode s start had old after (record run { drawing = d' }) new
-  run_passed n before after run d' new none passes is h = subst (λ (d : Drawing). HasDrawnRun mode s start had old after (record run { drawing = d }) new) (sym is)
+  pub run_passed : (n : ℕ) (before after : List Happening) (run : RunDrawing) (d' : Drawing) (new : Option (List ℕ)) → observes run.drawing ≡ false → PassQuietly s n before after → (let d : Drawing = record run.drawing { entries = run.drawing.entries + n } in d' ≡ d) →
+      HasDrawnRun view s start had old before run new → HasDrawnRun view s start had old after (record run { drawing = d' }) new
+  run_passed n before after run d' new none passes is h = subst (λ (d : Drawing). HasDrawnRun view s start had old after (record run { drawing = d }) new) (sym is)
       (record { counts = counts_passed s n before after (tally run) passes h.counts; drawn = passed_drawn n before after run.drawing new none passes h.drawn })

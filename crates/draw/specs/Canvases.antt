@@ -1,7 +1,7 @@
 -- What was written of a canvas, what is read back of it, and what it keeps.
 use Rattle.std.specs.Prelude.{◌≡◌, ℕ, true, List, [], ◌++◌, Option}
 use Rattle.std.specs.Io.KnownBytes.{Appends}
-use Rattle.plain_store.specs.{Setup, opening_store}
+use Rattle.record.specs.plain_store.{Setup, opening_store}
 use Rattle.record.specs.{Mark, Past}
 use Rattle.picture.specs.{Form, Item, Plan, SeenPage, bands_told, full_told, heights_told, held, judged_with, page_of, seen_page}
 use Rattle.picture.specs.columns.{OverlappedRead}

@@ -1,6 +1,6 @@
 -- The chain of the history: what the lines of a run tell of the commands taken.
 use Rattle.std.specs.Prelude.{◌≡◌, ℕ, suc, List, [], ◌∷◌, flat_map, Ok}
-use Rattle.plain_store.specs.{Reply, Setup, checked}
+use Rattle.record.specs.plain_store.{Reply, Setup, checked}
 use Rattle.record.specs.{Event, Mark, Taken, history, past_of}
 use Rattle.record.specs.declared.marks.Mark.TheVariants as mark
 use Rattle.picture.specs.columns.{Saying, marks_in, marks_said}

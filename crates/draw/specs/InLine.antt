@@ -1,6 +1,6 @@
 -- Who gets inside is first in the line, by what lines tell.
 use Rattle.std.specs.Prelude.{◌≡◌, ◌⊎◌, ◌<◌, ℕ, List, ◌∷◌, flat_map, fold, Contains, IsTrue, Ok, Some}
-use Rattle.plain_store.specs.{Setup, checked}
+use Rattle.record.specs.plain_store.{Setup, checked}
 use Rattle.record.specs.{Entry, Event, Stage, entry_of, has, is_entered, past_of}
 use Rattle.record.specs.declared.stages.Stage.TheVariants.{Inside, Leaving, Settling}
 use Rattle.picture.specs.{Item, sayings, state_after}

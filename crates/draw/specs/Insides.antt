@@ -1,6 +1,6 @@
 -- Who is inside, by what lines tell.
 use Rattle.std.specs.Prelude.{◌≡◌, ◌<◌, ℕ, List, flat_map, Ok}
-use Rattle.plain_store.specs.{Setup, checked}
+use Rattle.record.specs.plain_store.{Setup, checked}
 use Rattle.record.specs.{Event, past_of}
 use Rattle.record.specs.declared.stages.Stage.TheVariants.{Inside}
 use Rattle.picture.specs.columns.{Saying, marks_in, marks_said, stage_among, stages_after}

@@ -1,6 +1,6 @@
 -- What a picture is told, item by item, as values: its lines, the reads that writes overlapped, and accesses.
-use Rattle.std.specs.Prelude.{ℕ, zero, suc, List, [], ◌∷◌, ◌++◌, flat_map, length, map, string_bytes, Option, option_map}
-use Rattle.plain_store.specs.{Setup}
+use Rattle.std.specs.Prelude.{ℕ, zero, suc, List, [], ◌∷◌, ◌++◌, flat_map, length, map, string_bytes, Option, None, Some, option_map}
+use Rattle.record.specs.plain_store.{Setup}
 use Rattle.record.specs.{Entry, Mark, Past, Refusal}
 use Rattle.picture.specs.{Accesses, Item, Judges, Reads, SeenVerdict, Tells, seen_verdict, verdict_titles}
 use Rattle.picture.specs.columns.{GivenAccess, OverlappedRead, Saying, given_access, like, lock_ended_text, lock_marked_text}
@@ -12,6 +12,9 @@ use Rattle.picture.specs.declared.reads.Reads.{Reads as Mode}
 use Rattle.draw.specs.Overlaps.{overlapped_by, shown_of}
 use Rattle.draw.specs.StoreChanges.{Changed, changed}
 use Rattle.draw.specs.TakenStores.{change_of}
+use Rattle.draw.specs.declared.views.AccessView.{AccessView}
+use Rattle.record_accesses.specs.{WaveLimit, shown_access}
+use Rattle.picture.specs.declared.reads.Reads.TheVariants as modes
 
 -- what a line says
 pub data Says : Type 0 where
@@ -98,6 +101,18 @@ end_given mode source at reads [] last = lines_given mode source at reads (last 
 end_given mode source at reads (byte ∷ told) last =
     map GivesRead (shown_of mode reads) ++ GivesVerdict (verdict_of source (report_lines (byte ∷ told)) (says_text at last)) ∷ []
 
+-- Accesses.
+
+-- the item of what is shown of an access, if something is shown
+abbrev pub gives_access : Option GivenAccess → List Gives
+gives_access None = []
+gives_access (Some access) = GivesAccess access ∷ []
+
+-- the item of the access of an entry that comes after a past, if all accesses are shown
+abbrev pub given_access_of : Mode → WaveLimit → Setup → Past → Entry → List Gives
+given_access_of modes.All limit s past e = gives_access (shown_access s limit past e)
+given_access_of _ limit s past e = []
+
 -- Entries, be they of a run or of a record.
 
 -- the marks after those of an entry of a process
@@ -134,21 +149,22 @@ reads_since s [] = []
 reads_since s (PartEntry e ∷ before) = waiting e.marks (reads_since s before ++ overlapped_by s (entries_among before) e)
 reads_since s (PartLine says ∷ before) = []
 
--- the items that a part gives, which comes after other parts and is made by the line `source` of the list
-abbrev pub given_of : Mode → Setup → ℕ → List Part → Part → List Gives
-given_of mode s source before (PartEntry e) =
-    lines_given mode source (length (entries_among before)) (reads_since s before ++ overlapped_by s (entries_among before) e) (says_marks s e.process (marks_back (entries_among before)) e.marks)
-given_of mode s source before (PartLine says) = lines_given mode source (length (entries_among before)) (reads_since s before) (says ∷ [])
+-- The items that a part gives, which comes after other parts and is made by the line `source` of the list. Those of an entry are its access, if all accesses are shown, and the lines of its marks, which join the column of the access.
+abbrev pub given_of : AccessView → Setup → ℕ → List Part → Part → List Gives
+given_of view s source before (PartEntry e) =
+    given_access_of view.reads view.limit s (entries_among before) e
+    ++ lines_given view.reads source (length (entries_among before)) (reads_since s before ++ overlapped_by s (entries_among before) e) (says_marks s e.process (marks_back (entries_among before)) e.marks)
+given_of view s source before (PartLine says) = lines_given view.reads source (length (entries_among before)) (reads_since s before) (says ∷ [])
 
 -- the items that the last `count` of these parts give
-abbrev pub given_last : Mode → Setup → ℕ → ℕ → List Part → List Gives
-given_last mode s source zero parts = []
-given_last mode s source (suc count) [] = []
-given_last mode s source (suc count) (part ∷ before) = given_last mode s source count before ++ given_of mode s source before part
+abbrev pub given_last : AccessView → Setup → ℕ → ℕ → List Part → List Gives
+given_last view s source zero parts = []
+given_last view s source (suc count) [] = []
+given_last view s source (suc count) (part ∷ before) = given_last view s source count before ++ given_of view s source before part
 
 -- the items that all of them give
-abbrev pub given_all : Mode → Setup → ℕ → List Part → List Gives
-given_all mode s source parts = given_last mode s source (length parts) parts
+abbrev pub given_all : AccessView → Setup → ℕ → List Part → List Gives
+given_all view s source parts = given_last view s source (length parts) parts
 
 -- the lines of a part that comes after `at` entries, without their ends
 abbrev pub part_texts : ℕ → Part → List (List ℕ)

@@ -5,6 +5,7 @@ pub mod Items
 pub mod Overlaps
 pub mod StoreChanges
 pub mod TakenStores
+pub mod Views
 pub mod Writing
 pub mod Chains
 pub mod Changes
@@ -20,10 +21,11 @@ pub mod Judgings
 pub mod Sheets
 pub use Around.{IsAround}
 pub use Canvases.{Draws, DrawsBands, DrawsLast, DrawsLines, DrawsMarks, DrawsOn, DrawsRest, DrawsUpToVerdict, Fills, Kept, Writes, kept, kept_at_first, plan_of, trace_plan}
-pub use Items.{Gives, GivesAccess, GivesLine, GivesRead, GivesVerdict, Part, PartEntry, PartLine, Says, SaysEnd, SaysLockEnd, SaysLockMark, SaysMark, SaysRefusal, SaysStore, SaysTired, end_given, entries_among, given, given_all, given_last, given_of, lines_given, mark_given, marks_after, marks_back, marks_given, marks_says, part_texts, parts_texts, reads_since, says_marks, says_of, says_text, text_given, texts_given, waiting}
+pub use Items.{Gives, GivesAccess, GivesLine, GivesRead, GivesVerdict, Part, PartEntry, PartLine, Says, SaysEnd, SaysLockEnd, SaysLockMark, SaysMark, SaysRefusal, SaysStore, SaysTired, end_given, entries_among, given, given_access_of, given_all, given_last, given_of, gives_access, lines_given, mark_given, marks_after, marks_back, marks_given, marks_says, part_texts, parts_texts, reads_since, says_marks, says_of, says_text, text_given, texts_given, waiting}
 pub use Overlaps.{Hears, Overhears, TellsEnd, TellsOver, Watches, begun_with, ended_of, first_three, is_begin, is_there, overlapped_by, overlapped_with, read_begun, read_ended, shown_of}
 pub use StoreChanges.{Changed, change_by, changed, store_words, words_by}
 pub use TakenStores.{IsAfterMarks, after_call, call_after, called_by, change_by_call, change_of, change_with, next_number, no_call, store_by, store_with, taken_by}
+pub use Views.{IsDecided, full_view, most_stored, record_view, short_view, waves_asked}
 pub use Writing.{IsWriteFault, failed_write}
 pub use declared.canvas.Canvas.{Canvas}
 pub use declared.taken_store.LastCall.{LastCall}
@@ -32,7 +34,7 @@ pub use declared.overlaps.BegunRead.{BegunRead}
 pub use declared.overlaps.OverlapsHeard.{OverlapsHeard}
 pub use Chains.{ChainIsTheHistory, Knot, knot_of, knots, numbered}
 pub use Changes.{LinesSayTheHistory, StoreIsTheHistorys, after_taken, change_at, change_in, change_taken, says_mark}
-pub use Drawings.{DrawsPart, HasDrawn, Recalls}
+pub use Drawings.{DrawsPart, HasDrawn, Recalls, WatchesAccesses, observes}
 pub use declared.drawing.Drawing.{Drawing}
 pub use RunDrawings.{Advances, DrawsAll, DrawsFramed, DrawsLine, DrawsTold, DrewRun, HasDrawnRun, IsRunPicture, TellsReads, part_told, tally}
 pub use InLine.{IsFirstInLine, WaitsNoMore, WhoEntersIsFirst, WhoIsInsideIsDrawnFirst, WhoIsInsideIsFirst, state_of_lines}
@@ -40,11 +42,13 @@ pub use Insides.{OneIsInside}
 pub use RunItems.{first_line, given_at_end, given_by, given_from, part_of_event, parts_at, parts_of, run_given, says_end}
 pub use Pictures.{ended_lines, lines_told}
 pub use declared.runs.drawing.RunDrawing.{RunDrawing}
-pub use RecordDrawings.{RecordRecalls}
+pub use RecordDrawings.{DrawsEntry, RecordRecalls}
 pub use RecordItems.{entry_parts, record_end, record_gives, record_lines, source_of}
 pub use Judges.{DrewJudgedBy}
 pub use Judgings.{HasRead, HasStopped, IsShown, SaysAll, TellsOfLines}
-pub use Sheets.{All, DrawsAllBands, DrawsAt, DrawsBandsOf, DrawsPast, DrawsRecord, DrawsSaid, DrewRecord, DrewAs, EndsAt, GoesOn, Heads, IsDrawFault, IsDrawn, IsJudged, IsRecordPicture, LeavesNone, LineStops, Stands, UpTo, entries_of, listed, picture_of, without_write}
+pub use Sheets.{All, AreDrawn, AreReadBy, AreShownBy, AreStored, DrawsAllBands, DrawsAsked, DrawsAt, DrawsBandsOf, DrawsPast, DrawsRecord, DrawsSaid, DrewRecord, DrewAs, EndsAsked, EndsAt, GoesOn, Heads, IsDrawFault, IsDrawn, IsJudged, IsRecordPicture, LeavesNone, LineStops, Stands, UpTo, count_by, entries_of, listed, picture_of, without_write}
 pub use declared.records.sheet.DrawnEntry.{DrawnEntry}
 pub use declared.records.drawing.RecordDrawing.{RecordDrawing}
 pub use declared.records.sheet.Sheet.{Sheet}
+pub use declared.records.stored.RecordEntries.{RecordEntries}
+pub use declared.views.AccessView.{AccessView}

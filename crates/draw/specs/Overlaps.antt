@@ -3,7 +3,7 @@ use Rattle.std.specs.Prelude.{◌≡◌, ◌<◌, ℕ, ◌==◌, Bool, true, fal
 use Rattle.record.specs.safe_bit.{Move}
 use Rattle.record.specs.safe_bit.declared.Move.TheVariants.{BeginRead, EndRead}
 use Rattle.record.specs.{Access, Entry, Past, begins_read, moves_of, same_bit, width}
-use Rattle.plain_store.specs.{Setup, checked}
+use Rattle.record.specs.plain_store.{Setup, checked}
 use Rattle.judge.specs.read_law.{HasHeard, WatchState, ends_overlapped}
 use Rattle.judge.specs.read_law.laws.{IsThere}
 use Rattle.picture.specs.{held_in_64}

@@ -1,6 +1,6 @@
 -- What a run's picture is told, and what is written of it.
 use Rattle.std.specs.Prelude.{ℕ, List, [], ◌∷◌, ◌++◌, flat_map}
-use Rattle.plain_store.specs.{opening_store}
+use Rattle.record.specs.plain_store.{opening_store}
 use Rattle.scenario.specs.{Script}
 use Rattle.picture.specs.{Accesses, Form, Item, Judges, Reads, Tells, bands_told, page_back, page_front, picture_back, picture_front, seen_verdict, verdict_titles}
 use Rattle.picture.specs.columns.run_lines.{with_end}

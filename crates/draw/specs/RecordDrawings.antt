@@ -1,13 +1,20 @@
 -- What a drawing of a record has drawn.
-use Rattle.std.specs.Prelude.{List}
-use Rattle.plain_store.specs.{Setup}
-use Rattle.picture.specs.declared.reads.Reads.{Reads as Mode}
-use Rattle.draw.specs.Drawings.{Recalls}
-use Rattle.draw.specs.Items.{Part, entries_among}
+use Rattle.std.specs.Prelude.{ℕ, List, ◌∷◌, Option}
+use Rattle.record.specs.plain_store.{Setup}
+use Rattle.record.specs.{Entry}
+use Rattle.draw.specs.Drawings.{DrawsPart, Recalls}
+use Rattle.draw.specs.Items.{Part, PartEntry, entries_among}
 use Rattle.draw.specs.Overlaps.{Watches}
 use Rattle.draw.specs.declared.records.drawing.RecordDrawing.{RecordDrawing}
+use Rattle.draw.specs.declared.views.AccessView.{AccessView}
 
 -- The drawing of a record and its watch come after these parts.
-pub record RecordRecalls (mode : Mode) (s : Setup) (parts : List Part) (d : RecordDrawing) : Type 0 where
-  pub drawing : Recalls mode s parts d.drawing
-  pub watches : Watches mode s (entries_among parts) d.watch.watch
+pub record RecordRecalls (view : AccessView) (s : Setup) (parts : List Part) (d : RecordDrawing) : Type 0 where
+  pub drawing : Recalls view s parts d.drawing
+  pub watches : Watches view.reads s (entries_among parts) d.watch.watch
+
+-- One entry more was drawn, whatever parts came before it.
+abbrev pub DrawsEntry : (had has : RecordDrawing) (old new : Option (List ℕ)) → Entry → Type 0
+DrawsEntry had has old new e =
+    (view : AccessView) (s : Setup) (parts : List Part) → RecordRecalls view s parts had →
+    DrawsPart view s parts (PartEntry e) had.drawing has.drawing old new × Watches view.reads s (e ∷ entries_among parts) has.watch.watch

@@ -1,30 +1,30 @@
--- The items of a record's picture: a line for each mark of its entries, the reads that writes overlapped, a judge's lines, and a last line.
+-- The items of a record's picture: the accesses of its entries or the reads that writes overlapped, as far as they are shown, a line for each mark of its entries, a judge's lines, and a last line.
 use Rattle.std.specs.Prelude.{ℕ, ◌+◌, List, [], ◌∷◌, ◌++◌, length, map, reverse}
-use Rattle.plain_store.specs.{Setup}
+use Rattle.record.specs.plain_store.{Setup}
 use Rattle.record.specs.{Past}
 use Rattle.judge.specs.record_file.{Said, head_words}
 use Rattle.picture.specs.columns.run_lines.{ended_text}
 use Rattle.picture.specs.shown_verdict.{judged_text, report_lines}
-use Rattle.picture.specs.declared.reads.Reads.{Reads as Mode}
 use Rattle.draw.specs.Items.{Gives, Part, PartEntry, SaysEnd, end_given, given_all, marks_back, parts_texts, reads_since}
 use Rattle.draw.specs.TakenStores.{taken_by}
+use Rattle.draw.specs.declared.views.AccessView.{AccessView}
 
 -- the parts of a record
 abbrev pub entry_parts : Past → List Part
 entry_parts = map PartEntry
 
--- the end: the last line, or the verdict with it
-abbrev pub record_end : Mode → Setup → ℕ → Past → List ℕ → List Gives
-record_end mode s source past told =
-    end_given mode (source + 1) (length past) (reads_since s (entry_parts past)) told (SaysEnd (length past) (taken_by (marks_back past)) 0)
+-- the last line, and the verdict of a judge, if it tells one
+abbrev pub record_end : AccessView → Setup → ℕ → Past → List ℕ → List Gives
+record_end view s source past told =
+    end_given view.reads (source + 1) (length past) (reads_since s (entry_parts past)) told (SaysEnd (length past) (taken_by (marks_back past)) 0)
 
 -- the line of the page's list that stands for all entries: it is behind the headings and the opening pairs
 abbrev pub source_of : Setup → ℕ
 source_of s = length (head_words s) + 1
 
 -- what a whole record gives, and a judge who tells this of it
-abbrev pub record_gives : Mode → Said → List ℕ → List Gives
-record_gives mode said told = given_all mode said.setup (source_of said.setup) (entry_parts (reverse said.entries)) ++ record_end mode said.setup (source_of said.setup) (reverse said.entries) told
+abbrev pub record_gives : AccessView → Said → List ℕ → List Gives
+record_gives view said told = given_all view said.setup (source_of said.setup) (entry_parts (reverse said.entries)) ++ record_end view said.setup (source_of said.setup) (reverse said.entries) told
 
 -- the lines of a record, without their ends: one for each mark of its entries, in their order, those of a judge, and a last one
 abbrev pub record_lines : Said → List ℕ → List (List ℕ)

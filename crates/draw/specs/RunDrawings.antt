@@ -1,7 +1,7 @@
 -- What was written of a run's picture, and what is read back of it.
 use Rattle.std.specs.Prelude.{◌≡◌, ◌<◌, ℕ, List, [], flat_map, Option, Some, IfSome, Result, Ok, Err}
 use Rattle.std.specs.Io.KnownBytes.{IsAtEnd}
-use Rattle.plain_store.specs.{Setup}
+use Rattle.record.specs.plain_store.{Setup}
 use Rattle.record.specs.{Past}
 use Rattle.scenario.specs.files.Engines.{Ran, Streams}
 use Rattle.scenario.specs.files.{Fault}
@@ -20,16 +20,18 @@ use Rattle.draw.specs.Items.{Part, PartEntry, PartLine, SaysRefusal, SaysStore, 
 use Rattle.draw.specs.Overlaps.{TellsEnd}
 use Rattle.draw.specs.Pictures.{ended_lines, lines_told, picture_of}
 use Rattle.draw.specs.RunItems.{parts_of, run_given}
+use Rattle.draw.specs.Views.{full_view}
 use Rattle.draw.specs.declared.runs.drawing.RunDrawing.{RunDrawing}
+use Rattle.draw.specs.declared.views.AccessView.{AccessView}
 
 -- Markup is the picture of the run of a file, and nothing else: that of items which are what the run gives, one by one. So their lines are the text of the run, in order, and say the marks of its record. The height of one picture is that of such a picture.
 pub record IsRunPicture (reads : Mode) (form : Form) (file : List ℕ) (said : Script) (markup : List ℕ) : Type 0 where
   pub items : List Item
-  pub are : given items ≡ run_given reads said
+  pub are : given items ≡ run_given (full_view reads) said
   pub lines : ended_lines (lines_told items) ≡ replayed said
   pub marks : flat_map marks_said (sayings items) ≡ marks_in (past_after said.setup (happenings said))
   pub first : List Item
-  pub same_items : given first ≡ run_given reads said
+  pub same_items : given first ≡ run_given (full_view reads) said
   pub same_lines : ended_lines (lines_told first) ≡ replayed said
   pub same_marks : flat_map marks_said (sayings first) ≡ marks_in (past_after said.setup (happenings said))
   pub is : markup ≡ picture_of reads form file said (heights_told (plan_of form said.setup) first) items
@@ -48,7 +50,7 @@ pub record DrawsFramed (reads : Mode) (form : Form) (head ending : List ℕ) (sa
   pub drawn : Option (List ℕ)
   pub height : ℕ
   pub first : Writes old begun head
-  pub bands : DrawsBands (plan_of form said.setup) begun drawn (run_given reads said) height
+  pub bands : DrawsBands (plan_of form said.setup) begun drawn (run_given (full_view reads) said) height
   pub last : Writes drawn new ending
 
 -- The numbers that a drawing has counted so far. The commands taken are counted at the end.
@@ -70,29 +72,29 @@ TellsReads mode s past answer = Unit {0}
 -- the part that a turn tells was drawn, whatever parts came before it
 abbrev pub DrawsTold : RunDrawing → RunDrawing → Told → Option (List ℕ) → Option (List ℕ) → Type 0
 DrawsTold had has answer old new =
-    (mode : Mode) (s : Setup) (parts : List Part) → TellsReads mode s (entries_among parts) answer → Recalls mode s parts had.drawing → DrawsPart mode s parts (part_told answer) had.drawing has.drawing old new
+    (view : AccessView) (s : Setup) (parts : List Part) → TellsReads view.reads s (entries_among parts) answer → Recalls view s parts had.drawing → DrawsPart view s parts (part_told answer) had.drawing has.drawing old new
 
 -- All that has happened in a run since `start` was counted and drawn.
-pub record HasDrawnRun (mode : Mode) (s : Setup) (start : List Part) (had : Kept) (old : Option (List ℕ)) (now : List Happening) (run : RunDrawing) (new : Option (List ℕ)) : Type 0 where
+pub record HasDrawnRun (view : AccessView) (s : Setup) (start : List Part) (had : Kept) (old : Option (List ℕ)) (now : List Happening) (run : RunDrawing) (new : Option (List ℕ)) : Type 0 where
   pub counts : Counts s now (tally run)
-  pub drawn : HasDrawn mode s start had old (parts_of s now) run.drawing new
+  pub drawn : HasDrawn view s start had old (parts_of s now) run.drawing new
 
 -- a drawing that came after `before` comes after `after`, wherever it began
 abbrev pub GoesOnDrawing : Setup → List Happening → List Happening → RunDrawing → RunDrawing → Option (List ℕ) → Option (List ℕ) → Type 0
 GoesOnDrawing s before after drawing drawings taken then =
-    (mode : Mode) (start : List Part) (had : Kept) (old : Option (List ℕ)) → HasDrawnRun mode s start had old before drawing taken → HasDrawnRun mode s start had old after drawings then
+    (view : AccessView) (start : List Part) (had : Kept) (old : Option (List ℕ)) → HasDrawnRun view s start had old before drawing taken → HasDrawnRun view s start had old after drawings then
 
 -- from one run to another: the cursor, and what was drawn
-pub record Advances (mode : Mode) (s : Setup) (before after : Run) (course : CourseState) (drawing drawings : RunDrawing) (old new : Option (List ℕ)) : Type 0 where
+pub record Advances (view : AccessView) (s : Setup) (before after : Run) (course : CourseState) (drawing drawings : RunDrawing) (old new : Option (List ℕ)) : Type 0 where
   pub follows : Follows course after
   pub setup : course.world.setup ≡ s
-  pub drawn : HasDrawnRun mode s (parts_of s before.happened) (kept drawing.drawing.canvas) old after.happened drawings new
+  pub drawn : HasDrawnRun view s (parts_of s before.happened) (kept drawing.drawing.canvas) old after.happened drawings new
 
 -- a line of a scenario has made all its turns, whatever has happened before
 abbrev pub DrawsLine : Line → CourseState → CourseState → RunDrawing → RunDrawing → Option (List ℕ) → Option (List ℕ) → Type 0
 DrawsLine line old new drawing drawings taken then =
-    (mode : Mode) (run : Run) → Follows old run → Counts old.world.setup run.happened (tally drawing) → Recalls mode old.world.setup (parts_of old.world.setup run.happened) drawing.drawing →
-    Advances mode old.world.setup run (run_after old.world.setup line run) new drawing drawings taken then
+    (view : AccessView) (run : Run) → Follows old run → Counts old.world.setup run.happened (tally drawing) → Recalls view old.world.setup (parts_of old.world.setup run.happened) drawing.drawing →
+    Advances view old.world.setup run (run_after old.world.setup line run) new drawing drawings taken then
 
 -- How `draw` ends: where it ends well, what was written is a picture of the whole run; after a fault of the input nothing was written.
 abbrev pub DrewRun : Mode → Form → Result (Unit {0}) Fault → Streams → Streams → Type 0

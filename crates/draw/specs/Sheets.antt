@@ -1,10 +1,10 @@
 -- What stands while a record is read and drawn line by line, and how that ends.
-use Rattle.std.specs.Prelude.{◌≡◌, ◌<◌, ℕ, true, List, [], ◌∷◌, ◌++◌, codes, flat_map, reverse, Option, None, Some, IfSome, Result, Ok, Err}
+use Rattle.std.specs.Prelude.{◌≡◌, ◌<◌, ◌≤◌, ℕ, true, List, [], ◌∷◌, ◌++◌, codes, flat_map, length, reverse, Option, None, Some, IfSome, Result, Ok, Err}
 use Rattle.std.specs.Io.KnownBytes.{IsAtEnd, Keeps}
 use Rattle.scenario.specs.files.Engines.{Streams}
 use Rattle.scenario.specs.files.{Fault, FaultKind, UnlessMemory}
 use Rattle.scenario.specs.files.declared.faults.Fault.TheVariants as fault
-use Rattle.plain_store.specs.{Setup, opening_store}
+use Rattle.record.specs.plain_store.{Setup, opening_store}
 use Rattle.record.specs.{Entry, Past}
 use Rattle.judge.specs.record_file.{Progress, Said, cleared, entry_in, head_words, record_of}
 use Rattle.judge.specs.record_file.scenario.{printed_line}
@@ -20,9 +20,12 @@ use Rattle.draw.specs.RecordItems.{entry_parts, record_end, record_gives, record
 use Rattle.draw.specs.Canvases.{DrawsBands, Writes, kept_at_first, plan_of}
 use Rattle.draw.specs.Items.{entries_among, given, given_all}
 use Rattle.draw.specs.StoreChanges.{store_words}
+use Rattle.draw.specs.Views.{IsDecided, full_view, most_stored, record_view}
 use Rattle.draw.specs.declared.records.drawing.RecordDrawing.{RecordDrawing}
 use Rattle.draw.specs.declared.records.sheet.DrawnEntry.{DrawnEntry}
 use Rattle.draw.specs.declared.records.sheet.Sheet.{Sheet}
+use Rattle.draw.specs.declared.records.stored.RecordEntries.{RecordEntries}
+use Rattle.draw.specs.declared.views.AccessView.{AccessView}
 
 -- the lines that a page lists: the headings and the opening pairs of the record, and one that stands for its entries
 abbrev pub listed : Setup → List ℕ
@@ -35,23 +38,27 @@ picture_of reads (form.Picture top) s items =
     (picture_front s (heights_told (plan_of (form.Picture top) s) items) reads ++ bands_told (plan_of (form.Picture top) s) items) ++ picture_back (heights_told (plan_of (form.Picture top) s) items) reads
 
 -- Markup is the picture of a record of which a judge tells this, or nothing, if there is none; and nothing else: that of items which are what the record gives, one by one. So they say its marks.
-pub record IsRecordPicture (reads : Mode) (form : Form) (said : Said) (told markup : List ℕ) : Type 0 where
+pub record IsRecordPicture (view : AccessView) (form : Form) (said : Said) (told markup : List ℕ) : Type 0 where
   pub items : List Item
-  pub are : given items ≡ record_gives reads said told
+  pub are : given items ≡ record_gives view said told
   pub marks : flat_map marks_said (sayings items) ≡ marks_in (reverse said.entries)
-  pub is : markup ≡ picture_of reads form said.setup items
+  pub is : markup ≡ picture_of view.reads form said.setup items
 
 -- A whole picture was written: it is that of a record of which a judge tells this, and nothing else; its tags fit, and no element is open at its end; and the titles of its marks, read back, are the marks of the record, in their order, what the judge tells, line by line, and a last line.
-pub record DrawsSaid (reads : Mode) (form : Form) (said : Said) (told : List ℕ) (old new : Option (List ℕ)) : Type 0 where
+pub record DrawsSaid (view : AccessView) (form : Form) (said : Said) (told : List ℕ) (old new : Option (List ℕ)) : Type 0 where
   pub markup : List ℕ
-  pub picture : IsRecordPicture reads form said told markup
+  pub picture : IsRecordPicture view form said told markup
   pub elements : opens_in markup (Some []) ≡ Some []
   pub read_back : lines_in markup ≡ record_lines said told
   pub writes : Writes old new markup
 
+-- What it shows is decided by what is asked for and by the number of entries that are shown.
+abbrev pub DrawsAsked : Mode → Form → Said → List ℕ → Option (List ℕ) → Option (List ℕ) → Type 0
+DrawsAsked asked form said = DrawsSaid (record_view asked (length said.entries)) form said
+
 -- That of the record that a text says, of which no judge tells.
 abbrev pub DrawsRecord : Mode → Form → List ℕ → Option (List ℕ) → Option (List ℕ) → Type 0
-DrawsRecord reads form text old new = IsOfRecord (λ s entries numbers. DrawsSaid reads form (record { setup = s; entries = entries }) [] old new) text
+DrawsRecord asked form text old new = IsOfRecord (λ s entries numbers. DrawsAsked asked form (record { setup = s; entries = entries }) [] old new) text
 
 -- These entries of a record are shown: all, which keep all laws; or those up to the first that breaks one.
 pub data Shows (Keeps : List Entry → Type 0) (entries shown : List Entry) : Type 0 where
@@ -68,7 +75,7 @@ pub record IsJudged (Keeps : Setup → List Entry → Type 0) (Tells : Setup →
 
 -- The picture of the record that a text says, up to the first entry that breaks a law, and of what a judge tells of that record.
 abbrev pub DrawsJudged : (Setup → List Entry → Type 0) → (Setup → List Entry → List ℕ → List ℕ → ℕ → Type 0) → Mode → Form → ℕ → List ℕ → Option (List ℕ) → Option (List ℕ) → Type 0
-DrawsJudged Keeps Tells reads form status text old new = IsOfRecord (IsJudged Keeps Tells status (λ said told. DrawsSaid reads form said told old new)) text
+DrawsJudged Keeps Tells asked form status text old new = IsOfRecord (IsJudged Keeps Tells status (λ said told. DrawsAsked asked form said told old new)) text
 
 -- what a page has before its bands was written; one picture has it later, once its height is known
 pub record HeadsPage (reads : Mode) (s : Setup) (old new : Option (List ℕ)) : Type 0 where
@@ -83,29 +90,46 @@ Heads reads form.Page s old new = HeadsPage reads s old new
 Heads reads (form.Picture top) s old new = new ≡ old
 
 -- these entries of a record with this setup are drawn, but for what is held back
-pub record IsDrawn (reads : Mode) (form : Form) (s : Setup) (past : Past) (d : RecordDrawing) (old new : Option (List ℕ)) : Type 0 where
+pub record IsDrawn (view : AccessView) (form : Form) (s : Setup) (past : Past) (d : RecordDrawing) (old new : Option (List ℕ)) : Type 0 where
   pub source : d.drawing.source ≡ source_of s
-  pub watches : Watches reads s (entries_among (entry_parts past)) d.watch.watch
+  pub watches : Watches view.reads s (entries_among (entry_parts past)) d.watch.watch
   pub mid : Option (List ℕ)
-  pub heads : Heads reads form s old mid
-  pub drawn : HasDrawn reads s [] (kept_at_first (plan_of form s)) mid (entry_parts past) d.drawing new
+  pub heads : Heads view.reads form s old mid
+  pub drawn : HasDrawn view s [] (kept_at_first (plan_of form s)) mid (entry_parts past) d.drawing new
 
--- the same by what there is: before the first entry nothing was written
-abbrev pub DrawsPast : Mode → Form → Option RecordDrawing → Setup → Past → Option (List ℕ) → Option (List ℕ) → Type 0
-DrawsPast reads form None s past old new = (past ≡ []) × (new ≡ old)
-DrawsPast reads form (Some d) s past old new = IsDrawn reads form s past d old new
+-- they are stored, as long as the picture may be short, and nothing was written
+pub record AreStored (asked : Mode) (past : Past) (stored : List Entry) (old new : Option (List ℕ)) : Type 0 where
+  pub few : length past ≤ most_stored asked
+  pub are : stored ≡ reverse past
+  pub unwritten : new ≡ old
+
+-- or it is decided that what is asked for is shown, and they are drawn so
+pub record AreDrawn (asked : Mode) (form : Form) (s : Setup) (past : Past) (d : RecordDrawing) (old new : Option (List ℕ)) : Type 0 where
+  pub decided : IsDecided asked (length past)
+  pub drawn : IsDrawn (full_view asked) form s past d old new
+
+-- the same by what there is
+abbrev pub AreShownBy : Option RecordDrawing → List Entry → Mode → Form → Setup → Past → Option (List ℕ) → Option (List ℕ) → Type 0
+AreShownBy None stored asked form s past old new = AreStored asked past stored old new
+AreShownBy (Some d) stored asked form s past old new = AreDrawn asked form s past d old new
+
+abbrev pub DrawsPast : Mode → Form → RecordEntries → Setup → Past → Option (List ℕ) → Option (List ℕ) → Type 0
+DrawsPast asked form e s past old new = AreShownBy e.drawing e.stored.items asked form s past old new
 
 -- the same by what was read: behind an entry the setup stays
-abbrev pub DrawsAt : Mode → Form → Option RecordDrawing → Option Progress → Past → Option (List ℕ) → Option (List ℕ) → Type 0
-DrawsAt reads form None before past old new = (past ≡ []) × (new ≡ old)
-DrawsAt reads form (Some d) None past old new = ⊥
-DrawsAt reads form (Some d) (Some p) past old new = (p.ended ≡ true) × IsDrawn reads form p.head.setup past d old new
+abbrev pub AreReadBy : Option RecordDrawing → List Entry → Mode → Form → Option Progress → Past → Option (List ℕ) → Option (List ℕ) → Type 0
+AreReadBy None stored asked form before past old new = AreStored asked past stored old new
+AreReadBy (Some d) stored asked form None past old new = ⊥
+AreReadBy (Some d) stored asked form (Some p) past old new = (p.ended ≡ true) × AreDrawn asked form p.head.setup past d old new
+
+abbrev pub DrawsAt : Mode → Form → RecordEntries → Option Progress → Past → Option (List ℕ) → Option (List ℕ) → Type 0
+DrawsAt asked form e before past old new = AreReadBy e.drawing e.stored.items asked form before past old new
 
 -- this was read, these entries were said, the newest first, each was taken, and they were drawn
 pub record Stands (t : Sheet) (before : Option Progress) (past : Past) (old new : Option (List ℕ)) : Type 0 where
   pub reader : t.reader ≡ before
   pub clear : cleared before ≡ before
-  pub draws : DrawsAt t.reads t.form t.drawing before past old new
+  pub draws : DrawsAt t.reads t.form t.entries before past old new
 
 -- what a line says was read, and drawn if it is an entry
 pub record GoesOn (line : Result (Option Progress) FaultKind) (t : Sheet) (past : Past) (old new : Option (List ℕ)) : Type 0 where
@@ -120,21 +144,29 @@ LineStops fault.Write number says = Unit {0}
 LineStops fault.Memory number says = Unit {0}
 LineStops fault.Read number says = ⊥
 
--- how many entries were drawn
-abbrev pub entries_of : Option RecordDrawing → ℕ
-entries_of None = 0
-entries_of (Some d) = d.drawing.entries
+-- how many entries are stored or drawn
+abbrev pub count_by : Option RecordDrawing → List Entry → ℕ
+count_by None stored = length stored
+count_by (Some d) stored = d.drawing.entries
+
+abbrev pub entries_of : RecordEntries → ℕ
+entries_of e = count_by e.drawing e.stored.items
 
 -- all bands of these entries and of what a judge tells were written, and a page's front before them
-pub record EndsAt (reads : Mode) (form : Form) (s : Setup) (past : Past) (told : List ℕ) (height : ℕ) (old new : Option (List ℕ)) : Type 0 where
+pub record EndsAt (view : AccessView) (form : Form) (s : Setup) (past : Past) (told : List ℕ) (height : ℕ) (old new : Option (List ℕ)) : Type 0 where
   pub mid : Option (List ℕ)
-  pub heads : Heads reads form s old mid
-  pub bands : DrawsBands (plan_of form s) mid new (given_all reads s (source_of s) (entry_parts past) ++ record_end reads s (source_of s) past told) height
+  pub heads : Heads view.reads form s old mid
+  pub bands : DrawsBands (plan_of form s) mid new (given_all view s (source_of s) (entry_parts past) ++ record_end view s (source_of s) past told) height
+
+-- the same of what is shown by what is asked for
+pub record EndsAsked (asked : Mode) (form : Form) (s : Setup) (past : Past) (told : List ℕ) (shows : Mode) (height : ℕ) (old new : Option (List ℕ)) : Type 0 where
+  pub shows_it : shows ≡ (record_view asked (length past)).reads
+  pub ends : EndsAt (record_view asked (length past)) form s past told height old new
 
 -- the same of a record
-pub record DrawsBandsOf (reads : Mode) (form : Form) (drawn : DrawnEntry) (old new : Option (List ℕ)) (said : Said) (told : List ℕ) : Type 0 where
+pub record DrawsBandsOf (asked : Mode) (form : Form) (drawn : DrawnEntry) (old new : Option (List ℕ)) (said : Said) (told : List ℕ) : Type 0 where
   pub setup : drawn.setup ≡ said.setup
-  pub ends : EndsAt reads form said.setup (reverse said.entries) told drawn.height old new
+  pub ends : EndsAsked asked form said.setup (reverse said.entries) told drawn.shows drawn.height old new
 
 -- of the record that a text says, of which no judge tells
 abbrev pub DrawsAllBands : Mode → Form → DrawnEntry → Option (List ℕ) → Option (List ℕ) → List ℕ → Type 0

@@ -1,7 +1,7 @@
 -- What commands change in a store, and how that is shown.
 use Rattle.std.specs.Prelude.{ℕ, if◌then◌else◌, List, [], ◌∷◌, Option, None, Some}
 use Rattle.std.specs.String.{string_bytes}
-use Rattle.plain_store.specs.{Caller, Command, Contents, Pair, after, changes, name_of, pair_text, store_words as in_words, value_at}
+use Rattle.record.specs.plain_store.{Caller, Command, Contents, Pair, after, changes, name_of, pair_text, store_words as in_words, value_at}
 use Rattle.picture.specs.columns.{TakenChange}
 
 -- what a command changed: the pair of its name, and the store after it

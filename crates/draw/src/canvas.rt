@@ -1,14 +1,15 @@
 //! The canvas of a picture: a page that writes each band as soon as the band is full, and the overlapped reads that it
 //! shows.
 ghost use Rattle.std.specs.Prelude.{◌≡◌, ◌+◌, ◌-◌, ◌^◌, ◌<◌, List, [], ◌∷◌, ◌++◌, is_some, length, map, IfErr, IfOk, None, OnOk, Ok};
-ghost use Rattle.plain_store.specs.{checked};
-ghost use Rattle.plain_store.specs.declared.setups.Setup.{Setup as Given};
-ghost use Rattle.record.specs.{Entry, Past};
+ghost use Rattle.record.specs.plain_store.{checked};
+ghost use Rattle.record.specs.plain_store.declared.setups.Setup.{Setup as Given};
+ghost use Rattle.record.specs.{Entry, Mark as Marked, Past};
+ghost use Rattle.record_accesses.specs.{HasWatched, WaveLimit as Limit, drops, entry_with, shown_access};
 ghost use Rattle.picture.specs.columns.{given_access};
 ghost use Rattle.picture.specs.columns.declared.reads.OverlappedRead.{OverlappedRead as Ended};
 ghost use Rattle.picture.specs.declared.reads.Reads.{Reads as Mode};
 ghost use Rattle.draw.specs.Canvases.{DrawsLast, DrawsLines, DrawsMarks, DrawsOn, DrawsUpToVerdict, kept, kept_at_first, plan_of, trace_plan};
-ghost use Rattle.draw.specs.Items.{GivesAccess, GivesRead, says_of};
+ghost use Rattle.draw.specs.Items.{GivesAccess, GivesRead, gives_access, says_of};
 ghost use Rattle.draw.specs.Overlaps.{Overhears, TellsEnd, overlapped_by, shown_of};
 ghost use Rattle.draw.specs.TakenStores.{IsAfterMarks};
 ghost use Rattle.draw.specs.Writing.{IsWriteFault, failed_write};
@@ -21,8 +22,9 @@ use picture::{
     Form, OverlappedRead, Page, Reads, RunLine, Saying, ShownAccess, ShownVerdict, Subject,
     verdict_of,
 };
-use plain_store::{NestedTypes, Setup};
 use record::{Access, Mark};
+use record_accesses::RecordAccessWatch;
+use record_accesses::plain_store::{NestedTypes, Setup};
 use scenario::{Fault, Sink};
 use std::alloc::{AllocError, Global};
 
@@ -226,6 +228,40 @@ impl Canvas {
     {
         let full = self.page.take_access(access)?;
         write_band(&full, output)
+    }
+
+    /// Observes the access of the entry with this number, and draws what is shown of it. The entry's marks drop the read that
+    /// its process has open, or not. The function is never inlined, because the room in which an access is made would otherwise
+    /// be cleared before each entry.
+    ///
+    /// # Errors
+    ///
+    /// Returns [`Fault::Write`] if a call of the sink fails, and [`Fault::Memory`] if memory is lacking.
+    #[inline(never)]
+    pub(crate) fn draw_watched<W: Sink>(
+        &mut self,
+        watch: &mut RecordAccessWatch,
+        number: u64,
+        process: u8,
+        access: &Option<Access>,
+        drops_read: bool,
+        output: &mut W,
+    ) -> Result<(), Fault>
+        requires { W.failures output.old < 2 ^ 64 - 1 }
+        ensures drawn { OnOk result ((s : Given) (limit : Limit) (past : Past) (marks : List Marked) →
+            HasWatched watch.old s limit past → number ≡ length past → drops marks ≡ drops_read →
+            DrawsOn (kept self.old) (kept self.new) (W.taken output.old) (W.taken output.new)
+            (gives_access (shown_access s limit past (entry_with process access.now marks)))
+            × HasWatched watch.new s limit (entry_with process access.now marks ∷ past)) }
+        ensures overlaps { self.new.overlaps ≡ self.old.overlaps }
+        ensures fault { IfErr result IsWriteFault }
+        ensures failures { W.failures output.new ≡ W.failures output.old + failed_write result }
+    {
+        let alloc = self.alloc;
+        match watch.observe_access(alloc, number, process, access, drops_read)? {
+            None => Ok(()),
+            Some(shown) => self.draw_access(shown, output),
+        }
     }
 
     /// Draws the end of the picture, writes what is held back, and returns the heights of all bands, with 16 more for each. If

@@ -1,21 +1,24 @@
 //! The picture of a run or of a record, which is drawn part by part.
-ghost use Rattle.std.specs.Prelude.{◌≡◌, ◌+◌, ◌-◌, ◌^◌, ◌<◌, ℕ, [], ◌∷◌, IfErr, IfOk, List, Ok, OnOk, Some, is_some, length};
-ghost use Rattle.plain_store.specs.{checked};
-ghost use Rattle.plain_store.specs.declared.setups.Setup.{Setup as Given};
-ghost use Rattle.record.specs.{Entry};
+ghost use Rattle.std.specs.Prelude.{◌≡◌, ◌+◌, ◌-◌, ◌^◌, ◌<◌, [], ◌∷◌, IfErr, IfOk, List, Ok, OnOk, Some, is_some, length};
+ghost use Rattle.record.specs.plain_store.{checked};
+ghost use Rattle.record.specs.plain_store.declared.setups.Setup.{Setup as Given};
+ghost use Rattle.record.specs.{Entry, Mark as Marked, Past};
+ghost use Rattle.record_accesses.specs.{drops, entry_with};
 ghost use Rattle.judge.specs.read_law.{entry_by};
-ghost use Rattle.picture.specs.declared.reads.Reads.{Reads as Mode};
-ghost use Rattle.draw.specs.Canvases.{DrawsLast, DrawsLines, kept, kept_at_first, plan_of};
-ghost use Rattle.draw.specs.Drawings.{DrawsPart, Recalls};
-ghost use Rattle.draw.specs.Items.{Part, PartEntry, PartLine, entries_among, says_of};
+ghost use Rattle.draw.specs.Canvases.{DrawsLast, DrawsLines, DrawsOn, kept, kept_at_first, plan_of};
+ghost use Rattle.draw.specs.Drawings.{DrawsPart, Recalls, WatchesAccesses, observes as is_observing};
+ghost use Rattle.draw.specs.Items.{Part, PartEntry, PartLine, entries_among, given_access_of, says_of};
 ghost use Rattle.draw.specs.Overlaps.{TellsEnd};
 ghost use Rattle.draw.specs.Writing.{IsWriteFault, failed_write};
+ghost use Rattle.draw.specs.declared.views.AccessView.{AccessView as Seen};
 
 use crate::canvas::Canvas;
 use crate::taken_store::TakenStore;
+use crate::views::AccessView;
 use picture::{Form, Reads, RunLine, Saying};
-use plain_store::{NestedTypes, Setup};
 use record::{Access, Mark};
+use record_accesses::plain_store::{NestedTypes, Setup};
+use record_accesses::{RecordAccessWatch, drops_open_read};
 use scenario::{Fault, Sink};
 use std::alloc::{AllocError, Global};
 
@@ -23,6 +26,8 @@ use std::alloc::{AllocError, Global};
 #[derive(Drop)]
 pub(crate) struct Drawing {
     canvas: Canvas,
+    /// The observer of accesses, if all accesses are shown.
+    accesses: Option<RecordAccessWatch>,
     pub store: TakenStore,
     /// The number of entries.
     pub entries: u64,
@@ -51,18 +56,20 @@ impl Drawing {
         alloc: Global,
         setup: &Setup,
         form: Form,
-        reads: Reads,
+        view: AccessView,
         source: u64,
     ) -> Result<Drawing, AllocError>
         requires { checked setup.now ≡ Ok tt }
-        ensures recalls { IfOk result (Recalls reads setup.now []) }
+        ensures recalls { IfOk result (Recalls view setup.now []) }
         ensures first { IfOk result (λ d. kept d.canvas ≡ kept_at_first (plan_of form setup.now)) }
         ensures source { IfOk result (λ d. d.source ≡ source) }
     {
         let store = TakenStore::new(alloc, setup)?;
-        let canvas = Canvas::new(alloc, setup, &store, form, reads)?;
+        let canvas = Canvas::new(alloc, setup, &store, form, view.reads)?;
+        let accesses = watch_of(alloc, setup, view)?;
         Ok(Drawing {
             canvas,
+            accesses,
             store,
             entries: 0,
             source,
@@ -77,8 +84,16 @@ impl Drawing {
         self.canvas.shows_reads()
     }
 
-    /// Draws the marks of an entry, which has these parts. If reads are shown, `overlapped` is whether its access ends an
-    /// overlapped read.
+    /// Returns whether each access is observed, because overlapped reads are shown, or all accesses.
+    #[inline(always)]
+    pub fn observes(&self) -> bool
+        ensures { result ≡ is_observing self.now }
+    {
+        self.canvas.shows_reads() || self.accesses.is_some()
+    }
+
+    /// Draws an entry, which has these parts: its access, if all accesses are shown, and then its marks, which join the column of
+    /// the access. If overlapped reads are shown, `overlapped` is whether the access ends one.
     ///
     /// # Errors
     ///
@@ -93,10 +108,10 @@ impl Drawing {
     ) -> Result<(), Fault>
         requires writes { W.failures output.old < 2 ^ 64 - 1 }
         requires room { self.old.entries < 2 ^ 64 - 1 }
-        ensures drawn { OnOk result ((mode : Mode) (s : Given) (parts : List Part) →
+        ensures drawn { OnOk result ((view : Seen) (s : Given) (parts : List Part) →
             (e : Entry) → e.process ≡ process → e.access ≡ access → e.marks ≡ marks.now →
-            TellsEnd mode s (entries_among parts) access overlapped → Recalls mode s parts self.old →
-            DrawsPart mode s parts (PartEntry e) self.old self.new
+            TellsEnd view.reads s (entries_among parts) access overlapped →
+            Recalls view s parts self.old → DrawsPart view s parts (PartEntry e) self.old self.new
             (W.taken output.old) (W.taken output.new)) }
         ensures source { self.new.source ≡ self.old.source }
         ensures entries { OnOk result (self.new.entries ≡ self.old.entries + 1) }
@@ -106,33 +121,82 @@ impl Drawing {
         let _nested: NestedTypes = None;
         let at = self.entries;
         self.canvas.hear(at, access, overlapped)?;
+        self.draw_access(process, &access, drops_open_read(marks), output)?;
         self.canvas
             .draw_marks(&mut self.store, self.source, at, process, marks, output)?;
         self.entries += 1;
         Ok(())
     }
 
-    /// Counts an entry that has this access and no mark, of which nothing is drawn.
+    /// Draws an entry of a process that has this access and no mark: its access, if all accesses are shown, and otherwise
+    /// nothing.
     ///
     /// # Errors
     ///
-    /// Returns [`AllocError`] if memory is lacking.
+    /// Returns [`Fault::Write`] if a call of the sink fails, and [`Fault::Memory`] if memory is lacking.
     #[inline(always)]
-    pub fn step(&mut self, access: Access, overlapped: bool) -> Result<(), AllocError>
-        requires { self.old.entries < 2 ^ 64 - 1 }
-        ensures kept { kept self.new.canvas ≡ kept self.old.canvas }
-        ensures recalls { OnOk result ((mode : Mode) (s : Given) (parts : List Part) (p : ℕ) →
-            TellsEnd mode s (entries_among parts) (Some access) overlapped → Recalls mode s parts self.old →
-            Recalls mode s (PartEntry (entry_by p (Some access) []) ∷ parts) self.new) }
+    pub fn step<W: Sink>(
+        &mut self,
+        process: u8,
+        access: Access,
+        overlapped: bool,
+        output: &mut W,
+    ) -> Result<(), Fault>
+        requires writes { W.failures output.old < 2 ^ 64 - 1 }
+        requires room { self.old.entries < 2 ^ 64 - 1 }
+        ensures drawn { OnOk result ((view : Seen) (s : Given) (parts : List Part) →
+            TellsEnd view.reads s (entries_among parts) (Some access) overlapped →
+            Recalls view s parts self.old →
+            DrawsPart view s parts (PartEntry (entry_by process (Some access) [])) self.old self.new
+            (W.taken output.old) (W.taken output.new)) }
         ensures source { self.new.source ≡ self.old.source }
         ensures entries { OnOk result (self.new.entries ≡ self.old.entries + 1) }
+        ensures fault { IfErr result IsWriteFault }
+        ensures failures { W.failures output.new ≡ W.failures output.old + failed_write result }
     {
-        self.canvas.hear(self.entries, Some(access), overlapped)?;
+        let access = Some(access);
+        self.canvas.hear(self.entries, access, overlapped)?;
+        self.draw_access(process, &access, false, output)?;
         self.entries += 1;
         Ok(())
     }
 
-    /// Counts `steps` entries without a mark. Their accesses are not needed, because no reads are shown.
+    /// Draws the access of the next entry, if all accesses are shown. The entry's marks drop the read that its process has open,
+    /// or not.
+    #[inline(always)]
+    fn draw_access<W: Sink>(
+        &mut self,
+        process: u8,
+        access: &Option<Access>,
+        drops_read: bool,
+        output: &mut W,
+    ) -> Result<(), Fault>
+        requires { W.failures output.old < 2 ^ 64 - 1 }
+        ensures drawn { OnOk result ((view : Seen) (s : Given) (past : Past) (marks : List Marked) →
+            self.old.entries ≡ length past → drops marks ≡ drops_read →
+            WatchesAccesses view.reads view.limit s past self.old.accesses →
+            DrawsOn (kept self.old.canvas) (kept self.new.canvas)
+            (W.taken output.old) (W.taken output.new)
+            (given_access_of view.reads view.limit s past (entry_with process access.now marks))
+            × WatchesAccesses view.reads view.limit s
+            (entry_with process access.now marks ∷ past) self.new.accesses) }
+        ensures overlaps { self.new.canvas.overlaps ≡ self.old.canvas.overlaps }
+        ensures store { self.new.store ≡ self.old.store }
+        ensures entries { self.new.entries ≡ self.old.entries }
+        ensures source { self.new.source ≡ self.old.source }
+        ensures fault { IfErr result IsWriteFault }
+        ensures failures { W.failures output.new ≡ W.failures output.old + failed_write result }
+    {
+        let number = self.entries;
+        match &mut self.accesses {
+            None => Ok(()),
+            Some(watch) => self
+                .canvas
+                .draw_watched(watch, number, process, access, drops_read, output),
+        }
+    }
+
+    /// Counts `steps` entries without a mark. Their accesses are not needed, because none is observed.
     #[inline(always)]
     pub fn pass(&mut self, steps: u32)
         requires { self.old.entries + steps < 2 ^ 64 }
@@ -150,8 +214,8 @@ impl Drawing {
         requires { W.failures output.old < 2 ^ 64 - 1 }
         ensures drawn { OnOk result (DrawsLines self.old.canvas self.new.canvas
             (W.taken output.old) (W.taken output.new) self.old.source self.old.entries (says_of saying ∷ [])) }
-        ensures part { OnOk result ((mode : Mode) (s : Given) (parts : List Part) → Recalls mode s parts self.old →
-            DrawsPart mode s parts (PartLine (says_of saying)) self.old self.new
+        ensures part { OnOk result ((view : Seen) (s : Given) (parts : List Part) → Recalls view s parts self.old →
+            DrawsPart view s parts (PartLine (says_of saying)) self.old self.new
             (W.taken output.old) (W.taken output.new)) }
         ensures store { self.new.store ≡ self.old.store }
         ensures entries { self.new.entries ≡ self.old.entries }
@@ -194,5 +258,20 @@ impl Drawing {
             at: self.entries,
             saying,
         }
+    }
+}
+
+/// Returns an observer of accesses before the first entry, if all accesses are shown.
+fn watch_of(
+    alloc: Global,
+    setup: &Setup,
+    view: AccessView,
+) -> Result<Option<RecordAccessWatch>, AllocError>
+    requires { checked setup.now ≡ Ok tt }
+    ensures { IfOk result (WatchesAccesses view.reads view.limit setup.now []) }
+{
+    match view.reads {
+        Reads::All => Ok(Some(RecordAccessWatch::new(alloc, setup, view.limit)?)),
+        Reads::Hidden | Reads::Shown => Ok(None),
     }
 }

@@ -2,9 +2,10 @@
 //!
 //! A run is made anew from its scenario, and a record is read entry by entry. Either one draws its marks on a canvas, which
 //! writes a band as soon as the band is full. The one-thread store changes with the marks, so that each command shows what it
-//! changed. If they are asked for, the reads that writes overlapped are drawn too. The titles of a run's marks, read back, are
-//! the text of `replay`. A record may be good or bad, and of any lock. If a judge observes it, its picture ends with the first
-//! entry that breaks a law and with the judge's reasons.
+//! changed. If they are asked for, the reads that writes overlapped are drawn too, or all accesses. The picture of a record of
+//! at most 400 entries always shows all accesses; the entries are stored until this is decided. The titles of a run's marks,
+//! read back, are the text of `replay`. A record may be good or bad, and of any lock. If a judge observes it, its picture ends
+//! with the first entry that breaks a law and with the judge's reasons.
 //!
 //! ```rust
 //! Engine::Draw => exit_status(draw(alloc, reads, input, output, onlooker)),
@@ -22,6 +23,7 @@ mod runs;
 mod store_changes;
 mod surroundings;
 mod taken_store;
+mod views;
 mod writing;
 
 pub use canvas::Canvas;
@@ -30,9 +32,9 @@ pub use laws_of_pictures::{
 };
 pub use picture::Reads;
 pub use records::engines::{
-    JudgedBy, draw_judged_record, draw_judged_record_svg, draw_record, draw_record_svg, held_fault,
+    JudgedBy, draw_judged_record, draw_judged_record_svg, draw_record, draw_record_svg,
 };
-pub use records::held::Held;
+pub use records::held::{Held, held_fault};
 pub use runs::engines::{draw, draw_svg};
 pub use scenario::progress;
 pub use writing::write_markup;

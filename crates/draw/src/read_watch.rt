@@ -1,15 +1,15 @@
 //! The watch that finds the overlapped reads of a record.
 ghost use Rattle.std.specs.Prelude.{◌≡◌, [], ◌∷◌, IfOk, Ok};
-ghost use Rattle.plain_store.specs.{checked};
-ghost use Rattle.plain_store.specs.declared.setups.Setup.{Setup as Given};
+ghost use Rattle.record.specs.plain_store.{checked};
+ghost use Rattle.record.specs.plain_store.declared.setups.Setup.{Setup as Given};
 ghost use Rattle.record.specs.{Entry, Past};
 ghost use Rattle.picture.specs.declared.reads.Reads.{Reads as Mode};
 ghost use Rattle.draw.specs.Overlaps.{TellsEnd, Watches};
 
 use judge::Watch;
 use picture::Reads;
-use plain_store::Setup;
 use record::Access;
+use record_accesses::plain_store::Setup;
 use std::alloc::{AllocError, Global};
 
 /// A watch that observes the entries of a record, if overlapped reads are shown. A run needs none, because its memory

@@ -1,6 +1,8 @@
 //! Pictures of records, with or without a judge.
 
+mod around;
 mod drawing;
 pub(crate) mod engines;
 pub(crate) mod held;
 mod sheet;
+mod stored;

@@ -1,11 +1,11 @@
 //! The changes that the commands taken make in the one-thread store of a picture, and how a picture shows them.
 ghost use Rattle.std.specs.Prelude.{◌≡◌, Ok, IfOk, OnOk, option_map};
 ghost use Rattle.std.specs.String.{string_bytes};
-ghost use Rattle.plain_store.specs.{after, changes, name_of, value_at};
+ghost use Rattle.record.specs.plain_store.{after, changes, name_of, value_at};
 ghost use Rattle.draw.specs.StoreChanges.{change_by, changed, pair_words, store_words as words_of_store, words_by};
 
 use picture::TakenChange;
-use plain_store::{Caller, Command, Name, NestedTypes, Store, Value};
+use record_accesses::plain_store::{Caller, Command, Name, NestedTypes, Store, Value};
 use std::alloc::{AllocError, Global};
 
 /// Applies a command of a caller, and returns what it changed, or `None` if it changed nothing.
@@ -42,7 +42,7 @@ fn change_shown<S: Store>(
 }
 
 /// Returns whether the command would change the store.
-#[tactic(auto, using(plain_store::proofs::Changes::changes_differs))]
+#[tactic(auto, using(record_accesses::proofs::plain_store::Changes::changes_differs))]
 fn would_change<S: Store>(store: &S, command: &Command) -> bool
     ensures { result ≡ changes (S.contents store.now) command.now }
 {
@@ -57,7 +57,7 @@ fn pair<S: Store>(alloc: Global, store: &S, command: &Command) -> Result<String,
     if let Some(name) = command.name()
         && let Some(value) = value_of(store, &name)
     {
-        return plain_store::pair_words(alloc, &name, &value);
+        return record_accesses::plain_store::pair_words(alloc, &name, &value);
     }
     Ok(String::new(alloc))
 }
@@ -79,7 +79,7 @@ fn value_of<S: Store>(store: &S, name: &Name) -> Option<Value>
 pub(crate) fn store_words<S: Store>(alloc: Global, store: &S) -> Result<Vec<u8>, AllocError>
     ensures { IfOk result (λ words. words.items ≡ words_of_store (S.contents store.now)) }
 {
-    Ok(plain_store::store_words(alloc, store)?.into_bytes())
+    Ok(record_accesses::plain_store::store_words(alloc, store)?.into_bytes())
 }
 
 /// Returns the store's pairs with single spaces between them, or nothing if the store is empty.

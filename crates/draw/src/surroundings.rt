@@ -1,6 +1,6 @@
 //! The markup before and after the bands of one picture, and after those of a page.
 ghost use Rattle.std.specs.Prelude.{◌≡◌, [], IfOk, Ok, Some};
-ghost use Rattle.plain_store.specs.{checked, opening_store};
+ghost use Rattle.record.specs.plain_store.{checked, opening_store};
 ghost use Rattle.picture.specs.{page_back, page_names, picture_back, picture_front, picture_names};
 ghost use Rattle.picture.specs.markup.{lines_in, opens_in};
 ghost use Rattle.draw.specs.Around.{IsAround};
@@ -8,7 +8,7 @@ ghost use Rattle.draw.specs.StoreChanges.{store_words as words_of_store};
 
 use crate::store_changes::store_words;
 use picture::{Markup, Reads, page_end, picture_end, picture_head};
-use plain_store::{PlainStore, Setup, opened};
+use record_accesses::plain_store::{PlainStore, Setup, opened};
 use std::alloc::{AllocError, Global};
 
 /// Returns the markup before and after the bands of one picture; `height` is the sum of their heights.

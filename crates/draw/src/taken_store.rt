@@ -1,7 +1,7 @@
 //! The one-thread store that goes along with the marks of a run or of a record, and the last call of each process.
 ghost use Rattle.std.specs.Prelude.{◌≡◌, ◌∷◌, ◌<◌, ℕ, [], List, Ok, IfOk, OnOk, option_map, set, slice_get};
-ghost use Rattle.plain_store.specs.{checked};
-ghost use Rattle.plain_store.specs.declared.setups.Setup.{Setup as Given};
+ghost use Rattle.record.specs.plain_store.{checked};
+ghost use Rattle.record.specs.plain_store.declared.setups.Setup.{Setup as Given};
 ghost use Rattle.record.specs.declared.marks.Mark.{Mark as Noted};
 ghost use Rattle.picture.specs.columns.{places_marked};
 ghost use Rattle.draw.specs.StoreChanges.{changed};
@@ -9,8 +9,8 @@ ghost use Rattle.draw.specs.TakenStores.{IsAfterMarks, after_call, change_by_cal
 
 use crate::store_changes;
 use picture::TakenChange;
-use plain_store::{Caller, Command, NestedTypes, PlainStore, Setup, opened};
 use record::Mark;
+use record_accesses::plain_store::{Caller, Command, NestedTypes, PlainStore, Setup, opened};
 use std::alloc::{AllocError, Global};
 
 /// A call of a process: its command, and its number.

@@ -1,25 +1,25 @@
 //! The record of a file as it is drawn.
-ghost use Rattle.std.specs.Prelude.{◌≡◌, ◌+◌, ◌-◌, ◌^◌, ◌<◌, ℕ, [], ◌∷◌, ◌++◌, is_some, not, IfErr, IfOk, List, None, Ok, OnOk, Option};
-ghost use Rattle.plain_store.specs.{checked};
-ghost use Rattle.plain_store.specs.declared.setups.Setup.{Setup as Given};
+ghost use Rattle.std.specs.Prelude.{◌≡◌, ◌+◌, ◌-◌, ◌^◌, ◌<◌, [], ◌∷◌, ◌++◌, is_some, not, IfErr, IfOk, List, None, Ok, OnOk, Option};
+ghost use Rattle.record.specs.plain_store.{checked};
+ghost use Rattle.record.specs.plain_store.declared.setups.Setup.{Setup as Given};
 ghost use Rattle.record.specs.{Entry as Noted};
 ghost use Rattle.judge.specs.record_file.{step_entry};
-ghost use Rattle.picture.specs.declared.reads.Reads.{Reads as Mode};
 ghost use Rattle.draw.specs.Canvases.{DrawsLast, kept, kept_at_first, plan_of};
-ghost use Rattle.draw.specs.Drawings.{DrawsPart, Recalls};
-ghost use Rattle.draw.specs.Items.{Part, PartEntry, SaysEnd, entries_among};
+ghost use Rattle.draw.specs.Items.{Part, SaysEnd, entries_among};
 ghost use Rattle.draw.specs.Overlaps.{TellsEnd, Watches};
-ghost use Rattle.draw.specs.RecordDrawings.{RecordRecalls};
+ghost use Rattle.draw.specs.RecordDrawings.{DrawsEntry, RecordRecalls};
 ghost use Rattle.draw.specs.RecordItems.{source_of};
 ghost use Rattle.draw.specs.Writing.{IsWriteFault, failed_write};
+ghost use Rattle.draw.specs.declared.views.AccessView.{AccessView as Seen};
 
 use crate::drawing::{Drawing, lines_of_setup};
 use crate::read_watch::ReadWatch;
-use picture::{Form, Reads, Saying};
-use plain_store::{NestedTypes, Setup};
+use crate::views::AccessView;
+use picture::{Form, Saying};
 use record::{Access, Entry};
+use record_accesses::plain_store::{NestedTypes, Setup};
 use scenario::{Fault, Sink};
-use std::alloc::{AllocError, Global};
+use std::alloc::Global;
 
 /// The picture of a record so far.
 #[derive(Drop)]
@@ -42,23 +42,23 @@ impl RecordDrawing {
         alloc: Global,
         setup: &Setup,
         form: Form,
-        reads: Reads,
+        view: AccessView,
     ) -> Result<RecordDrawing, Fault>
         requires { checked setup.now ≡ Ok tt }
-        ensures recalls { IfOk result (RecordRecalls reads setup.now []) }
+        ensures recalls { IfOk result (RecordRecalls view setup.now []) }
         ensures first { IfOk result (λ d. kept d.drawing.canvas ≡ kept_at_first (plan_of form setup.now)) }
         ensures source { IfOk result (λ d. d.drawing.source ≡ source_of setup.now) }
         ensures fault { IfErr result IsWriteFault }
         ensures failures { failed_write result ≡ 0 }
     {
-        let watch = ReadWatch::new(alloc, setup, reads)?;
+        let watch = ReadWatch::new(alloc, setup, view.reads)?;
         Ok(RecordDrawing {
-            drawing: Drawing::new(alloc, setup, form, reads, line_of_entries(setup))?,
+            drawing: Drawing::new(alloc, setup, form, view, line_of_entries(setup))?,
             watch,
         })
     }
 
-    /// Draws the marks of the next entry.
+    /// Draws the next entry: its access, if all accesses are shown, and its marks.
     ///
     /// # Errors
     ///
@@ -66,10 +66,8 @@ impl RecordDrawing {
     pub fn draw_entry<W: Sink>(&mut self, entry: &Entry, output: &mut W) -> Result<(), Fault>
         requires writes { W.failures output.old < 2 ^ 64 - 1 }
         requires room { self.old.drawing.entries < 2 ^ 64 - 1 }
-        ensures drawn { OnOk result ((mode : Mode) (s : Given) (parts : List Part) → RecordRecalls mode s parts self.old →
-            DrawsPart mode s parts (PartEntry entry.now) self.old.drawing self.new.drawing
-            (W.taken output.old) (W.taken output.new)
-            × Watches mode s (entry.now ∷ entries_among parts) self.new.watch.watch) }
+        ensures drawn { OnOk result (DrawsEntry self.old self.new
+            (W.taken output.old) (W.taken output.new) entry.now) }
         ensures source { self.new.drawing.source ≡ self.old.drawing.source }
         ensures entries { OnOk result (self.new.drawing.entries ≡ self.old.drawing.entries + 1) }
         ensures fault { IfErr result IsWriteFault }
@@ -81,33 +79,40 @@ impl RecordDrawing {
         self.drawing.draw_entry(entry.process, access, &entry.act.marks, overlapped, output)
     }
 
-    /// Counts the next entry, which has this access and no mark, so that nothing is drawn of it.
+    /// Draws the next entry, which is of this process and has this access and no mark: its access, if all accesses are shown, and
+    /// otherwise nothing.
     ///
     /// # Errors
     ///
-    /// Returns [`AllocError`] if memory is lacking.
+    /// Returns [`Fault::Write`] if a call of the sink fails, and [`Fault::Memory`] if memory is lacking.
     #[inline(always)]
-    pub fn step(&mut self, access: Access) -> Result<(), AllocError>
-        requires { self.old.drawing.entries < 2 ^ 64 - 1 }
-        ensures kept { kept self.new.drawing.canvas ≡ kept self.old.drawing.canvas }
-        ensures recalls { OnOk result ((mode : Mode) (s : Given) (parts : List Part) (p : ℕ) →
-            RecordRecalls mode s parts self.old →
-            RecordRecalls mode s (PartEntry (step_entry p access) ∷ parts) self.new) }
+    pub fn step<W: Sink>(
+        &mut self,
+        process: u8,
+        access: Access,
+        output: &mut W,
+    ) -> Result<(), Fault>
+        requires writes { W.failures output.old < 2 ^ 64 - 1 }
+        requires room { self.old.drawing.entries < 2 ^ 64 - 1 }
+        ensures drawn { OnOk result (DrawsEntry self.old self.new
+            (W.taken output.old) (W.taken output.new) (step_entry process access)) }
         ensures source { self.new.drawing.source ≡ self.old.drawing.source }
         ensures entries { OnOk result (self.new.drawing.entries ≡ self.old.drawing.entries + 1) }
+        ensures fault { IfErr result IsWriteFault }
+        ensures failures { W.failures output.new ≡ W.failures output.old + failed_write result }
     {
         let overlapped = self.ends_overlapped(Some(access));
-        self.drawing.step(access, overlapped)
+        self.drawing.step(process, access, overlapped, output)
     }
 
     /// Returns whether the access of the next entry ends an overlapped read, if reads are shown. The watch is not asked if no
     /// reads are shown, so that the compiler drops the access of a Step that it has read.
     #[inline(always)]
     fn ends_overlapped(&mut self, access: Option<Access>) -> bool
-        ensures overlapped { (mode : Mode) (s : Given) (parts : List Part) (e : Noted) → e.access ≡ access →
-            RecordRecalls mode s parts self.old →
-            TellsEnd mode s (entries_among parts) access result
-            × Watches mode s (e ∷ entries_among parts) self.new.watch.watch }
+        ensures overlapped { (view : Seen) (s : Given) (parts : List Part) (e : Noted) → e.access ≡ access →
+            RecordRecalls view s parts self.old →
+            TellsEnd view.reads s (entries_among parts) access result
+            × Watches view.reads s (e ∷ entries_among parts) self.new.watch.watch }
         ensures drawing { self.new.drawing ≡ self.old.drawing }
     {
         if !self.drawing.shows_reads() {
@@ -116,7 +121,8 @@ impl RecordDrawing {
         self.watch.hear(access)
     }
 
-    /// Draws the last line, or the verdict with it if `told` has lines of a judge, writes what is held back, and returns the heights of the bands.
+    /// Draws the last line, or the verdict with it if `told` has lines of a judge, writes what is held back, and returns the
+    /// heights of the bands.
     ///
     /// # Errors
     ///

@@ -1,6 +1,6 @@
 //! The commands `draw` and `draw-svg` for records.
 ghost use Rattle.std.specs.Prelude.{◌≡◌, ◌+◌, ◌-◌, ◌^◌, ◌<◌, ℕ, [], false, IfErr, IfOk, IfSome, List, None, Ok, OnOk, Option, Some};
-ghost use Rattle.plain_store.specs.{checked};
+ghost use Rattle.record.specs.plain_store.{checked};
 ghost use Rattle.std.specs.Io.KnownBytes.{IsAtEnd};
 ghost use Rattle.scenario.specs.files.{failed_reading, streams};
 ghost use Rattle.picture.specs.declared.page.Form.TheVariants as form_variants;
@@ -12,9 +12,9 @@ ghost use Rattle.record.specs.{Entry as Noted};
 ghost use Rattle.judge.specs.record_file.{Progress, Said};
 ghost use Rattle.draw.specs.Judges.{DrewJudgedBy};
 ghost use Rattle.draw.specs.Judgings.{HasRead, TellsOfLines};
-ghost use Rattle.draw.specs.Sheets.{DrawsAllBands, DrawsBandsOf, DrawsSaid, DrewRecord, DrewJudged, IsDrawFault, IsJudged, Stands, without_write};
+ghost use Rattle.draw.specs.Sheets.{DrawsAllBands, DrawsAsked, DrawsBandsOf, DrewRecord, DrewJudged, IsDrawFault, IsJudged, Stands};
 
-use crate::records::held::Held;
+use crate::records::held::{Held, held_fault};
 use crate::records::sheet::{DrawnEntry, Sheet};
 use crate::surroundings::{around_picture, end_of_page};
 use crate::writing::write_markup;
@@ -32,11 +32,15 @@ pub enum JudgedBy {
 }
 
 /// Reads a record file line by line, and writes the page of the record: a picture in bands, each of which is written when it
-/// is full. So it stores a line, a block and a band, however long the file is.
+/// is full. So it stores a line, a block and a band, however long the file is, and at most 400 entries.
+///
+/// If at most 400 entries are shown, the page shows all accesses, with the waves of the first sixteen bits that are written.
+/// Otherwise it shows what `reads` asks for. [`Reads::All`] asks for all accesses with all waves, also of a short record. If
+/// it does not, nothing is written before the number of entries decides.
 ///
 /// If it succeeds, the output is the page of the items that the record gives, and nothing else. These items are a line for
-/// each mark of the entries, with what its command changes in the one-thread store, and the overlapped reads, if they are to
-/// be shown. The titles of the marks, read back, are the marks of the record in their order, and a last line. The tags
+/// each mark of the entries, with what its command changes in the one-thread store, and the accesses or the overlapped reads,
+/// if they are shown. The titles of the marks, read back, are the marks of the record in their order, and a last line. The tags
 /// match, and no element is open at the end. The record may be good or bad.
 ///
 /// # Errors
@@ -109,7 +113,7 @@ fn judged_page<H: Judging, R: Source, W: Sink>(
 fn end_page<W: Sink>(alloc: Global, drawn: &DrawnEntry, output: &mut W) -> Result<(), Fault>
     requires good { checked drawn.now.setup ≡ Ok tt }
     requires writes { W.failures output.old < 2 ^ 64 - 1 }
-    ensures ok { OnOk result ((reads : Mode) (said : Said) (told : List ℕ) (first : Option (List ℕ)) → DrawsBandsOf reads form_variants.Page drawn.now first (W.taken output.old) said told → DrawsSaid reads form_variants.Page said told first (W.taken output.new)) }
+    ensures ok { OnOk result ((reads : Mode) (said : Said) (told : List ℕ) (first : Option (List ℕ)) → DrawsBandsOf reads form_variants.Page drawn.now first (W.taken output.old) said told → DrawsAsked reads form_variants.Page said told first (W.taken output.new)) }
     ensures fault { IfErr result IsWriteFault }
     ensures failures { W.failures output.new ≡ W.failures output.old + failed_write result }
 {
@@ -138,7 +142,7 @@ pub fn draw_record_svg<R: Source, W: Sink>(
 {
     let mut bands = Held::new(alloc);
     match draw_bands(alloc, Form::Picture(FIRST_BAND), reads, input, &mut bands) {
-        Ok(drawn) => write_picture(alloc, reads, &drawn, bands.bytes(), output),
+        Ok(drawn) => write_picture(alloc, &drawn, bands.bytes(), output),
         Err(fault) => Err(held_fault(fault)),
     }
 }
@@ -187,7 +191,7 @@ fn judged_picture<H: Judging, R: Source, W: Sink>(
     let form = Form::Picture(FIRST_BAND);
     match judge_bands::<H, R, Held>(alloc, form, reads, input, &mut bands) {
         Ok((drawn, status)) => {
-            write_picture(alloc, reads, &drawn, bands.bytes(), output)?;
+            write_picture(alloc, &drawn, bands.bytes(), output)?;
             Ok(status)
         }
         Err(fault) => Err(held_fault(fault)),
@@ -197,17 +201,16 @@ fn judged_picture<H: Judging, R: Source, W: Sink>(
 /// Writes one picture, which has these bands.
 fn write_picture<W: Sink>(
     alloc: Global,
-    reads: Reads,
     drawn: &DrawnEntry,
     bands: &[u8],
     output: &mut W,
 ) -> Result<(), Fault>
     requires { W.failures output.old < 2 ^ 64 - 1 }
-    ensures ok { OnOk result ((said : Said) (told : List ℕ) → DrawsBandsOf reads (form_variants.Picture 34) drawn.now (Some []) (Some bands.now) said told → DrawsSaid reads (form_variants.Picture 34) said told (W.taken output.old) (W.taken output.new)) }
+    ensures ok { OnOk result ((reads : Mode) (said : Said) (told : List ℕ) → DrawsBandsOf reads (form_variants.Picture 34) drawn.now (Some []) (Some bands.now) said told → DrawsAsked reads (form_variants.Picture 34) said told (W.taken output.old) (W.taken output.new)) }
     ensures fault { IfErr result IsWriteFault }
     ensures failures { W.failures output.new ≡ W.failures output.old + failed_write result }
 {
-    let (head, end) = around_picture(alloc, &drawn.setup, drawn.height, reads)?;
+    let (head, end) = around_picture(alloc, &drawn.setup, drawn.height, drawn.shows)?;
     write_markup(&head, output)?;
     write_all(output, bands)?;
     write_markup(&end, output)
@@ -384,15 +387,5 @@ fn telling_of<H: Judging>(alloc: Global, trial: Trial<H>) -> Result<Option<Telli
     match trial.into_hearer()? {
         None => Ok(None),
         Some(hearer) => Ok(Some(hearer.tell(alloc)?)),
-    }
-}
-
-/// Returns the fault of a picture whose bands are stored: storing them fails only if memory is lacking.
-pub fn held_fault(fault: Fault) -> Fault
-    ensures { result ≡ without_write fault }
-{
-    match fault {
-        Fault::Write => Fault::Memory,
-        other => other,
     }
 }

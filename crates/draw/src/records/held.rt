@@ -1,7 +1,8 @@
 //! Bytes that are stored until they are written.
 ghost use Rattle.std.specs.Prelude.{◌≡◌, [], Some};
+ghost use Rattle.draw.specs.Sheets.{without_write};
 
-use scenario::{Failed, Sink};
+use scenario::{Failed, Fault, Sink};
 use std::alloc::Global;
 
 /// The sink of the bands of one picture, until its height is known.
@@ -44,5 +45,15 @@ impl Sink for Held {
                 Err(Failed)
             }
         }
+    }
+}
+
+/// Returns the fault of a picture whose bands are stored: storing them fails only if memory is lacking.
+pub fn held_fault(fault: Fault) -> Fault
+    ensures { result ≡ without_write fault }
+{
+    match fault {
+        Fault::Write => Fault::Memory,
+        other => other,
     }
 }

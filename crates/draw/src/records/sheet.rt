@@ -1,36 +1,35 @@
 //! A record file that is read and drawn line by line.
 ghost use Rattle.std.specs.Prelude.{◌≡◌, ◌+◌, ◌-◌, ◌^◌, ◌<◌, ◌≤◌, ◌∷◌, ℕ, [], None, Some, true, false, Err, IfErr, IfOk, IfSome, IsSome, List, Ok, OnOk, Option, length};
-ghost use Rattle.plain_store.specs.{checked};
+ghost use Rattle.record.specs.plain_store.{checked};
 ghost use Rattle.record.specs.{Past};
 ghost use Rattle.judge.specs.record_file.{Progress, line_read};
-ghost use Rattle.picture.specs.{page_front, page_names};
-ghost use Rattle.picture.specs.markup.{lines_in, opens_in};
 ghost use Rattle.draw.specs.Writing.{IsWriteFault, failed_write};
-ghost use Rattle.draw.specs.Sheets.{DrawsPast, EndsAt, GoesOn, Heads, LineStops, Stands, entries_of, listed};
+ghost use Rattle.draw.specs.Sheets.{EndsAsked, GoesOn, LineStops, Stands, entries_of};
 
-use crate::records::drawing::RecordDrawing;
-use crate::writing::write_markup;
-use judge::{RecordReader, print_setup, read_any_line, read_step};
-use picture::{Form, Markup, Reads, page_head};
-use plain_store::{NestedTypes, Setup};
-use record::Entry;
+use crate::records::around::Around;
+use crate::records::stored::RecordEntries;
+use judge::{RecordReader, read_any_line, read_step};
+use picture::{Form, Reads};
+use record_accesses::plain_store::{NestedTypes, Setup};
 use scenario::{Fault, FaultKind, LineFault, Sink};
-use std::alloc::{AllocError, Global};
+use std::alloc::Global;
 
-/// What was read of a record file, and the picture of its entries, once it has one.
+/// What was read of a record file, and its entries.
 #[derive(Drop)]
 pub(crate) struct Sheet {
     alloc: Global,
     form: Form,
+    /// The accesses that are asked for.
     reads: Reads,
     reader: Option<RecordReader>,
-    drawing: Option<RecordDrawing>,
+    entries: RecordEntries,
 }
 
-/// The record's setup, and the heights of the bands that were drawn.
+/// The record's setup, which accesses its picture shows, and the heights of the bands that were drawn.
 #[derive(Drop)]
 pub(crate) struct DrawnEntry {
     pub setup: Setup,
+    pub shows: Reads,
     pub height: u64,
 }
 
@@ -40,14 +39,13 @@ impl Sheet {
         ensures form { result.form ≡ form }
         ensures reads { result.reads ≡ reads }
         ensures stands { (taken : Option (List ℕ)) → Stands result None [] taken taken }
-        ensures few { entries_of result.drawing ≡ 0 }
     {
         Sheet {
             alloc,
             form,
             reads,
             reader: None,
-            drawing: None,
+            entries: RecordEntries::new(alloc),
         }
     }
 
@@ -61,17 +59,16 @@ impl Sheet {
     #[inline(always)]
     pub fn read<W: Sink>(&mut self, number: u64, line: &[u8], output: &mut W) -> Result<(), Fault>
         requires short { length line.now ≤ 128 }
-        requires few { entries_of self.old.drawing < 2 ^ 64 - 1 }
+        requires few { entries_of self.old.entries < 2 ^ 64 - 1 }
         requires writes { W.failures output.old < 2 ^ 64 - 1 }
         ensures form { self.new.form ≡ self.old.form }
         ensures reads { self.new.reads ≡ self.old.reads }
         ensures ok { OnOk result ((before : Option Progress) (past : Past) (first : Option (List ℕ)) → Stands self.old before past first (W.taken output.old) → GoesOn (line_read line.now before) self.new past first (W.taken output.new)) }
-        ensures few { OnOk result (entries_of self.new.drawing ≤ entries_of self.old.drawing + 1) }
         ensures fault { IfErr result (λ fault. LineStops fault number (λ kind. (before : Option Progress) → self.old.reader ≡ before → line_read line.now before ≡ Err kind)) }
         ensures failures { W.failures output.new ≡ W.failures output.old + failed_write result }
     {
-        if self.hides_reads() {
-            if self.hears_step(line)? {
+        if self.observes_none() {
+            if self.hears_step(line, output)? {
                 return Ok(());
             }
             return self.any_line(number, line, output);
@@ -79,60 +76,62 @@ impl Sheet {
         self.shown_line(number, line, output)
     }
 
-    /// Reads a line where reads are shown or nothing is drawn yet. [`Sheet::read`] has a branch of its own for hidden reads,
-    /// in which the access of a Step is not used, so that the compiler keeps only the test of `read_step`. This function is
-    /// a call, because both branches together would be too large to be a part of the loop.
+    /// Reads a line where accesses are observed or nothing is drawn yet. [`Sheet::read`] has a branch of its own where none is
+    /// observed. In that branch the access of a Step is not used, so that the compiler keeps only the test of `read_step`. This
+    /// function is a call, because both branches together would be too large to be a part of the loop.
     #[inline(never)]
     fn shown_line<W: Sink>(&mut self, number: u64, line: &[u8], output: &mut W) -> Result<(), Fault>
         requires short { length line.now ≤ 128 }
-        requires few { entries_of self.old.drawing < 2 ^ 64 - 1 }
+        requires few { entries_of self.old.entries < 2 ^ 64 - 1 }
         requires writes { W.failures output.old < 2 ^ 64 - 1 }
         ensures form { self.new.form ≡ self.old.form }
         ensures reads { self.new.reads ≡ self.old.reads }
         ensures ok { OnOk result ((before : Option Progress) (past : Past) (first : Option (List ℕ)) → Stands self.old before past first (W.taken output.old) → GoesOn (line_read line.now before) self.new past first (W.taken output.new)) }
-        ensures few { OnOk result (entries_of self.new.drawing ≤ entries_of self.old.drawing + 1) }
         ensures fault { IfErr result (λ fault. LineStops fault number (λ kind. (before : Option Progress) → self.old.reader ≡ before → line_read line.now before ≡ Err kind)) }
         ensures failures { W.failures output.new ≡ W.failures output.old + failed_write result }
     {
-        if self.hears_step(line)? {
+        if self.hears_step(line, output)? {
             return Ok(());
         }
         self.any_line(number, line, output)
     }
 
-    /// Returns whether entries are drawn, and no reads. It has no clause, because either branch reads a line in the same
-    /// way.
+    /// Returns whether entries are drawn, and no access is observed. It has no clause, because either branch reads a line in the
+    /// same way.
     #[inline(always)]
-    fn hides_reads(&self) -> bool {
-        match &self.drawing {
-            Some(record) => !record.drawing.shows_reads(),
+    fn observes_none(&self) -> bool {
+        match &self.entries.drawing {
+            Some(record) => !record.drawing.observes(),
             None => false,
         }
     }
 
-    /// Reads a line that follows an entry and is as it is printed for a Step with an access and without a mark, as most
-    /// lines are. Returns whether the line is one. Otherwise nothing is changed, and the line may be any.
+    /// Reads a line that follows an entry that is drawn, and is as it is printed for a Step with an access and without a mark, as
+    /// most lines are. Returns whether the line is one. Otherwise nothing is changed, and the line may be any.
     ///
     /// # Errors
     ///
-    /// Returns [`AllocError`] if memory is lacking.
+    /// Returns [`Fault::Write`] if a call of the sink fails, and [`Fault::Memory`] if memory is lacking.
     #[inline(always)]
-    fn hears_step(&mut self, line: &[u8]) -> Result<bool, AllocError>
+    fn hears_step<W: Sink>(&mut self, line: &[u8], output: &mut W) -> Result<bool, Fault>
         requires short { length line.now ≤ 128 }
-        requires few { entries_of self.old.drawing < 2 ^ 64 - 1 }
+        requires few { entries_of self.old.entries < 2 ^ 64 - 1 }
+        requires writes { W.failures output.old < 2 ^ 64 - 1 }
         ensures form { self.new.form ≡ self.old.form }
         ensures reads { self.new.reads ≡ self.old.reads }
-        ensures heard { IfOk result (λ heard. heard ≡ true → (before : Option Progress) (past : Past) (first now : Option (List ℕ)) → Stands self.old before past first now → GoesOn (line_read line.now before) self.new past first now) }
-        ensures few { OnOk result (entries_of self.new.drawing ≤ entries_of self.old.drawing + 1) }
+        ensures heard { IfOk result (λ heard. heard ≡ true → (before : Option Progress) (past : Past) (first : Option (List ℕ)) → Stands self.old before past first (W.taken output.old) → GoesOn (line_read line.now before) self.new past first (W.taken output.new)) }
         ensures same { IfOk result (λ heard. heard ≡ false → self.new ≡ self.old) }
+        ensures unwritten { IfOk result (λ heard. heard ≡ false → output.new ≡ output.old) }
+        ensures fault { IfErr result IsWriteFault }
+        ensures failures { W.failures output.new ≡ W.failures output.old + failed_write result }
     {
-        let Some(drawing) = &mut self.drawing else {
+        let Some(drawing) = &mut self.entries.drawing else {
             return Ok(false);
         };
-        let Some((_process, access)) = read_step(line) else {
+        let Some((process, access)) = read_step(line) else {
             return Ok(false);
         };
-        drawing.step(access)?;
+        drawing.step(process, access, output)?;
         Ok(true)
     }
 
@@ -141,12 +140,11 @@ impl Sheet {
     #[inline(never)]
     fn any_line<W: Sink>(&mut self, number: u64, line: &[u8], output: &mut W) -> Result<(), Fault>
         requires short { length line.now ≤ 128 }
-        requires few { entries_of self.old.drawing < 2 ^ 64 - 1 }
+        requires few { entries_of self.old.entries < 2 ^ 64 - 1 }
         requires writes { W.failures output.old < 2 ^ 64 - 1 }
         ensures form { self.new.form ≡ self.old.form }
         ensures reads { self.new.reads ≡ self.old.reads }
         ensures ok { OnOk result ((before : Option Progress) (past : Past) (first : Option (List ℕ)) → Stands self.old before past first (W.taken output.old) → GoesOn (line_read line.now before) self.new past first (W.taken output.new)) }
-        ensures few { OnOk result (entries_of self.new.drawing ≤ entries_of self.old.drawing + 1) }
         ensures fault { IfErr result (λ fault. LineStops fault number (λ kind. (before : Option Progress) → self.old.reader ≡ before → line_read line.now before ≡ Err kind)) }
         ensures failures { W.failures output.new ≡ W.failures output.old + failed_write result }
     {
@@ -160,16 +158,17 @@ impl Sheet {
                 let around = Around {
                     alloc: self.alloc,
                     form: self.form,
-                    reads: self.reads,
+                    asked: self.reads,
                 };
-                around.draw_entry(reader.setup(), entry, &mut self.drawing, output)?;
+                self.entries.take(around, reader.setup(), entry, output)?;
                 reader.forget_entry();
             }
         }
         Ok(())
     }
 
-    /// Draws the judge's lines and the end of the record, and returns what was drawn, or `None` if all lines were skipped.
+    /// Draws the entries that are stored, the judge's lines and the end of the record, and returns what was drawn, or `None` if
+    /// all lines were skipped.
     ///
     /// # Errors
     ///
@@ -177,7 +176,7 @@ impl Sheet {
     pub fn end<W: Sink>(&mut self, told: &[u8], output: &mut W) -> Result<Option<DrawnEntry>, Fault>
         requires { W.failures output.old < 2 ^ 64 - 1 }
         ensures none { IfOk result (λ drawn. drawn ≡ None → self.old.reader ≡ None) }
-        ensures ok { IfOk result (λ drawn. IfSome drawn (λ d. (p : Progress) (past : Past) (first : Option (List ℕ)) → self.old.reader ≡ Some p → Stands self.old (Some p) past first (W.taken output.old) → (d.setup ≡ p.head.setup) × EndsAt self.old.reads self.old.form p.head.setup past told.now d.height first (W.taken output.new))) }
+        ensures ok { IfOk result (λ drawn. IfSome drawn (λ d. (p : Progress) (past : Past) (first : Option (List ℕ)) → self.old.reader ≡ Some p → Stands self.old (Some p) past first (W.taken output.old) → (d.setup ≡ p.head.setup) × EndsAsked self.old.reads self.old.form p.head.setup past told.now d.shows d.height first (W.taken output.new))) }
         ensures some { IfOk result (λ drawn. IfSome drawn (λ _. IsSome self.old.reader)) }
         ensures good { IfOk result (λ drawn. IfSome drawn (λ d. checked d.setup ≡ Ok tt)) }
         ensures fault { IfErr result IsWriteFault }
@@ -190,120 +189,14 @@ impl Sheet {
         let around = Around {
             alloc: self.alloc,
             form: self.form,
-            reads: self.reads,
+            asked: self.reads,
         };
-        let height = around.draw_end(reader.setup(), told, &mut self.drawing, output)?;
+        let bands = self.entries.end(around, reader.setup(), told, output)?;
         Ok(Some(DrawnEntry {
             setup: *reader.setup(),
-            height,
+            shows: bands.shows,
+            height: bands.height,
         }))
-    }
-}
-
-/// The form of a picture, and whether it shows reads.
-#[derive(Clone, Copy)]
-struct Around {
-    alloc: Global,
-    form: Form,
-    reads: Reads,
-}
-
-impl Around {
-    /// Draws one more entry. The first entry begins the picture.
-    fn draw_entry<W: Sink>(
-        self,
-        setup: &Setup,
-        entry: &Entry,
-        drawing: &mut Option<RecordDrawing>,
-        output: &mut W,
-    ) -> Result<(), Fault>
-        requires good { checked setup.now ≡ Ok tt }
-        requires few { entries_of drawing.old < 2 ^ 64 - 1 }
-        requires writes { W.failures output.old < 2 ^ 64 - 1 }
-        ensures some { OnOk result (IsSome drawing.new) }
-        ensures drawn { OnOk result ((past : Past) (first : Option (List ℕ)) → DrawsPast self.reads self.form drawing.old setup.now past first (W.taken output.old) → DrawsPast self.reads self.form drawing.new setup.now (entry.now ∷ past) first (W.taken output.new)) }
-        ensures few { OnOk result (entries_of drawing.new ≤ entries_of drawing.old + 1) }
-        ensures fault { IfErr result IsWriteFault }
-        ensures failures { W.failures output.new ≡ W.failures output.old + failed_write result }
-    {
-        if drawing.is_none() {
-            self.begin(setup, drawing, output)?;
-        }
-        match drawing {
-            Some(drawing) => drawing.draw_entry(entry, output),
-            None => Ok(()),
-        }
-    }
-
-    /// Draws the judge's lines and the end, and returns the heights of the bands.
-    fn draw_end<W: Sink>(
-        self,
-        setup: &Setup,
-        told: &[u8],
-        drawing: &mut Option<RecordDrawing>,
-        output: &mut W,
-    ) -> Result<u64, Fault>
-        requires good { checked setup.now ≡ Ok tt }
-        requires writes { W.failures output.old < 2 ^ 64 - 1 }
-        ensures drawn { IfOk result (λ height. (past : Past) (first : Option (List ℕ)) → DrawsPast self.reads self.form drawing.old setup.now past first (W.taken output.old) → EndsAt self.reads self.form setup.now past told.now height first (W.taken output.new)) }
-        ensures fault { IfErr result IsWriteFault }
-        ensures failures { W.failures output.new ≡ W.failures output.old + failed_write result }
-    {
-        if drawing.is_none() {
-            self.begin(setup, drawing, output)?;
-        }
-        match drawing {
-            Some(drawing) => drawing.end(setup, told, output),
-            None => Ok(0),
-        }
-    }
-
-    /// Begins the picture, and writes the start of a page. It is never inlined, because the room in which a picture is made
-    /// would otherwise be cleared before each entry.
-    #[inline(never)]
-    fn begin<W: Sink>(
-        self,
-        setup: &Setup,
-        drawing: &mut Option<RecordDrawing>,
-        output: &mut W,
-    ) -> Result<(), Fault>
-        requires good { checked setup.now ≡ Ok tt }
-        requires writes { W.failures output.old < 2 ^ 64 - 1 }
-        ensures some { OnOk result (IsSome drawing.new) }
-        ensures drawn { OnOk result (DrawsPast self.reads self.form drawing.new setup.now [] (W.taken output.old) (W.taken output.new)) }
-        ensures few { OnOk result (entries_of drawing.new ≡ 0) }
-        ensures fault { IfErr result IsWriteFault }
-        ensures failures { W.failures output.new ≡ W.failures output.old + failed_write result }
-    {
-        let begun = RecordDrawing::new(self.alloc, setup, self.form, self.reads)?;
-        *drawing = Some(begun);
-        self.write_head(setup, output)
-    }
-
-    /// Writes the start of a page, if the form is one.
-    fn write_head<W: Sink>(self, setup: &Setup, output: &mut W) -> Result<(), Fault>
-        requires { W.failures output.old < 2 ^ 64 - 1 }
-        ensures heads { OnOk result (Heads self.reads self.form setup.now (W.taken output.old) (W.taken output.new)) }
-        ensures fault { IfErr result IsWriteFault }
-        ensures failures { W.failures output.new ≡ W.failures output.old + failed_write result }
-    {
-        match self.form {
-            Form::Page => {
-                let head = self.head(setup)?;
-                write_markup(&head, output)
-            }
-            Form::Picture(_) => Ok(()),
-        }
-    }
-
-    /// Returns the start of a page.
-    fn head(self, setup: &Setup) -> Result<Markup, AllocError>
-        ensures draws { IfOk result (λ markup. markup ≡ page_front setup.now (listed setup.now) self.reads) }
-        ensures lines { IfOk result (λ markup. lines_in markup ≡ []) }
-        ensures elements { IfOk result (λ markup. opens_in markup (Some []) ≡ Some page_names) }
-    {
-        let printed = listed_lines(self.alloc, setup)?;
-        page_head(self.alloc, setup, printed.as_slice(), self.reads)
     }
 }
 
@@ -312,14 +205,4 @@ fn fault_at(line: u64, kind: FaultKind) -> Fault
     ensures { result ≡ Fault.Line (record { line = line; kind = kind }) }
 {
     Fault::Line(LineFault { line, kind })
-}
-
-/// Returns the lines that a page lists: the headings and the opening pairs of a record, and one line that stands for its
-/// entries.
-fn listed_lines(alloc: Global, setup: &Setup) -> Result<Vec<u8>, AllocError>
-    ensures { IfOk result (λ lines. lines.items ≡ listed setup.now) }
-{
-    let mut lines = print_setup(alloc, setup)?;
-    lines.extend_from_slice(b"(entries)\n")?;
-    Ok(lines)
 }

@@ -1,7 +1,6 @@
 //! The run of a scenario as it is drawn.
 ghost use Rattle.std.specs.Prelude.{◌≡◌, ◌+◌, ◌-◌, ◌^◌, ◌<◌, [], ◌∷◌, length, IfErr, IfOk, Ok, OnOk};
-ghost use Rattle.plain_store.specs.{checked};
-ghost use Rattle.picture.specs.declared.reads.Reads.{Reads as Mode};
+ghost use Rattle.record.specs.plain_store.{checked};
 ghost use Rattle.picture.specs.{Plan};
 ghost use Rattle.draw.specs.Canvases.{DrawsBands, DrawsLast, kept, kept_at_first, plan_of};
 ghost use Rattle.draw.specs.Drawings.{Recalls};
@@ -10,14 +9,17 @@ ghost use Rattle.scenario.specs.{script};
 ghost use Rattle.course.specs.{Follows, counted, happenings, run_at_start, summary_of};
 ghost use Rattle.draw.specs.RunDrawings.{DrawsTold, tally};
 ghost use Rattle.draw.specs.RunItems.{run_given, says_end};
+ghost use Rattle.draw.specs.Views.{full_view};
+ghost use Rattle.draw.specs.declared.views.AccessView.{AccessView as Seen};
 
 mod listening;
 
 use crate::drawing::{Drawing, lines_of_setup};
+use crate::views::AccessView;
 use course::{Course, Summary, Told, newest_words};
 use listening::draw_line;
 use picture::{Form, Reads, Saying};
-use plain_store::{NestedTypes, Setup};
+use record_accesses::plain_store::{NestedTypes, Setup};
 use scenario::progress::{LinePlace, Onlooker};
 use scenario::{Fault, Scenario, Sink};
 use std::alloc::Global;
@@ -45,7 +47,7 @@ pub(crate) fn draw_bands<W: Sink, L: Onlooker>(
     onlooker: &mut L,
 ) -> Result<(Summary, u64), Fault>
     requires { W.failures output.old < 2 ^ 64 - 1 }
-    ensures ok { IfOk result (λ answer. DrawsBands (plan_of form scenario.now.setup) (W.taken output.old) (W.taken output.new) (run_given reads (script scenario.now)) answer.1) }
+    ensures ok { IfOk result (λ answer. DrawsBands (plan_of form scenario.now.setup) (W.taken output.old) (W.taken output.new) (run_given (full_view reads) (script scenario.now)) answer.1) }
     ensures summary { IfOk result (λ answer. answer.0 ≡ summary_of scenario.now.setup (happenings (script scenario.now))) }
     ensures fault { IfErr result IsWriteFault }
     ensures failures { W.failures output.new ≡ W.failures output.old + failed_write result }
@@ -69,13 +71,13 @@ fn draw_lines<W: Sink, L: Onlooker>(
     requires tally { tally run.old ≡ record { events = 0; taken = 0; refused = 0 } }
     requires source { run.old.drawing.source ≡ length scenario.now.setup.opening + 5 }
     requires writes { W.failures output.old < 2 ^ 64 - 1 }
-    ensures ok { IfOk result (λ answer. (plan : Plan) (mode : Mode)
+    ensures ok { IfOk result (λ answer. (plan : Plan) (view : Seen)
         → kept run.old.drawing.canvas ≡ kept_at_first plan
-        → Recalls mode scenario.now.setup [] run.old.drawing
-        → DrawsBands plan (W.taken output.old) (W.taken output.new) (run_given mode (script scenario.now)) answer.1) }
-    ensures summary { IfOk result (λ answer. (plan : Plan) (mode : Mode)
+        → Recalls view scenario.now.setup [] run.old.drawing
+        → DrawsBands plan (W.taken output.old) (W.taken output.new) (run_given view (script scenario.now)) answer.1) }
+    ensures summary { IfOk result (λ answer. (plan : Plan) (view : Seen)
         → kept run.old.drawing.canvas ≡ kept_at_first plan
-        → Recalls mode scenario.now.setup [] run.old.drawing
+        → Recalls view scenario.now.setup [] run.old.drawing
         → answer.0 ≡ summary_of scenario.now.setup (happenings (script scenario.now))) }
     ensures fault { IfErr result IsWriteFault }
     ensures failures { W.failures output.new ≡ W.failures output.old + failed_write result }
@@ -96,14 +98,16 @@ impl RunDrawing {
         ensures tally { IfOk result (λ run. tally run ≡ record { events = 0; taken = 0; refused = 0 }) }
         ensures first { IfOk result (λ run. kept run.drawing.canvas ≡ kept_at_first (plan_of form setup.now)) }
         ensures source { IfOk result (λ run. run.drawing.source ≡ length setup.now.opening + 5) }
-        ensures recalls { IfOk result (λ run. Recalls reads setup.now [] run.drawing) }
+        ensures recalls { IfOk result (λ run. Recalls (full_view reads) setup.now [] run.drawing) }
         ensures fault { IfErr result IsWriteFault }
         ensures failures { failed_write result ≡ 0 }
     {
         let source = lines_of_setup(setup);
+        let view = AccessView::full(reads);
+        let drawing = Drawing::new(alloc, setup, form, view, source)?;
         Ok(RunDrawing {
             alloc,
-            drawing: Drawing::new(alloc, setup, form, reads, source)?,
+            drawing,
             refused: 0,
         })
     }

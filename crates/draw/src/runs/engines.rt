@@ -1,6 +1,6 @@
 //! The commands `draw` and `draw-svg` for scenarios.
 ghost use Rattle.std.specs.Prelude.{◌≡◌, ◌+◌, ◌-◌, ◌^◌, ◌<◌, [], IfErr, IfOk, Ok, OnOk, Some};
-ghost use Rattle.plain_store.specs.{checked, opening_store};
+ghost use Rattle.record.specs.plain_store.{checked, opening_store};
 ghost use Rattle.draw.specs.StoreChanges.{store_words as store_words_of};
 ghost use Rattle.draw.specs.Writing.{IsWriteFault, failed_write};
 ghost use Rattle.picture.specs.{page_back, page_names};
@@ -24,9 +24,9 @@ use std::alloc::Global;
 /// Reads a scenario file, and writes the page of its run: a picture in bands, each of which is written when it is full.
 ///
 /// If it succeeds, the output is the page of the items that the run gives, and nothing else. These items are the lines of
-/// the run, each with the line of the scenario that makes it and with what its command changed, and the overlapped reads, if
-/// they are to be shown. The page lists the lines of the file as they are. The titles of the marks, read back, are the lines
-/// that `replay` writes for the file. The tags match, and no element is open at the end.
+/// the run, each with the line of the scenario that makes it and with what its command changed, and the overlapped reads or
+/// all accesses with all waves, if `reads` asks for them. The page lists the lines of the file as they are. The titles of the
+/// marks, read back, are the lines that `replay` writes for the file. The tags match, and no element is open at the end.
 ///
 /// # Errors
 ///

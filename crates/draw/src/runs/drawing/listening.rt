@@ -1,8 +1,9 @@
 //! A listener that draws the turns of a run.
-ghost use Rattle.std.specs.Prelude.{◌≡◌, ◌+◌, ◌-◌, ◌^◌, ◌<◌, ℕ, Err, IfErr, OnOk, is_some, refl};
+ghost use Rattle.std.specs.Prelude.{◌≡◌, ◌+◌, ◌-◌, ◌^◌, ◌<◌, ℕ, Err, IfErr, OnOk, refl};
 ghost use Rattle.std.proofs.Common.{add-zero, ap, sym, ◌∙◌};
 ghost use Rattle.draw.specs.Writing.{IsWriteFault, failed_write};
 ghost use Rattle.course.specs.{CanCount, can_count_less};
+ghost use Rattle.draw.specs.Drawings.{observes};
 ghost use Rattle.draw.specs.RunDrawings.{DrawsLine, GoesOnDrawing, tally};
 
 use super::RunDrawing;
@@ -29,8 +30,9 @@ pub(super) fn draw_line<W: Sink>(
     course.play(line, &mut listener)
 }
 
-/// Draws the turns of a run. If no reads are shown, Steps without a mark pass by, many at once. Otherwise each of them is
-/// observed with its access. Nothing is drawn of such a Step, because it has no mark.
+/// Draws the turns of a run. If no accesses are observed, Steps without a mark pass by, many at once. Otherwise each of them is
+/// observed with its access, which is drawn if all accesses are shown. Nothing else is drawn of such a Step, because it has no
+/// mark.
 #[derive(Drop)]
 struct RunDrawer<'a, W: Sink> {
     run: &'a mut RunDrawing,
@@ -38,11 +40,11 @@ struct RunDrawer<'a, W: Sink> {
 }
 
 impl<'a, W: Sink> Listener for RunDrawer<'a, W> {
-    ghost hears_steps = { λ drawer. is_some drawer.run.now.drawing.canvas.overlaps };
+    ghost hears_steps = { λ drawer. observes drawer.run.now.drawing };
 
     #[inline(always)]
     fn hears_steps(&self) -> bool {
-        self.run.drawing.shows_reads()
+        self.run.drawing.observes()
     }
 
     fn events(&self) -> u64 {
@@ -60,8 +62,9 @@ impl<'a, W: Sink> Listener for RunDrawer<'a, W> {
     }
 
     fn step(&mut self, made: Stepped) -> Result<(), Fault> {
-        self.run.drawing.step(made.access, made.overlapped)?;
-        Ok(())
+        self.run
+            .drawing
+            .step(made.process, made.access, made.overlapped, self.output)
     }
 
     fn pass(&mut self, _process: u8, steps: u32, _newest: Move, _overlapped: u32) {

@@ -1,10 +1,18 @@
-use Rattle.std.proofs.Common.{◌+◌, refl}
+use Rattle.std.proofs.Common.{◌+◌, ℕ, ap, refl, sym}
 use Rattle.draw.specs.{entries_among, reads_since}
 use Rattle.draw.proofs.Drawings.{entry_drawn}
 use Rattle.draw.proofs.drawing.Drawing.draw_entry.Goals as goal
 
 pub returns-clause-drawn : goal.returns-clause-drawn
-returns-clause-drawn g c = λ mode s parts e process access marks tells recalls.
+returns-clause-drawn g c = λ view s parts e process access marks tells recalls.
     let d = c.args.self.now in
-    entry_drawn mode s parts e d (record d { canvas = c.draw_marks.new.self; store = c.draw_marks.new.store; entries = d.entries + 1 }) c.hear.new.self (g.W.Sink.taken c.args.output.now) (g.W.Sink.taken c.draw_marks.new.output)
-    c.args.process c.args.marks.now process marks c.hear.ensures.kept recalls (c.in_ok-hear.ensures.hears mode s (entries_among parts) (reads_since s parts) e access recalls.waits recalls.entries tells) c.in_ok-draw_marks.ensures.ok refl
+    let mid = c.draw_access.new.self in
+    let shown = c.in_ok-draw_access.ensures in
+    let past = entries_among parts in
+    entry_drawn view s parts e d mid (record mid { canvas = c.draw_marks.new.self; store = c.draw_marks.new.store; entries = mid.entries + 1 }) c.hear.new.self
+    (g.W.Sink.taken c.args.output.now) (g.W.Sink.taken c.draw_access.new.output) (g.W.Sink.taken c.draw_marks.new.output)
+    c.args.process c.args.access c.args.marks.now process access marks c.hear.ensures.kept recalls
+    (c.in_ok-hear.ensures.hears view.reads s past (reads_since s parts) e access recalls.waits recalls.entries tells)
+    (shown.drawn view s past c.args.marks.now recalls.entries (sym c.drops_open_read.ensures) recalls.accesses)
+    shown.overlaps shown.store shown.source
+    c.in_ok-draw_marks.ensures.ok refl (ap (λ (n : ℕ). n + 1) shown.entries)

@@ -1,11 +1,23 @@
-use Rattle.std.proofs.Common.{◌≡◌, [], Some, length, refl, arith}
+use Rattle.std.proofs.Common.{◌+◌, ℕ, [], Option, Some, ap, refl}
 use Rattle.judge.specs.read_law.{entry_by}
+use Rattle.record.specs.{Access}
 use Rattle.draw.specs.{entries_among, reads_since}
+use Rattle.draw.proofs.Drawings.{entry_drawn}
+use Rattle.draw.proofs.Drawn.{draws_no_marks}
 use Rattle.draw.proofs.drawing.Drawing.step.Goals as goal
 
-pub returns-clause-recalls : goal.returns-clause-recalls
-returns-clause-recalls c = λ mode s parts p tells recalls. record {
-  entries = let n : c.args.self.now.entries ≡ length (entries_among parts) = recalls.entries in omega (arith, n);
-  store = recalls.store;
-  waits = c.in_ok-hear.ensures.hears mode s (entries_among parts) (reads_since s parts) (entry_by p (Some c.args.access) []) refl recalls.waits recalls.entries tells;
-}
+pub returns-clause-drawn : goal.returns-clause-drawn
+returns-clause-drawn g c = λ view s parts tells recalls.
+    let d = c.args.self.now in
+    let p = c.args.process in
+    let access : Option Access = Some c.args.access in
+    let mid = c.draw_access.new.self in
+    let shown = c.in_ok-draw_access.ensures in
+    let past = entries_among parts in
+    let b = g.W.Sink.taken c.draw_access.new.output in
+    entry_drawn view s parts (entry_by p access []) d mid (record mid { entries = mid.entries + 1 }) c.hear.new.self (g.W.Sink.taken c.args.output.now) b b
+    p access [] refl refl refl c.hear.ensures.kept recalls
+    (c.in_ok-hear.ensures.hears view.reads s past (reads_since s parts) (entry_by p access []) refl recalls.waits recalls.entries tells)
+    (shown.drawn view s past [] recalls.entries refl recalls.accesses)
+    shown.overlaps shown.store shown.source
+    (draws_no_marks mid.canvas mid.store b mid.source d.entries p) refl (ap (λ (n : ℕ). n + 1) shown.entries)

@@ -2,13 +2,13 @@ use Rattle.std.proofs.Common.{◌≡◌, ℕ, ◌+◌, Bool, List, [], Option, S
 use Rattle.scenario.specs.files.{Fault, GoesToNext, coming, failed_reading}
 use Rattle.scenario.specs.files.declared.faults.Fault.TheVariants.{Line}
 use Rattle.scenario.specs.files.declared.faults.FaultKind.TheVariants.{NotFirst}
-use Rattle.plain_store.specs.{checked}
+use Rattle.record.specs.plain_store.{checked}
 use Rattle.picture.specs.{Form}
 use Rattle.picture.specs.declared.reads.Reads.{Reads as Mode}
 use Rattle.record.specs.{Past}
 use Rattle.judge.specs.record_file.{Progress, line_read}
 use Rattle.draw.specs.{failed_write}
-use Rattle.draw.specs.{DrawnEntry, DrawsAllBands, EndsAt, IsDrawFault, Stands}
+use Rattle.draw.specs.{DrawnEntry, DrawsAllBands, EndsAsked, IsDrawFault, Stands}
 use Rattle.judge.proofs.Ends.{if_err, none_told}
 use Rattle.draw.proofs.RecordEnds.{drawing_read, next_wrote, no_value, onwards_drawn, onwards_fault, onwards_few, onwards_none, onwards_on, onwards_start, onwards_stop, reading_same, read_some}
 use Rattle.draw.proofs.Written.{failed_same}
@@ -109,7 +109,7 @@ returns-in-Some g c =
     record {
       drawn = subst (λ (m : Mode). drawn m c.args.sheet.now.form) c.lines.invariant.reads (subst (λ (f : Form). drawn t.reads f) c.lines.invariant.form
           (onwards_drawn all mid c.lines.lines.taken t first now then c.lines.invariant.onwards read.0 d read.1 ends.before
-          (subst (λ (o : Option DrawnEntry). IfSome o (λ d. (p : Progress) (past : Past) (first : Option (List ℕ)) → t.reader ≡ Some p → Stands t (Some p) past first now → (d.setup ≡ p.head.setup) × EndsAt t.reads t.form p.head.setup past [] d.height first then)) c.in-Some.is ended.ok)));
+          (subst (λ (o : Option DrawnEntry). IfSome o (λ d. (p : Progress) (past : Past) (first : Option (List ℕ)) → t.reader ≡ Some p → Stands t (Some p) past first now → (d.setup ≡ p.head.setup) × EndsAsked t.reads t.form p.head.setup past [] d.shows d.height first then)) c.in-Some.is ended.ok)));
       good = subst (λ (o : Option DrawnEntry). IfSome o (λ d. checked d.setup ≡ Ok tt)) c.in-Some.is ended.good;
       end = c.in_ok-next.ensures.holds c.lines.invariant.holds (c.in_ok-next.ensures.ended c.if-branch.false);
       fault = tt;

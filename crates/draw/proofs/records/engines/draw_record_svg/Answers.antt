@@ -12,7 +12,7 @@ returns-in-Ok g c =
     let bands = subst (λ (l : List ℕ). IfSome all (DrawsAllBands c.args.reads (form.Picture 34) c.in-Ok.drawn (Some l) (Some bytes))) c.new-bands.ensures.bytes c.in-Ok.ensures.drawn in
     drew_last c.args.reads (form.Picture 34) c.write_picture.result _ _
     (ok_then c.write_picture.result
-    (λ ends. if_some all _ _ (λ text. of_record_then _ _ text (λ s entries numbers bands. ends (record { setup = s; entries = entries }) []
+    (λ ends. if_some all _ _ (λ text. of_record_then _ _ text (λ s entries numbers bands. ends c.args.reads (record { setup = s; entries = entries }) []
     (subst (λ (l : List ℕ). DrawsBandsOf c.args.reads (form.Picture 34) c.in-Ok.drawn (Some []) (Some l) (record { setup = s; entries = entries }) []) (sym c.bytes.ensures) bands))) bands)
     c.write_picture.ensures.ok)
     c.in-Ok.ensures.end c.write_picture.ensures.fault (omega (arith, c.write_picture.ensures.failures))

@@ -1,5 +1,5 @@
 use Rattle.picture.specs.declared.page.Form.TheVariants as form
-use Rattle.draw.specs.{DrawsBandsOf, DrawsSaid}
+use Rattle.draw.specs.{DrawsAsked, DrawsBandsOf}
 use Rattle.draw.proofs.Whole.{judged_all}
 use Rattle.draw.proofs.records.engines.judged_page.Goals as goal
 
@@ -7,7 +7,7 @@ pub returns : goal.returns
 returns g c =
     let reads = c.args.reads in
     let first = g.W.Sink.taken c.args.output.now in (
-      judged_all g.H.Judging.Keeps g.H.Hearer.Tells c.in_ok-drawn.status (DrawsBandsOf reads form.Page c.in_ok-drawn.drawn first (g.W.Sink.taken c.judge_bands.new.output)) (λ said told. DrawsSaid reads form.Page said told first (g.W.Sink.taken c.end_page.new.output))
+      judged_all g.H.Judging.Keeps g.H.Hearer.Tells c.in_ok-drawn.status (DrawsBandsOf reads form.Page c.in_ok-drawn.drawn first (g.W.Sink.taken c.judge_bands.new.output)) (λ said told. DrawsAsked reads form.Page said told first (g.W.Sink.taken c.end_page.new.output))
           (λ said told bands. c.in_ok-end_page.ensures.ok reads said told first bands) (g.R.Source.to_come c.args.input.now) c.in_ok-drawn.ensures.drawn,
       c.in_ok-drawn.ensures.end,
     )

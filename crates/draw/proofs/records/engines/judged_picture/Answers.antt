@@ -1,7 +1,7 @@
 use Rattle.std.proofs.Common.{List, ℕ, [], Some, IfSome, subst, sym}
 use Rattle.judge.specs.{IsOfRecord}
 use Rattle.picture.specs.declared.page.Form.TheVariants as form
-use Rattle.draw.specs.{DrawsBandsOf, DrawsSaid, IsJudged}
+use Rattle.draw.specs.{DrawsAsked, DrawsBandsOf, IsJudged}
 use Rattle.draw.proofs.Whole.{judged_all}
 use Rattle.draw.proofs.records.engines.judged_picture.Goals as goal
 
@@ -12,7 +12,7 @@ returns-in-Ok g c =
     let bytes : List ℕ = c.judge_bands.new.output.bytes.items in
     let bands = λ (was now : List ℕ). DrawsBandsOf reads (form.Picture 34) c.in-Ok.drawn (Some was) (Some now) in
     let drawn = subst (λ (was : List ℕ). IfSome all (IsOfRecord (IsJudged g.H.Judging.Keeps g.H.Hearer.Tells c.in-Ok.status (bands was bytes)))) c.new-bands.ensures.bytes c.in-Ok.ensures.drawn in (
-      judged_all g.H.Judging.Keeps g.H.Hearer.Tells c.in-Ok.status (bands [] bytes) (λ said told. DrawsSaid reads (form.Picture 34) said told (g.W.Sink.taken c.args.output.now) (g.W.Sink.taken c.write_picture.new.output))
-          (λ said told held. c.in_ok-write_picture-in-Ok.ensures.ok said told (subst (λ (now : List ℕ). bands [] now said told) (sym c.bytes.ensures) held)) all drawn,
+      judged_all g.H.Judging.Keeps g.H.Hearer.Tells c.in-Ok.status (bands [] bytes) (λ said told. DrawsAsked reads (form.Picture 34) said told (g.W.Sink.taken c.args.output.now) (g.W.Sink.taken c.write_picture.new.output))
+          (λ said told held. c.in_ok-write_picture-in-Ok.ensures.ok reads said told (subst (λ (now : List ℕ). bands [] now said told) (sym c.bytes.ensures) held)) all drawn,
       c.in-Ok.ensures.end,
     )

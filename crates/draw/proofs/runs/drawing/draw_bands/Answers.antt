@@ -1,15 +1,16 @@
 use Rattle.std.proofs.lemmas.Result.{IfOk-weaker}
-use Rattle.draw.specs.{plan_of}
+use Rattle.draw.specs.{full_view, plan_of}
 use Rattle.draw.proofs.runs.drawing.draw_bands.Goals as goal
 
 pub returns : goal.returns
 returns g c =
     let begun = c.in_ok-run.ensures in
     let plan = plan_of c.args.form c.args.scenario.now.setup in
+    let view = full_view c.args.reads in
     let drawn = c.draw_lines.ensures in
     record {
-      ok = IfOk-weaker c.draw_lines.result _ _ (λ answer is. is plan c.args.reads begun.first begun.recalls) drawn.ok;
-      summary = IfOk-weaker c.draw_lines.result _ _ (λ answer is. is plan c.args.reads begun.first begun.recalls) drawn.summary;
+      ok = IfOk-weaker c.draw_lines.result _ _ (λ answer is. is plan view begun.first begun.recalls) drawn.ok;
+      summary = IfOk-weaker c.draw_lines.result _ _ (λ answer is. is plan view begun.first begun.recalls) drawn.summary;
       fault = drawn.fault;
       failures = drawn.failures;
     }

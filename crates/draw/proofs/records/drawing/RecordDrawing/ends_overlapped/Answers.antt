@@ -4,9 +4,9 @@ use Rattle.draw.proofs.Overhearing.{watches_hidden}
 use Rattle.draw.proofs.records.drawing.RecordDrawing.ends_overlapped.Goals as goal
 
 pub returns-then-not-shows_reads-clause-overlapped : goal.returns-then-not-shows_reads-clause-overlapped
-returns-then-not-shows_reads-clause-overlapped c = λ mode s parts e access recalls.
+returns-then-not-shows_reads-clause-overlapped c = λ view s parts e access recalls.
     let d = c.args.self.now in
-    watches_hidden mode s (entries_among parts) (reads_since s parts) e c.args.access d.drawing.canvas.overlaps d.watch.watch (sym c.shows_reads.ensures ∙ c.if-not-shows_reads.true) recalls.drawing.waits recalls.watches
+    watches_hidden view.reads s (entries_among parts) (reads_since s parts) e c.args.access d.drawing.canvas.overlaps d.watch.watch (sym c.shows_reads.ensures ∙ c.if-not-shows_reads.true) recalls.drawing.waits recalls.watches
 
 pub returns-clause-overlapped : goal.returns-clause-overlapped
-returns-clause-overlapped c = λ mode s parts e access recalls. c.hear.ensures mode s (entries_among parts) e access recalls.watches
+returns-clause-overlapped c = λ view s parts e access recalls. c.hear.ensures view.reads s (entries_among parts) e access recalls.watches

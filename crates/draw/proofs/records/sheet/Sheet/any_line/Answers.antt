@@ -1,6 +1,6 @@
 use Rattle.std.proofs.Common.{◌≡◌, List, [], ◌∷◌, ℕ, Option, Some, None, Ok, refl, ap, subst, ◌∙◌}
 use Rattle.std.specs.Option.{option_to_list}
-use Rattle.plain_store.specs.{Setup}
+use Rattle.record.specs.plain_store.{Setup}
 use Rattle.scenario.specs.files.{words_of, words_read}
 use Rattle.record.specs.{Entry, Past}
 use Rattle.judge.specs.record_file.{Progress, cleared, entry_in, record_grammar}
@@ -9,17 +9,17 @@ use Rattle.judge.proofs.Lines.{quiet_is_cleared}
 use Rattle.draw.proofs.Lines.{ends_drawn, ends_quiet}
 use Rattle.draw.proofs.records.sheet.Sheet.any_line.Goals as goal
 
-pub returns-in_ok-draw_entry-clause-ok : goal.returns-in_ok-draw_entry-clause-ok
-returns-in_ok-draw_entry-clause-ok g c =
+pub returns-in_ok-take-clause-ok : goal.returns-in_ok-take-clause-ok
+returns-in_ok-take-clause-ok g c =
     let old : Sheet = c.args.self.now in
     let now : Progress = c.in-Some.reader in
     let e : Entry = c.in-Some-last_entry.entry.now in
-    let t : Sheet = record old { reader = Some c.forget_entry.new.self; drawing = c.draw_entry.new.drawing } in
+    let t : Sheet = record old { reader = Some c.forget_entry.new.self; entries = c.take.new.self } in
     let left : Some c.forget_entry.new.self ≡ cleared (Some now) = ap (λ (p : Progress). Some p) c.forget_entry.ensures in
     let says : now.entry ≡ Some e = c.in-Some-last_entry.ensures in
     let read : words_read record_grammar (words_of c.args.line.now) old.reader ≡ Ok (Some now) = c.in-Ok.ensures ∙ ap (λ (o : Option Progress). Ok o) c.in-Some.is in
-    let draws = subst (λ (s : Setup). (past : Past) (first : Option (List ℕ)) → DrawsPast old.reads old.form old.drawing s past first (g.W.Sink.taken c.args.output.now) → DrawsPast old.reads old.form t.drawing s (e ∷ past) first (g.W.Sink.taken c.draw_entry.new.output)) c.setup.ensures.value c.in_ok-draw_entry.ensures.drawn in
-    λ before past first stands. ends_drawn c.args.line.now before now e old t past first _ _ c.requires.short stands read says left refl refl c.in_ok-draw_entry.ensures.some draws
+    let draws = subst (λ (s : Setup). (past : Past) (first : Option (List ℕ)) → DrawsPast old.reads old.form old.entries s past first (g.W.Sink.taken c.args.output.now) → DrawsPast old.reads old.form t.entries s (e ∷ past) first (g.W.Sink.taken c.take.new.output)) c.setup.ensures.value c.in_ok-take.ensures.drawn in
+    λ before past first stands. ends_drawn c.args.line.now before now e old t past first _ _ c.requires.short stands read says left refl refl draws
 
 pub returns-in_default-last_entry-clause-ok : goal.returns-in_default-last_entry-clause-ok
 returns-in_default-last_entry-clause-ok g c =

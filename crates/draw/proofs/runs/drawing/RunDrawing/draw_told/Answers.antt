@@ -10,5 +10,5 @@ returns-in-Accepted-clause-drawn g c =
     let made = c.in-Accepted.made in
     ok_then c.draw_entry.result
     (λ drew. subst (λ (t : Told). DrawsTold self (record self { drawing = c.draw_entry.new.self }) t (g.W.Sink.taken c.args.output.now) (g.W.Sink.taken c.draw_entry.new.output)) (sym c.in-Accepted.is)
-    (λ mode s parts tells recalls. drew mode s parts (entry_made made) (sym c.process-process.ensures) refl (sym (c.as_slice.ensures ∙ c.marks-marks.ensures)) tells recalls))
+    (λ view s parts tells recalls. drew view s parts (entry_made made) (sym c.process-process.ensures) refl (sym (c.as_slice.ensures ∙ c.marks-marks.ensures)) tells recalls))
     c.draw_entry.ensures.drawn

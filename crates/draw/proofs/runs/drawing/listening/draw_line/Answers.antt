@@ -8,7 +8,7 @@ use Rattle.draw.proofs.Turning.{run_none}
 use Rattle.draw.proofs.runs.drawing.listening.draw_line.Goals as goal
 
 pub returns-clause-ok : goal.returns-clause-ok
-returns-clause-ok g c = ok_then c.play.result (λ plays mode run follows counts recalls.
+returns-clause-ok g c = ok_then c.play.result (λ plays view run follows counts recalls.
     let s = c.args.course.now.world.setup in
     let old = c.args.run.now in
     let taken = g.W.Sink.taken c.args.output.now in
@@ -17,9 +17,9 @@ returns-clause-ok g c = ok_then c.play.result (λ plays mode run follows counts 
     record {
       follows = played.follows;
       setup = played.setup;
-      drawn = subst (λ w. HasDrawnRun mode s (parts_of s run.happened) (kept old.drawing.canvas) taken after c.run-1.given.0 (g.W.Sink.taken w)) (sym (c.output-1.given.1 (sym played.hears.0)))
-          (subst (λ (d : RunDrawing). HasDrawnRun mode s (parts_of s run.happened) (kept old.drawing.canvas) taken after d (g.W.Sink.taken c.play.new.listener.output.now)) (sym (c.run-1.given.1 (sym played.hears.1)))
-          (played.hears.4 mode (parts_of s run.happened) (kept old.drawing.canvas) taken (run_none mode s run.happened old taken counts recalls)));
+      drawn = subst (λ w. HasDrawnRun view s (parts_of s run.happened) (kept old.drawing.canvas) taken after c.run-1.given.0 (g.W.Sink.taken w)) (sym (c.output-1.given.1 (sym played.hears.0)))
+          (subst (λ (d : RunDrawing). HasDrawnRun view s (parts_of s run.happened) (kept old.drawing.canvas) taken after d (g.W.Sink.taken c.play.new.listener.output.now)) (sym (c.run-1.given.1 (sym played.hears.1)))
+          (played.hears.4 view (parts_of s run.happened) (kept old.drawing.canvas) taken (run_none view s run.happened old taken counts recalls)));
     }) c.play.ensures.ok
 
 pub returns-clause-source : goal.returns-clause-source

@@ -13,7 +13,7 @@ returns-clause-ok g c =
       refl,
       c.draw_told.ensures.source,
       whole,
-      λ mode start had from d. told_drawn mode s start had from before this answer old.run.now c.draw_told.new.self _ _ happens both.0 both.1 c.draw_told.ensures.source d,
+      λ view start had from d. told_drawn view s start had from before this answer old.run.now c.draw_told.new.self _ _ happens both.0 both.1 c.draw_told.ensures.source d,
     )) (ok_with c.draw_told.result _ _ c.draw_told.ensures.drawn c.draw_told.ensures.count) c.draw_told.ensures.failures
 
 pub returns-clause-cut : goal.returns-clause-cut

@@ -10,5 +10,5 @@ returns-clause-ok g c = λ none s before after newest is passed. (
   refl,
   ap (λ (d : Drawing). d.source) c.pass.ensures,
   refl,
-  λ mode start had from d. run_passed mode s start had from c.args.steps before after c.args.self.now.run.now c.pass.new.self _ none (within_quietly s _ c.args.steps before after passed.within) c.pass.ensures d,
+  λ view start had from d. run_passed view s start had from c.args.steps before after c.args.self.now.run.now c.pass.new.self _ none (within_quietly s _ c.args.steps before after passed.within) c.pass.ensures d,
 )

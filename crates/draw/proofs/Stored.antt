@@ -1,0 +1,113 @@
+-- The entries of a record are stored, and then they are drawn.
+use Rattle.std.proofs.Common.{◌≡◌, ◌<◌, ◌≤◌, ℕ, suc, ◌+◌, Bool, true, false, cond, nat_le, List, [], ◌∷◌, ◌++◌, length, reverse, slice_index_or, take, Option, refl, ap, sym, subst, ◌∙◌, arith}
+use Rattle.std.proofs.lemmas.Bool.{le-leb, lt-leb}
+use Rattle.std.proofs.lemmas.List.{length-reverse, reverse-append, reverse-reverse, take_more}
+use Rattle.record.specs.plain_store.{Setup}
+use Rattle.picture.specs.{Form}
+use Rattle.picture.specs.declared.reads.Reads.{Reads as Mode}
+use Rattle.picture.specs.declared.reads.Reads.TheVariants as modes
+use Rattle.record.specs.{Entry, Past}
+use Rattle.draw.specs.{AreDrawn, AreStored, DrawsEntry, DrawsLast, EndsAsked, EndsAt, IsDecided, IsDrawn, RecordDrawing, SaysEnd, AccessView, full_view, most_stored, record_view, short_view, source_of}
+use Rattle.draw.proofs.Sheeted.{drawn_end, drawn_entry}
+
+-- What is decided.
+
+-- where all accesses are asked for, they are shown
+view_of_all : (n : ℕ) → record_view modes.All n ≡ full_view modes.All
+view_of_all n = by (nat_le n 400)
+  where
+    by : (b : Bool) → cond b (short_view modes.All) (full_view modes.All) ≡ full_view modes.All
+    by true = refl
+    by false = refl
+
+-- it is decided once there are more entries than are stored
+many_view : (asked : Mode) (n : ℕ) → 400 < n → record_view asked n ≡ full_view asked
+many_view asked n many = ap (λ b. cond b (short_view asked) (full_view asked)) (lt-leb n 400 many)
+
+decided_many : (asked : Mode) (n : ℕ) → most_stored asked < n → IsDecided asked n
+decided_many modes.All n many = λ more. view_of_all (n + more)
+decided_many modes.Hidden n many = λ more. let above : 400 < n = many in many_view modes.Hidden (n + more) (omega (arith, above))
+decided_many modes.Shown n many = λ more. let above : 400 < n = many in many_view modes.Shown (n + more) (omega (arith, above))
+
+-- and stays so
+decided_later : (asked : Mode) (n : ℕ) → IsDecided asked n → IsDecided asked (suc n)
+decided_later asked n decided = λ more. let same : suc n + more ≡ n + suc more = omega arith in ap (record_view asked) same ∙ decided (suc more)
+
+-- so it is shown
+decided_view : (asked : Mode) (n : ℕ) → IsDecided asked n → record_view asked n ≡ full_view asked
+decided_view asked n decided = let same : n ≡ n + 0 = omega arith in ap (record_view asked) same ∙ decided 0
+
+-- a picture of no more entries than are stored shows all accesses
+few_view : (asked : Mode) (n : ℕ) → n ≤ most_stored asked → record_view asked n ≡ short_view asked
+few_view modes.All n few = view_of_all n
+few_view modes.Hidden n few = ap (λ b. cond b (short_view modes.Hidden) (full_view modes.Hidden)) (le-leb n 400 few)
+few_view modes.Shown n few = ap (λ b. cond b (short_view modes.Shown) (full_view modes.Shown)) (le-leb n 400 few)
+
+-- Lists of entries.
+
+-- one entry more is the last one
+last_of : (e : Entry) (past : Past) → reverse past ++ e ∷ [] ≡ reverse (e ∷ past)
+last_of e past = sym (reverse-append (e ∷ []) past)
+
+-- the first k + 1 entries are the first k and the next one
+pub one_more : (entries : List Entry) (k : ℕ) (e : Entry) → k < length entries → e ≡ slice_index_or entries k e → reverse (take (k + 1) entries) ≡ e ∷ reverse (take k entries)
+one_more entries k e within is =
+    ap reverse (take_more entries k e within) ∙ reverse-append (take k entries) (slice_index_or entries k e ∷ []) ∙ ap (λ x. x ∷ reverse (take k entries)) (sym is)
+
+-- before the first entry none is stored
+pub none_stored : (asked : Mode) (stored : List Entry) (first : Option (List ℕ)) → stored ≡ [] → AreStored asked [] stored first first
+none_stored asked stored first none = record { few = omega arith; are = none; unwritten = refl }
+
+module _ (asked : Mode) (form : Form) (s : Setup) where
+  -- an entry more is stored
+  pub stored_on : (past : Past) (stored then : List Entry) (e : Entry) (first now : Option (List ℕ)) → AreStored asked past stored first now → length stored < most_stored asked → then ≡ stored ++ e ∷ [] → AreStored asked (e ∷ past) then first now
+  stored_on past stored then e first now are few more =
+      let long : length stored ≡ length past = ap length are.are ∙ length-reverse past in
+      record {
+        few = omega (arith, long, few);
+        are = more ∙ ap (λ l. l ++ e ∷ []) are.are ∙ last_of e past;
+        unwritten = are.unwritten;
+      }
+
+  -- or it is drawn
+  pub drawn_on : (past : Past) (e : Entry) (d d' : RecordDrawing) (first mid new : Option (List ℕ)) → AreDrawn asked form s past d first mid → DrawsEntry d d' mid new e → d'.drawing.source ≡ d.drawing.source → AreDrawn asked form s (e ∷ past) d' first new
+  drawn_on past e d d' first mid new shown on source = record {
+    decided = decided_later asked (length past) shown.decided;
+    drawn = drawn_entry (full_view asked) form s past e d d' first mid new shown.drawn on source;
+  }
+
+  -- entries that were stored are drawn
+  stored_drawn : (view : AccessView) (past : Past) (stored : List Entry) (d : RecordDrawing) (first now then : Option (List ℕ)) → AreStored asked past stored first now → IsDrawn view form s (reverse stored) d now then → IsDrawn view form s past d first then
+  stored_drawn view past stored d first now then are drawn =
+      subst (λ (l : Past). IsDrawn view form s l d first then) (ap reverse are.are ∙ reverse-reverse past)
+      (subst (λ (o : Option (List ℕ)). IsDrawn view form s (reverse stored) d o then) are.unwritten drawn)
+
+  -- and one more, where there are too many to be stored
+  pub many_drawn : (past : Past) (stored : List Entry) (e : Entry) (d d' : RecordDrawing) (first now mid new : Option (List ℕ)) → AreStored asked past stored first now → most_stored asked ≤ length stored → IsDrawn (full_view asked) form s (reverse stored) d now mid → DrawsEntry d d' mid new e → d'.drawing.source ≡ d.drawing.source →
+      AreDrawn asked form s (e ∷ past) d' first new
+  many_drawn past stored e d d' first now mid new are many drawn on source =
+      let long : length stored ≡ length past = ap length are.are ∙ length-reverse past in
+      record {
+        decided = decided_many asked (length (e ∷ past)) (omega (arith, long, many));
+        drawn = drawn_entry (full_view asked) form s past e d d' first mid new (stored_drawn (full_view asked) past stored d first now mid are drawn) on source;
+      }
+
+  -- the end, by the view of the entries that are shown
+  ended : (view : AccessView) (past : Past) (told : List ℕ) (d : RecordDrawing) (shows : Mode) (height : ℕ) (first mid new : Option (List ℕ)) → record_view asked (length past) ≡ view → IsDrawn view form s past d first mid → shows ≡ view.reads →
+      DrawsLast d.drawing.canvas mid new (source_of s + 1) d.drawing.entries told (SaysEnd d.drawing.entries d.drawing.store.taken 0) height → EndsAsked asked form s past told shows height first new
+  ended view past told d shows height first mid new is drawn same last = record {
+    shows_it = same ∙ sym (ap (λ (v : AccessView). v.reads) is);
+    ends = subst (λ (v : AccessView). EndsAt v form s past told height first new) (sym is) (drawn_end view form s past d told first mid new height drawn last);
+  }
+
+  -- that of a picture that is short
+  pub stored_end : (past : Past) (stored : List Entry) (told : List ℕ) (d : RecordDrawing) (shows : Mode) (height : ℕ) (first now mid new : Option (List ℕ)) → AreStored asked past stored first now → IsDrawn (short_view asked) form s (reverse stored) d now mid → shows ≡ modes.All →
+      DrawsLast d.drawing.canvas mid new (source_of s + 1) d.drawing.entries told (SaysEnd d.drawing.entries d.drawing.store.taken 0) height → EndsAsked asked form s past told shows height first new
+  stored_end past stored told d shows height first now mid new are drawn same last =
+      ended (short_view asked) past told d shows height first mid new (few_view asked (length past) are.few) (stored_drawn (short_view asked) past stored d first now mid are drawn) same last
+
+  -- and of another one
+  pub shown_end : (past : Past) (told : List ℕ) (d : RecordDrawing) (shows : Mode) (height : ℕ) (first mid new : Option (List ℕ)) → AreDrawn asked form s past d first mid → shows ≡ asked →
+      DrawsLast d.drawing.canvas mid new (source_of s + 1) d.drawing.entries told (SaysEnd d.drawing.entries d.drawing.store.taken 0) height → EndsAsked asked form s past told shows height first new
+  shown_end past told d shows height first mid new shown same last =
+      ended (full_view asked) past told d shows height first mid new (decided_view asked (length past) shown.decided) shown.drawn same last
