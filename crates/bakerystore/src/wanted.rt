@@ -8,16 +8,16 @@ use trace_draw::draw::Reads;
 const NO_READS: &str =
     "--reads is for runs and records; a trace of up to 400 entries shows all accesses, and a longer one with --accesses";
 
-/// The message if `--accesses` is given for a run or a record.
-const NO_ACCESSES: &str =
-    "--accesses is for traces; a run or a record shows overlapped reads with --reads";
-
 /// The options of an engine.
 #[derive(Clone, Copy)]
 pub(crate) struct Wanted {
     pub engine: Engine,
+    /// What the picture of a run or of a record shows, if it does not show all accesses anyway.
     pub reads: Reads,
+    /// Which accesses the picture of a trace shows.
     pub accesses: AccessChoice,
+    /// Whether overlapped reads are asked for, which a trace refuses.
+    pub asks_reads: bool,
     pub judge: bool,
     pub any_lock: bool,
     pub why: bool,
@@ -38,16 +38,13 @@ pub(crate) fn wanted_by(request: &Request<'_>, at: u64) -> Wanted {
     let judge = request.judge | request.any_lock;
     Wanted {
         engine: request.command.engine,
-        reads: if request.reads {
-            Reads::Shown
-        } else {
-            Reads::Hidden
-        },
+        reads: reads_of(request),
         accesses: if request.accesses {
             AccessChoice::All
         } else {
             AccessChoice::IfShort
         },
+        asks_reads: request.reads,
         judge,
         any_lock: request.any_lock,
         why: request.why,
@@ -57,6 +54,18 @@ pub(crate) fn wanted_by(request: &Request<'_>, at: u64) -> Wanted {
         is_record: judge,
         is_trace: false,
         at,
+    }
+}
+
+/// Returns what a request asks the picture of a run or of a record to show. If all accesses are shown, overlapped reads have no
+/// columns of their own.
+fn reads_of(request: &Request<'_>) -> Reads {
+    if request.accesses {
+        Reads::All
+    } else if request.reads {
+        Reads::Shown
+    } else {
+        Reads::Hidden
     }
 }
 
@@ -75,10 +84,8 @@ pub(crate) fn file_kind(wanted: Wanted) -> FileKind {
 
 /// Returns the message about an option that is not for this kind of file, if one is given.
 pub(crate) fn refused_option(wanted: Wanted) -> Option<&'static str> {
-    if wanted.is_trace && wanted.reads == Reads::Shown {
+    if wanted.is_trace && wanted.asks_reads {
         Some(NO_READS)
-    } else if !wanted.is_trace && wanted.accesses == AccessChoice::All {
-        Some(NO_ACCESSES)
     } else {
         None
     }

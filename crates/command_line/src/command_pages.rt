@@ -244,10 +244,11 @@ FILE may also be a record or a trace, good or bad, of any lock; its first word d
 With --judge or --any-lock FILE is a record or a trace, and its picture ends with the
 first bad entry. What judge --why, or judge --any-lock --why, prints follows, each line
 in the lane of the process that it names, and the status is that of judge.
-The picture of a trace of up to 400 entries shows each access from its begin to its end,
-the writes that overlap it, what each read gave, and the value of each cell; with
---accesses that of any trace does, and of all cells (otherwise of the first sixteen that
-are written). --reads is refused for a trace, and --accesses for a run or a record.
+The picture of a record or of a trace of up to 400 entries shows each access from its
+begin to its end, the writes that overlap it, what each read gave, and the value of each
+bit or cell. With --accesses that of any file does, also of a run, and of all bits or
+cells (otherwise of the first sixteen that are written); --reads then shows nothing more,
+because the boxes of overlapped reads are marked. --reads is refused for a trace.
 What a picture shows: docs/PICTURE.md
 The lines of a scenario: bakerystore help replay
 

@@ -26,7 +26,7 @@ pub const MORE_WORDS: &str = r"
 Options:
 
   --at N      state: after how many events; `end` means after all of them
-  --accesses  draw, draw-svg: show all accesses of a trace, also of a long one
+  --accesses  draw, draw-svg: show all accesses, also of a run and of a long file
   --any-lock  judge, draw, draw-svg: judge the record of any lock
   --explain   show the line and the word at fault, and what was expected there; this
               is so without the option if standard error is a terminal

@@ -26,7 +26,7 @@ pub struct Request<'a> {
     pub judge: bool,
     /// Whether a record of any lock is judged, by its bits, calls and critical section.
     pub any_lock: bool,
-    /// Whether the picture of a trace shows all accesses, also if it has more than 400 entries.
+    /// Whether the picture shows all accesses, also that of a run, or of a file with more than 400 entries.
     pub accesses: bool,
     /// Whether a bad verdict has reasons.
     pub why: bool,

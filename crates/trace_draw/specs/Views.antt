@@ -3,7 +3,7 @@ use Rattle.std.specs.Prelude.{◌≡◌, ◌<◌, ℕ, cond, nat_le}
 use Rattle.picture.specs.declared.reads.Reads.{Reads}
 use Rattle.picture.specs.declared.reads.Reads.TheVariants as reads
 use Rattle.trace_accesses.specs.{WaveLimit}
-use Rattle.trace_accesses.specs.declared.limits.WaveLimit.TheVariants as limit
+use Rattle.trace_accesses.specs.columns.declared.limits.WaveLimit.TheVariants as limit
 use Rattle.trace_draw.specs.declared.views.AccessChoice.{AccessChoice}
 use Rattle.trace_draw.specs.declared.views.AccessChoice.TheVariants as accesses
 
