@@ -23,7 +23,6 @@ RACE = (0, "0 0 no-name\nshow empty\ngood\n", "")
 RECORD = (0, "record 1\nprocesses 2\ntickets 4\nstamps 4\nslots 1\n0 : call add a 1\n", "")
 
 NO_READS = "--reads is for runs and records; a trace of up to 400 entries shows all accesses, and a longer one with --accesses\n"
-NO_ACCESSES = "--accesses is for traces; a run or a record shows overlapped reads with --reads\n"
 
 WHY = "bad 1 marks\nline 3\nis 0 : enter\nrefused not-waiting\nstage doorway\n"
 OWN_WHY = "bad 1 program\nline 3\nis 0 : enter\nmay 0 0.choosing.0.0 write 1\nstage doorway\n"
@@ -49,7 +48,6 @@ CASES = [
     (["judge", "--why", "-"], "record 1\n0 : call read a\n0 : enter\n", (3, OWN_WHY, "")),
     (["judge", "--any-lock", "-"], "record 1\n0 : call read a\n0 : enter\n", (3, "bad 1 marks\n", "")),
     (["judge", "a file"], "", (1, "", "line 1: not-first\n")),
-    *((["draw", "--accesses", "-"], text, (2, "", NO_ACCESSES)) for text in [SCENARIO, RECORD[1]]),
     (["bits", "-"], "bits 1\nend\n", (0, "refused\n", "")),
     (["bits", "a file"], "", (1, "", "line 1: not-first\n")),
     (["plain", "no such file"], SCENARIO, (1, "", "read fault\n")),

@@ -93,10 +93,11 @@ class Band:
     def take(self, access):
         """Adds what an entry shows."""
         at, before = self.places[access.event], self.opened.pop(access.process, None)
+        if before:
+            never_ends = "" if access.step == "end" else " unended"
+            self.box(access.process, self.style(before) + never_ends, before.begin, at)
         if access.step == "whole":
             self.box(access.process, whole_style(access), access.event, at + 4)
-        elif access.step == "end" and before:
-            self.box(access.process, style_of(before, self.overlapped), before.begin, at)
         if access.step == "begin":
             self.opened[access.process] = access
         self.ties += [(at, *sorted((access.process, other))) for other in access.overlaps]

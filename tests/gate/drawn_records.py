@@ -3,7 +3,9 @@
 
 The record of each worked scenario is drawn beside the scenario itself. The two differ only in what a record doesn't say: the
 list of the scenario's lines, with the number of the line that made a mark; and where the run has them, the lines of refusals,
-of `turns` and of `show`, and how many events were refused. Where it has none of these, the bands are the same to the byte.
+of `turns` and of `show`, and how many events were refused. Where it has none of these, the bands are the same to the byte. The
+record of at most 400 entries shows all accesses, and so does the run with `--accesses` alone. The accesses are compared with a second
+reading (second/drawn_record_accesses.py).
 
 Each record of examples/other-locks is drawn, good or bad. A parser of XML reads the picture, and one of HTML the page; the
 titles of their marks are the marks of the record, which are read here once more from its words. With `--judge`, and with
@@ -20,10 +22,14 @@ import xml.etree.ElementTree as tree
 
 sys.path.insert(0, str(pathlib.Path(__file__).resolve().parents[1]))
 
+from drawn_accesses import access_faults, seen_in
 from drawn_verdicts import verdict_faults
 from lib.counting import Counter
 from lib.places import OTHER_LOCKS, PROGRAM, TOP, WORKED
 from pictures import SVG, Groups, overlapped_in, read_faults, title, words_of
+from second.drawn_accesses import MOST_WAVES
+from second.drawn_record_accesses import shown_accesses
+from second.record_files import read_record
 
 # lines of a run that its record doesn't say
 UNSAID = re.compile(r"- \d+ (refused|turns)|show ")
@@ -31,6 +37,8 @@ UNSAID = re.compile(r"- \d+ (refused|turns)|show ")
 LIST = re.compile(r"<details open>.*?</details>\n", re.DOTALL)
 BY_LINE = re.compile(r' data-l="\d+"')
 END = re.compile(r"(end events \d+ taken \d+ refused )\d+")
+# the most entries of a picture that shows accesses without being asked to, and of one that is drawn with all accesses here
+MOST_ENTRIES, MOST_DRAWN = 400, 2_000
 # what asks for a verdict in a picture, and alone
 JUDGES = [(["--judge"], ["--why"]), (["--any-lock"], ["--any-lock", "--why"])]
 # what spoils a record: where a line is put, and that line
@@ -103,10 +111,39 @@ def stray_words(root):
     return [word for word in words_of(root, 0) if word[0] < 0 or word[2] > int(root.get("width")) or word[3] > int(root.get("height"))]
 
 
+def count_in(wanted):
+    """The number of entries that a picture shows, by its last line."""
+    return int(wanted[-1].split()[2])
+
+
+def bands_in(root):
+    """The bands of a picture. The last group is the legend."""
+    return [group for group in root if group.get("transform")][:-1]
+
+
+def accesses_shown(record, count, limit=MOST_WAVES):
+    """The accesses that a picture of the first entries shows, if it shows all."""
+    head, lines = read_record(record)
+    return list(shown_accesses(head, lines[:count], limit))
+
+
+def shown_faults(root, record, count, shows_all=False):
+    """What is wrong with the accesses of a picture of the first entries."""
+    if count > MOST_ENTRIES and not shows_all:
+        seen = [seen_in(band) for band in bands_in(root)]
+        yield from (f"accesses are shown: {band.titles[:3]}" for band in seen if band.places or band.boxes or band.waves)
+        return
+    yield from access_faults(bands_in(root), accesses_shown(record, count, None if shows_all else MOST_WAVES))
+
+
 def record_faults(record):
     """What is wrong with the pictures of a record, whatever lock it is of."""
     wanted = list(lines_of(record))
     root = tree.fromstring(written(record, "draw-svg"))
+    yield from shown_faults(root, record, count_in(wanted))
+    if count_in(wanted) <= MOST_DRAWN:
+        with_all = tree.fromstring(written(record, "draw-svg", "--accesses"))
+        yield from (f"--accesses: {fault}" for fault in shown_faults(with_all, record, count_in(wanted), shows_all=True))
     if [title(mark) for mark in root.iter(SVG + "g") if mark.get("class") == "m"] != wanted:
         yield "draw-svg has other lines"
     if stray_words(root):
@@ -114,7 +151,10 @@ def record_faults(record):
     if [group.title[0] for group in heard(written(record, "draw")) if group.style == "m"] != wanted:
         yield "draw has other lines"
     tree.fromstring(written(record, "draw-svg", "--reads"))
-    if run(record, "judge", "--any-lock")[0] == 0:
+    if count_in(wanted) <= MOST_ENTRIES:
+        if written(record, "draw", "--reads") != written(record, "draw"):
+            yield "--reads changes the picture of a short record"
+    elif run(record, "judge", "--any-lock")[0] == 0:
         reads = list(overlapped_in(record.decode().splitlines()))
         yield from read_faults(heard(written(record, "draw", "--reads")), reads)
 
@@ -132,8 +172,10 @@ def judged_faults(record):
             elif [group.title[0] for group in heard(picture.decode()) if group.style == "m"] != wanted:
                 yield f"{command} {options} has other lines"
         root = tree.fromstring(picture)
-        bands = [group for group in root if group.get("transform")][:-1]
-        yield from (f"{options}: {fault}" for fault in verdict_faults(bands, told, wanted[-1], []))
+        count = count_in(wanted)
+        lanes = {access.process for access in accesses_shown(record, count)} if count <= MOST_ENTRIES else []
+        yield from (f"{options}: {fault}" for fault in verdict_faults(bands_in(root), told, wanted[-1], lanes))
+        yield from (f"{options}: {fault}" for fault in shown_faults(root, record, count))
         if stray_words(root):
             yield f"{options}: words stand outside: {stray_words(root)[:3]}"
 
@@ -163,8 +205,10 @@ def main():
         if (folder / "draw").exists():
             scenario = (folder / "scenario").read_bytes()
             record = written(scenario, "record").encode()
+            count = len(entries_of(record))
+            choices = [[], ["--reads"]] if count > MOST_ENTRIES else []
             for command in ("draw", "draw-svg"):
-                for options in ([], ["--reads"]):
+                for options in [*choices, *([["--accesses"]] if count <= MOST_DRAWN else [])]:
                     faults = list(run_faults(scenario, record, command, *options))
                     counter.count(not faults, f"{command} {options} of {folder.name} and its record: {faults}")
     for file in [*sorted(OTHER_LOCKS.glob("*/record")), TOP / "examples" / "failed-read.record"]:
