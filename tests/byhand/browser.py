@@ -6,7 +6,11 @@ an event with the arrow keys, and then opens the place of an event by the page's
 at its end. In a narrow window it measures letters, moves the picture within its frame, and looks where the names of the lanes are
 then. The pages of all records of other locks, judged by the laws of any lock, are measured alike, 390 and 1280 pixels wide: the
 names of the lanes are seen above all else at the left, an address leads to its event, and the line that is run is marked and seen in
-the list. By hand: it needs Chromium, and says so where there is none.
+the list.
+
+The pages of the lessons are made anew. A script in each goes through its parts by the space bar and back, and writes a prediction; the
+arrow keys lead from the first lesson to the last one, and back. The letters of a picture have at least 18 pixels in a window of 1280.
+Each lesson is printed on one sheet, with its folded parts and without them. By hand: it needs Chromium, and says so where there is none.
 """
 
 import html
@@ -21,7 +25,10 @@ import tempfile
 sys.path.insert(0, str(pathlib.Path(__file__).resolve().parents[1]))
 
 from lib.counting import Counter
-from lib.places import OTHER_LOCKS, PROGRAM, WORKED
+from lib.places import OTHER_LOCKS, PROGRAM, TOP, WORKED
+
+sys.path.append(str(TOP / "lessons"))
+import pages as lesson_pages
 
 NAMES = ["chromium", "chromium-browser", "google-chrome", "chrome"]
 OPTIONS = ["--headless", "--no-sandbox", "--disable-gpu", "--virtual-time-budget=10000", "--dump-dom"]
@@ -115,6 +122,65 @@ function next(said) {
 }
 addEventListener('message', function (message) { next(message.data); });
 next();
+</script>
+"""
+# goes through the parts of a lesson and back, tells the frame what is wrong, and leads on by a key
+STEPS = """<script>
+addEventListener('load', function () {
+  var parts = [].slice.call(document.querySelectorAll('.part')), wrong = [], key = 'KEY';
+  var box = document.getElementById('predict-box'), view = document.querySelector('.view');
+  function check(holds, words) { if (!holds && wrong.indexOf(words) < 0) wrong.push(words); }
+  function press(key, isShifted) {
+    var at = document.activeElement || document.body;
+    at.dispatchEvent(new KeyboardEvent('keydown', { key: key, shiftKey: isShifted, bubbles: true, cancelable: true }));
+  }
+  function shown() { return document.querySelector('.parts [aria-current]').getAttribute('href').slice(1); }
+  function visited(key, isShifted) {
+    var found = [shown()];
+    for (var n = 0; n < 80; n++) {
+      press(key, isShifted);
+      if (shown() !== found[found.length - 1]) found.push(shown());
+    }
+    return found.join(' ');
+  }
+  function names() { return parts.map(function (part) { return part.getAttribute('data-part'); }); }
+  check(!document.querySelector('details[open]'), 'a part is unfolded at first');
+  box.focus({ preventScroll: true });
+  press(' ');
+  check(scrollY === 0, 'a blank in the box goes on');
+  box.value = 'a guess';
+  box.dispatchEvent(new Event('input'));
+  press('Escape');
+  check(document.activeElement !== box, 'Esc does not leave the box');
+  scrollTo(0, 0);
+  check(visited(' ', false) === names().join(' '), 'the space bar leads elsewhere');
+  document.querySelectorAll('.part > details').forEach(function (fold) { check(fold.open, 'a part is not unfolded'); });
+  check(document.querySelector('[data-part=run] .echo').textContent.indexOf('a guess') > 0, 'the prediction is not repeated');
+  check(document.documentElement.scrollWidth <= innerWidth, 'the page scrolls sideways');
+  if (view) {
+    var least = 10 * document.querySelector('img.whole').getBoundingClientRect().width / 1200;
+    check(least >= (innerWidth < 700 ? 10.9 : 18), 'small letters: ' + least);
+    check(view.scrollLeft + view.clientWidth > view.scrollWidth - 2, 'the picture was not moved to its end');
+    var strip = document.querySelector('.names').getBoundingClientRect();
+    check(Math.abs(strip.left - view.getBoundingClientRect().left) < 3, 'the names of the lanes have moved');
+  }
+  check(visited('PageUp', false) === names().reverse().join(' '), 'Page Up leads elsewhere');
+  parent.postMessage([document.title, wrong.join(', ')], '*');
+  press(key, false);
+});
+</script>
+"""
+# opens a lesson in a frame, and gathers what it and the lessons tell to which it leads
+COURSE = """<!doctype html><body><iframe style="width:WIDTHpx;height:800px;border:0" src="FIRST"></iframe><script>
+var told = [];
+addEventListener('message', function (message) {
+  told.push(message.data);
+  if (message.data[0] !== 'LAST') return;
+  var end = document.createElement('pre');
+  end.id = 'heard';
+  end.textContent = JSON.stringify(told);
+  document.body.appendChild(end);
+});
 </script>
 """
 # what is measured of a page: letters are large enough, the picture has moved and the name of its lane has not, nor does the page
@@ -235,6 +301,50 @@ def viewed(browser, pages, width):
     return json.loads(html.unescape(end.group(1))) if end else dict.fromkeys(pages, "nothing was told")
 
 
+def led(browser, folder, key, width):
+    """What the lessons tell in a frame so many pixels wide, from the first one on, or from the last one back."""
+    lessons = lesson_pages.lessons() if key == "ArrowRight" else lesson_pages.lessons()[::-1]
+    for name, content in lesson_pages.pages(folder).items():
+        (folder / name).parent.mkdir(exist_ok=True)
+        script = STEPS.replace("KEY", key).encode() if name[0].isdigit() else b""
+        (folder / name).write_bytes(content.replace(b"</body>", script + b"</body>"))
+    outer = folder / "outer.html"
+    text = COURSE.replace("WIDTH", str(width)).replace("FIRST", lessons[0].page).replace("LAST", lessons[-1].title)
+    outer.write_text(text)
+    size = ["--virtual-time-budget=60000", "--window-size=1400,1000"]
+    words = [browser, *OPTIONS, *size, f"--user-data-dir={folder}/user", outer.as_uri()]
+    page = subprocess.run(words, capture_output=True, text=True, timeout=600).stdout
+    end = re.search(r'<pre id="heard">(.*?)</pre>', page, re.S)
+    return json.loads(html.unescape(end.group(1))) if end else []
+
+
+def sheets(browser, page):
+    """The pages of paper on which a page is printed."""
+    with tempfile.TemporaryDirectory() as folder:
+        path, paper = pathlib.Path(folder) / "page.html", pathlib.Path(folder) / "page.pdf"
+        shutil.copytree(TOP / "lessons" / "pictures", pathlib.Path(folder) / "pictures")
+        path.write_text(page)
+        words = [browser, *OPTIONS[:3], "--no-pdf-header-footer", f"--print-to-pdf={paper}", f"--user-data-dir={folder}/user"]
+        subprocess.run([*words, path.as_uri()], capture_output=True, timeout=120)
+        return len(re.findall(rb"/Type /Page\b", paper.read_bytes()))
+
+
+def try_lessons(counter, browser):
+    """Opens and prints the pages of the lessons."""
+    titles = [lesson.title for lesson in lesson_pages.lessons()]
+    for key, width, wanted in (("ArrowRight", 1280, titles), ("ArrowRight", 390, titles), ("ArrowLeft", 1280, titles[::-1])):
+        with tempfile.TemporaryDirectory() as folder:
+            told = led(browser, pathlib.Path(folder), key, width)
+        counter.compare(f"the lessons by {key}, {width} pixels wide", [title for title, _ in told], wanted)
+        for title, wrong in told:
+            counter.count(not wrong, f"{title}, {width} pixels wide: {wrong}")
+    for name, content in lesson_pages.pages(TOP / "out" / "lessons").items():
+        if name[0].isdigit():
+            folded = content.decode()
+            counts = [sheets(browser, page) for page in (folded, folded.replace("<details>", "<details open>"))]
+            counter.count(all(1 <= count <= 2 for count in counts), f"{name} takes {counts} sides of paper, folded and unfolded")
+
+
 def wanted(name):
     """What it is to say: the line told, with one line of the scenario marked, and the line as the slider's value."""
     lines = (WORKED / name / "replay").read_text().splitlines()
@@ -260,6 +370,7 @@ def main():
     for width in (390, 1280):
         for name, wrong in viewed(browser, pages, width).items():
             counter.count(not wrong, f"{name}, {width} pixels wide: {wrong}")
+    try_lessons(counter, browser)
     counter.end()
 
 

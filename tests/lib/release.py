@@ -10,6 +10,7 @@ import io
 import os
 import re
 import subprocess
+import sys
 import tarfile
 import time
 from typing import NamedTuple
@@ -19,6 +20,9 @@ from lib.command_table import commands
 from lib.man_page import man_page
 from lib.places import PROGRAM, TOP
 
+sys.path.append(str(TOP / "lessons"))
+import pages as lesson_pages
+
 PLATFORM = "x86_64-linux"
 # the C library that INSTALL.md asks for
 GLIBC = (2, 34)
@@ -26,6 +30,8 @@ HELP = TOP / "crates" / "command_line" / "src" / "help.rt"
 VERSION = re.compile(r'^pub const VERSION: &str =\s+"(\d+\.\d+\.\d+),', re.M)
 # the pages of `help` that are not those of a command
 PAGES = ["help", "run", "faults"]
+# the folder with the pages of the lessons for a browser
+LESSON_PAGES = "lessons/html"
 PLAIN, EXECUTABLE = 0o644, 0o755
 SUMS = "SHA256SUMS"
 
@@ -139,6 +145,8 @@ def made(commit):
     }
     yield Member("bin/bakerystore", EXECUTABLE, program)
     yield from (Member(name, PLAIN, text.encode()) for name, text in texts.items())
+    pages_of_lessons = lesson_pages.pages(TOP / LESSON_PAGES)
+    yield from (Member(f"{LESSON_PAGES}/{name}", PLAIN, content) for name, content in pages_of_lessons.items())
 
 
 def members(commit):
