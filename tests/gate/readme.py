@@ -21,7 +21,7 @@ from lib.places import PROGRAM, TOP
 PAGES = [
     TOP / name
     for name in (
-        *("README.md", "examples/README.md", "lessons/HOUR.md", "lessons/ANSWERS.md"),
+        *("README.md", "examples/README.md", "lessons/LECTURE.md", "lessons/SEMESTER.md", "lessons/ANSWERS.md"),
         *("docs/GUIDE.md", "docs/JUDGE_YOUR_LOCK.md", "docs/RECORDS.md", "docs/FORMATS.md", "docs/FAULTS.md", "examples/traces/LOGS.md"),
     )
 ] + sorted(TOP.glob("lessons/[0-9]*.md"))
