@@ -51,6 +51,8 @@ ROW_OF_INDEX = re.compile(r"^\| \[(?P<title>[^]]+)\]\((?P<page>[\w.-]+)\) \| [^|
 ROW_OF_TEACHING = re.compile(r"^\| \[(?P<number>\d+)\]\((?P<page>[\w.-]+)\) \| [^|]+ \| (?P<minutes>\d+) \|$", re.M)
 # the commands of which no picture is drawn: the accesses of one bit, one line about many runs, and threads, which leave no record
 NOT_DRAWN = {"sweep", "race"}
+# the programs of the folder that belong to no lesson
+TOOLS = {"pages.py", "grade.py"}
 RACES = 50
 
 
@@ -225,7 +227,8 @@ def fault_of_index(every):
 def strays(every):
     """Returns the files of the folder that belong to no lesson, and the pages with a number that have no file."""
     stems = {lesson.file.stem for lesson in every}
-    files = {path.stem for path in LESSONS.iterdir() if path.is_file() and (path.suffix != ".md" or path.name[0].isdigit())}
+    own = [path for path in LESSONS.iterdir() if path.is_file() and path.name not in TOOLS]
+    files = {path.stem for path in own if path.suffix != ".md" or path.name[0].isdigit()}
     made = {path.stem for folder in ("expected", "pictures") for path in (LESSONS / folder).iterdir()}
     return (files | made) - stems
 
