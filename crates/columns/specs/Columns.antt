@@ -13,7 +13,7 @@ use Rattle.columns.specs.Overlaps.{bit_text, saw_text}
 use Rattle.columns.specs.Told.{change_told, event_told, place_told, process_told, tells_lock_mark}
 use Rattle.columns.specs.declared.accesses.ShownAccess.{ShownAccess}
 use Rattle.columns.specs.declared.columns.Column.{Column}
-use Rattle.columns.specs.declared.columns.TextRow.{TextRow}
+use Rattle.columns.specs.declared.rows.TextRow.{TextRow}
 use Rattle.columns.specs.declared.reads.OverlappedRead.{OverlappedRead}
 use Rattle.columns.specs.declared.state.State.{State}
 use Rattle.columns.specs.declared.told.TakenChange.{TakenChange}

@@ -11,10 +11,11 @@ pub record GivenChange : Type 0 where
   pub name : List ℕ
   pub old : List ℕ
   pub value : List ℕ
+  pub was_open : Bool
   pub is_open : Bool
 
 abbrev pub given_change : WaveChange → GivenChange
-given_change change = record { row = change.row; name = change.name.items; old = change.old.items; value = change.value.items; is_open = change.is_open }
+given_change change = record { row = change.row; name = change.name.items; old = change.old.items; value = change.value.items; was_open = change.was_open; is_open = change.is_open }
 
 -- the part of an access that an entry makes
 pub record GivenAccess : Type 0 where

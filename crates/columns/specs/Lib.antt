@@ -33,10 +33,11 @@ pub use declared.accesses.ShownAccess.{ShownAccess}
 pub use declared.accesses.WaveChange.{WaveChange}
 pub use declared.columns.Column.{Column}
 pub use declared.placing.ColumnPlace.{ColumnPlace}
-pub use declared.state.Group.{Group}
+pub use declared.groups.Group.{Group}
 pub use declared.seats.KnownProcess.{KnownProcess}
 pub use declared.layout.Lane.{Lane}
 pub use declared.layout.Layout.{Layout}
+pub use declared.limits.WaveCount.{WaveCount}
 pub use declared.limits.WaveLimit.{WaveLimit}
 pub use declared.reads.OverlappedRead.{OverlappedRead}
 pub use declared.placing.Placing.{Placing}
@@ -45,5 +46,5 @@ pub use declared.told.Saying.{Saying}
 pub use declared.open_accesses.UnendedAccess.{UnendedAccess}
 pub use declared.state.State.{State}
 pub use declared.told.TakenChange.{TakenChange}
-pub use declared.state.Word.{Word}
+pub use declared.groups.Word.{Word}
 pub use declared.waves.Wave.{Wave}

@@ -7,11 +7,11 @@ use Rattle.columns.specs.Stages.{nothing_told, stage_among, stages_marked, stage
 use Rattle.trace.specs.{LockMark}
 use Rattle.trace.specs.declared.marks.LockMark.TheVariants as lock
 use Rattle.columns.specs.LockLines.{like}
-use Rattle.columns.specs.declared.state.Group.{Group}
+use Rattle.columns.specs.declared.groups.Group.{Group}
 use Rattle.columns.specs.declared.seats.KnownProcess.{KnownProcess}
 use Rattle.columns.specs.declared.state.State.{State}
-use Rattle.columns.specs.declared.state.Word.{Word}
-use Rattle.columns.specs.declared.state.Word.TheVariants as word
+use Rattle.columns.specs.declared.groups.Word.{Word}
+use Rattle.columns.specs.declared.groups.Word.TheVariants as word
 use Rattle.columns.specs.declared.told.Saying.{Saying}
 use Rattle.columns.specs.declared.told.Saying.TheVariants.{LockMarked, Marked}
 

@@ -1,5 +1,5 @@
 -- The waves of registers: the value of each, and whether a write of it is open.
-use Rattle.std.specs.Prelude.{ℕ, Bool, false, cond, nat_lt, List, [], ◌∷◌, ◌++◌, length, map, set, Option, None, Some, option_and_then}
+use Rattle.std.specs.Prelude.{ℕ, Bool, cond, nat_lt, List, [], ◌∷◌, ◌++◌, length, map, set, Option, None, Some, option_and_then}
 use Rattle.std.specs.Global.{Vec}
 use Rattle.columns.specs.Columns.{Seen}
 use Rattle.columns.specs.declared.accesses.ShownAccess.{ShownAccess}
@@ -20,7 +20,7 @@ seen_waves waves = map seen_wave waves.items
 
 -- the wave of a register before its first change, and after a change
 abbrev pub wave_before : WaveChange → SeenWave
-wave_before change = record { name = change.name.items; value = change.old.items; is_open = false }
+wave_before change = record { name = change.name.items; value = change.old.items; is_open = change.was_open }
 
 abbrev pub wave_behind : WaveChange → SeenWave
 wave_behind change = record { name = change.name.items; value = change.value.items; is_open = change.is_open }

@@ -38,6 +38,8 @@ pub struct WaveChange {
     pub old: Vec<u8>,
     /// The value after the entry.
     pub value: Vec<u8>,
+    /// Whether a write of the register was open before the entry.
+    pub was_open: bool,
     /// Whether a write of the register is open after the entry.
     pub is_open: bool,
 }

@@ -4,7 +4,7 @@ ghost use Rattle.std.specs.Fmt.{decimal};
 ghost use Rattle.columns.specs.Columns.{GivesRows, verb_and_rest};
 ghost use Rattle.columns.specs.Overlaps.{bit_text, read_text, saw_text, title_text};
 
-use crate::columns::{TextRow, two_rows};
+use crate::rows::{TextRow, two_rows};
 use record::Field;
 use std::alloc::{AllocError, Global};
 

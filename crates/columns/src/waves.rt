@@ -26,7 +26,7 @@ impl WaveChange {
         Ok(Wave {
             name: copied(alloc, self.name.as_slice())?,
             value: copied(alloc, self.old.as_slice())?,
-            is_open: false,
+            is_open: self.was_open,
         })
     }
 

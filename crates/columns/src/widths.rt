@@ -3,8 +3,8 @@ ghost use Rattle.std.specs.Prelude.{◌≡◌, map, IfOk};
 ghost use Rattle.columns.specs.Columns.{digits_of, knot_width, longest_row, pair_of, wording};
 ghost use Rattle.columns.specs.Told.{change_told};
 
-use crate::columns::TextRow;
 use crate::measures::{CHARACTER, DIGIT, PAD, room};
+use crate::rows::TextRow;
 use crate::told::RunLine;
 use std::alloc::{AllocError, Global};
 

@@ -1,7 +1,7 @@
 use Rattle.std.proofs.Common.{◌∙◌, ap, arith, false, take}
 use Rattle.columns.specs.{group_of, places_from}
 use Rattle.columns.proofs.Lines.{said_more}
-use Rattle.columns.proofs.state.places_said.Goals as goal
+use Rattle.columns.proofs.groups.places_said.Goals as goal
 
 pub loop-place-preserved : goal.loop-place-preserved
 loop-place-preserved c =

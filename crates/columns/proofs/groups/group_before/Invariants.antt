@@ -1,6 +1,6 @@
 use Rattle.std.proofs.Common.{◌≡◌, ◌++◌, drop, take}
 use Rattle.columns.specs.{before_in, group_of}
-use Rattle.columns.proofs.state.group_before.Given as goal
+use Rattle.columns.proofs.groups.group_before.Given as goal
 
 -- the processes before the present one are before the process
 abbrev pub invariant-loop-other : goal.invariant-loop-other

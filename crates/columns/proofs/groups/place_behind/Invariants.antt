@@ -1,6 +1,6 @@
 use Rattle.std.proofs.Common.{◌≡◌, drop}
 use Rattle.columns.specs.{behind_in}
-use Rattle.columns.proofs.state.place_behind.Given as goal
+use Rattle.columns.proofs.groups.place_behind.Given as goal
 
 -- the process is at the present index or after it
 abbrev pub invariant-loop-place : goal.invariant-loop-place

@@ -1,6 +1,6 @@
 use Rattle.std.proofs.Common.{◌≡◌, filter_map, map, take}
 use Rattle.columns.specs.{row_shared, wording}
-use Rattle.columns.proofs.columns.rows_shared.Given as goal
+use Rattle.columns.proofs.rows.rows_shared.Given as goal
 
 -- the rows of the lines before the present one
 abbrev pub invariant-loop-line : goal.invariant-loop-line

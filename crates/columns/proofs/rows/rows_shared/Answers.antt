@@ -2,7 +2,7 @@ use Rattle.std.proofs.Common.{◌++◌, ◌∙◌, arith, ap, filter_map, map, s
 use Rattle.std.proofs.lemmas.List.{take_all}
 use Rattle.columns.specs.{row_shared, wording}
 use Rattle.columns.proofs.Lists.{shared_more}
-use Rattle.columns.proofs.columns.rows_shared.Goals as goal
+use Rattle.columns.proofs.rows.rows_shared.Goals as goal
 
 pub loop-line-init : goal.loop-line-init
 loop-line-init c = ap (map wording) c.new-rows.ensures.items
