@@ -1,7 +1,8 @@
 -- The rows of bits, and their states, after one more entry.
-use Rattle.std.proofs.Common.{◌≡◌, ◌≢◌, ℕ, ◌+◌, ◌<◌, ◌≤◌, Bool, not, true, false, cond, List, [], ◌∷◌, ◌++◌, Option, None, Some, get_or, length, position, slice_set, refl, sym, ap, ◌∙◌, subst, inl, inr, eqb, eq-eqb, true≢false, arith, length-append, get_or-set_other, get_or-set_same}
+use Rattle.std.proofs.Common.{◌≡◌, ◌≢◌, ℕ, ◌+◌, ◌<◌, ◌≤◌, nat_le, Bool, not, ◌&&◌, true, false, cond, List, [], ◌∷◌, ◌++◌, Option, None, Some, is_some, option_and_then, get_or, length, position, slice_set, refl, sym, ap, ◌∙◌, subst, inl, inr, eqb, eq-eqb, true≢false, arith, length-append, get_or-set_other, get_or-set_same}
 use Rattle.std.proofs.Math.Seq.{get_or-append_seam}
 use Rattle.std.proofs.lemmas.Bool.{cases_Bool}
+use Rattle.std.proofs.lemmas.Bool.Decides.{nat_tests}
 use Rattle.std.proofs.lemmas.Grind.{common_steps}
 use Rattle.std.proofs.lemmas.List.Folds.{position_or_len_push}
 use Rattle.std.proofs.lemmas.List.Sums.{prefix_len-le-length}
@@ -10,8 +11,10 @@ use Rattle.std.proofs.lemmas.List.{get_or_append_left}
 use Rattle.std.proofs.lemmas.List.Quantifiers.{position-Some}
 use Rattle.laws.specs.{IsThere}
 use Rattle.plain_store.specs.{Setup}
+use Rattle.record.specs.safe_bit.{Move}
+use Rattle.record.specs.safe_bit.declared.Move.TheVariants.{BeginWrite, EndWrite, BeginRead, EndRead, Settle}
 use Rattle.record.specs.{Access, Mark, Past, opening_bit, same_bit}
-use Rattle.record_accesses.specs.{BitState, BitsState, HasBits, bit_after, bit_of, bits_taken, entry_with, new_bit, row_in, state_at, with_last, writes, written_bits}
+use Rattle.record_accesses.specs.{BitChange, BitState, BitsState, HasBits, WaveCount, alters, bit_after, bit_of, bits_taken, change_in_row, change_of, entry_with, new_bit, row_in, rows_after, rows_with, state_at, waves_after, waves_since, with_last, writes, written_bits}
 use Rattle.record_accesses.proofs.BitFacts.{bit-cong, bit-made, bit-step, unwritten}
 use Rattle.record_accesses.proofs.SameBits.{bare-same, other-sym, same-bare, same-refl}
 
@@ -49,6 +52,58 @@ last-same rows a none = last-where (λ b. same_bit b a) rows a none (same-refl a
 
 last-other : (rows : List Access) (a d : Access) → same_bit a d ≡ false → row_in (rows ++ a ∷ []) d ≡ row_in rows d
 last-other rows a d other = last-others (λ b. same_bit b d) rows a other
+
+-- Rows of waves.
+
+-- A list that stays in both cases stays.
+same-either : (c : Bool) (rows : List Access) → cond c rows rows ≡ rows
+same-either true rows = refl
+same-either false rows = refl
+
+nothing-counts : (b t : Bool) → (b && (t && false)) ≡ false
+nothing-counts true true = refl
+nothing-counts true false = refl
+nothing-counts false t = refl
+
+writes-alter : (how : Move) → writes how ≡ true → alters how ≡ true
+writes-alter (BeginWrite v) h = refl
+writes-alter EndWrite h = absurd (cc)
+writes-alter BeginRead h = absurd (cc)
+writes-alter (EndRead v) h = absurd (cc)
+writes-alter (Settle v) h = refl
+
+-- Where all entries count, an access gives a row to the bits that it adds to those written.
+waves-by : (rows : List Access) (a : Access) (o : Option ℕ) → row_in rows a ≡ o → (w b t : Bool) → (w ≡ true → b ≡ true) → t ≡ true →
+    cond (b && (t && is_some (row_in (cond w (with_last o a rows) rows) a))) (with_last o a rows) rows ≡ cond w (with_last o a rows) rows
+waves-by rows a (Some row) is w b t writing all =
+    same-either (b && (t && is_some (row_in (cond w rows rows) a))) rows ∙ sym (same-either w rows)
+waves-by rows a None is true b t writing all =
+    λ i. cond (writing refl i && (all i && is_some (last-same rows a is i))) (rows ++ a ∷ []) rows
+waves-by rows a None is false b t writing all =
+    ap (λ (o : Option ℕ). cond (b && (t && is_some o)) (rows ++ a ∷ []) rows) is
+    ∙ ap (λ c. cond c (rows ++ a ∷ []) rows) (nothing-counts b t)
+
+from-zero : (number : ℕ) → nat_le 0 number ≡ true
+from-zero number = grind (arith, nat_tests)
+
+pub waves-written : (past : Past) → waves_since 0 past ≡ written_bits past
+waves-written [] = refl
+waves-written (e ∷ past) = by e.access (waves-written past)
+  where
+    by : (o : Option Access) → waves_since 0 past ≡ written_bits past → waves_after 0 (length past) (rows_after o (written_bits past)) o (waves_since 0 past) ≡ rows_after o (written_bits past)
+    by None same = same
+    by (Some a) same =
+        ap (λ (rows : List Access). waves_after 0 (length past) (rows_with a (written_bits past)) (Some a) rows) same
+        ∙ waves-by (written_bits past) a (row_in (written_bits past) a) refl (writes a.how) (alters a.how) (nat_le 0 (length past)) (writes-alter a.how) (from-zero (length past))
+
+-- A move that does not alter its bit changes no wave, whatever its row.
+change-either : (b : Bool) (f : ℕ → Option BitChange) (row : Option ℕ) → cond b (option_and_then f (cond b row None)) None ≡ cond b (option_and_then f row) None
+change-either true f row = refl
+change-either false f row = refl
+
+pub change-row : (count : WaveCount) (row : Option ℕ) (how : Move) (old value was_open is_open : Bool) →
+    change_of count (cond (alters how) row None) how old value was_open is_open ≡ change_of count row how old value was_open is_open
+change-row count row how old value was_open is_open = change-either (alters how) (change_in_row count old value was_open is_open) row
 
 -- An entry without an access.
 pub bits-still : (s : Setup) (b : BitsState) (past : Past) (p : ℕ) (marks : List Mark) → HasBits s b past → HasBits s b (entry_with p None marks ∷ past)

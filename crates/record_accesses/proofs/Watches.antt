@@ -5,7 +5,7 @@ use Rattle.std.proofs.lemmas.Bool.Decides.{nat_tests}
 use Rattle.laws.specs.{IsThere}
 use Rattle.plain_store.specs.{Setup}
 use Rattle.record.specs.{Access, Entry, Mark, Past, width}
-use Rattle.record_accesses.specs.{HasBits, HasOpened, HasTaken, HasWatched, IsPossible, WatchState, Watched, OpenBitAccess, WaveLimit, drops, entry_with, is_there, opened_taken, possible_access, possible_past, shown_access, shown_as, watched, watched_of}
+use Rattle.record_accesses.specs.{HasBits, HasOpened, HasTaken, HasWatched, IsPossible, WatchState, Watched, OpenBitAccess, WaveLimit, drops, entry_with, is_there, opened_taken, possible_access, possible_past, shown_access, shown_as, watched, watched_of, waves_after, waves_since}
 use Rattle.record_accesses.proofs.OpenFacts.{opened-step, opened-still}
 use Rattle.record_accesses.proofs.RowFacts.{bits-still}
 
@@ -36,10 +36,13 @@ impossible s p (Some a) h = ap (λ t. cond (t && is_there s a) (Some a) None) h
 -- Entries of any kind.
 
 -- what is taken with an entry of a process that has a place
-pub taken-next : (w new : WatchState) (p number : ℕ) (o : Option Access) (drops_it : Bool) (marks : List Mark) (past : Past) → HasTaken w past → new.setup ≡ w.setup → number ≡ length past →
-    HasBits w.setup new.bits (entry_with p o marks ∷ past) → new.opened ≡ opened_taken p number o drops_it w.opened → p < 16 → drops marks ≡ drops_it → HasTaken new (entry_with p o marks ∷ past)
-taken-next w new p number o drops_it marks past taken setup is bits opened below drop = record {
+pub taken-next : (w new : WatchState) (p number : ℕ) (o : Option Access) (drops_it : Bool) (marks : List Mark) (past : Past) → HasTaken w past → new.setup ≡ w.setup → new.limit ≡ w.limit → number ≡ length past →
+    HasBits w.setup new.bits (entry_with p o marks ∷ past) → new.waves ≡ waves_after w.limit.from number new.bits.names o w.waves → new.opened ≡ opened_taken p number o drops_it w.opened → p < 16 → drops marks ≡ drops_it → HasTaken new (entry_with p o marks ∷ past)
+taken-next w new p number o drops_it marks past taken setup limit is bits waves opened below drop = record {
   bits = subst (λ (s : Setup). HasBits s new.bits (entry_with p o marks ∷ past)) (sym setup) bits;
+  waves = waves
+      ∙ (λ i. waves_after w.limit.from (is i) (bits.names i) o (taken.waves i))
+      ∙ ap (λ (l : WaveLimit). waves_since l.from (entry_with p o marks ∷ past)) (sym limit);
   opened = subst (λ (all : List (Option OpenBitAccess)). HasOpened all (entry_with p o marks ∷ past)) (sym opened)
       (opened-step w.opened p number o drops_it marks past below is drop taken.opened);
 }
@@ -49,6 +52,7 @@ pub taken-still : (w : WatchState) (p : ℕ) (o : Option Access) (marks : List M
     HasTaken w (entry_with p o marks ∷ past)
 taken-still w p o marks past none above taken = record {
   bits = subst (λ (o : Option Access). HasBits w.setup w.bits (entry_with p o marks ∷ past)) (sym none) (bits-still w.setup w.bits past p marks taken.bits);
+  waves = subst (λ (o : Option Access). w.waves ≡ waves_since w.limit.from (entry_with p o marks ∷ past)) (sym none) taken.waves;
   opened = opened-still w.opened p o marks past (λ q within same. absurd (omega (arith, above, within, same))) taken.opened;
 }
 

@@ -20,7 +20,7 @@ use Rattle.record_accesses.specs.declared.watched.WatchedBitAccess.{WatchedBitAc
 use Rattle.record_accesses.specs.Moves.{kind_of}
 use Rattle.record_accesses.specs.Opened.{dropped, drops, opened, writes_bit}
 use Rattle.record_accesses.specs.Overlaps.{first_overlaps}
-use Rattle.record_accesses.specs.Rows.{row_in, written_bits}
+use Rattle.record_accesses.specs.Rows.{row_in, waves_since}
 use Rattle.record_accesses.specs.Waves.{change_of}
 use Rattle.record_accesses.specs.Words.{words_of}
 
@@ -64,9 +64,10 @@ begin_of _ current number = number
 
 -- The change of the wave of the bit of an entry's access.
 abbrev pub change_by : Setup → WaveLimit → Past → Entry → Access → Option BitChange
-change_by s limit past e a = change_of limit (row_in (written_bits (e ∷ past)) a) a.how
+change_by s limit past e a = change_of limit.count (row_in (waves_since limit.from (e ∷ past)) a) a.how
     (last_written (opening_bit s a) (moves_of a past))
     (last_written (opening_bit s a) (moves_of a (e ∷ past)))
+    (is_write_open (moves_of a past))
     (is_write_open (moves_of a (e ∷ past)))
 
 -- The access of an entry.
@@ -102,7 +103,7 @@ watched s limit past e = cond (nat_lt e.process s.processes) (watched_of s limit
 
 -- The change of the wave of a cell.
 abbrev pub shown_change : List ℕ → BitChange → GivenChange
-shown_change cell c = record { row = c.row; name = cell; old = bit_word c.old; value = bit_word c.value; is_open = c.is_open }
+shown_change cell c = record { row = c.row; name = cell; old = bit_word c.old; value = bit_word c.value; was_open = c.was_open; is_open = c.is_open }
 
 -- An access. Its cell is spelled as in a record file.
 abbrev pub shown_made : WatchedBitAccess → GivenAccess

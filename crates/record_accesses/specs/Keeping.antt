@@ -10,7 +10,7 @@ use Rattle.record_accesses.specs.Accesses.{possible_past}
 use Rattle.record_accesses.specs.Bits.{bit_of, new_bit}
 use Rattle.record_accesses.specs.Moves.{writes}
 use Rattle.record_accesses.specs.Opened.{begun_by, drops, left_open, opened}
-use Rattle.record_accesses.specs.Rows.{row_in, written_bits}
+use Rattle.record_accesses.specs.Rows.{row_in, waves_since, written_bits}
 
 -- Bits.
 
@@ -60,23 +60,25 @@ pub record HasOpened (all : List (Option OpenBitAccess)) (past : Past) : Type 0 
 
 -- The watch.
 
--- The setup, the bits, the open accesses, and the limit of rows.
+-- The setup, the bits, the bits that have waves, the open accesses, and the limit of waves.
 pub record WatchState : Type 0 where
   pub setup : Setup
   pub bits : BitsState
+  pub waves : List Access
   pub opened : List (Option OpenBitAccess)
   pub limit : WaveLimit
 
 -- It has taken these entries, whose accesses are possible.
 pub record HasTaken (w : WatchState) (past : Past) : Type 0 where
   pub bits : HasBits w.setup w.bits past
+  pub waves : w.waves ≡ waves_since w.limit.from past
   pub opened : HasOpened w.opened past
 
 -- This holds of each past of so many entries that was taken, and of each list of marks that drop a read or not.
 abbrev pub OfTaken : WatchState → ℕ → Bool → (Past → List Mark → Type 0) → Type 0
 OfTaken w number drops_it P = (past : Past) (marks : List Mark) → HasTaken w past → number ≡ length past → drops marks ≡ drops_it → P past marks
 
--- It has watched these entries of a record with this setup, and shows as many rows.
+-- It has watched these entries of a record with this setup, and shows the waves within this limit.
 pub record HasWatched (w : WatchState) (s : Setup) (limit : WaveLimit) (past : Past) : Type 0 where
   pub setup : w.setup ≡ s
   pub shows : w.limit ≡ limit

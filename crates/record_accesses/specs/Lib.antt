@@ -16,11 +16,11 @@ pub use Marks.{AreOwnReads, AreShown, IsOwnRead, MarksOverlappedReads, MarksOver
 pub use Moves.{alters, begins, kind_of, writes}
 pub use Opened.{begins_read, begun_by, dropped, drops, drops_read, left_open, opened, read_of, reads_bit, write_of, writes_bit}
 pub use Overlaps.{first_overlaps, is_writer, overlaps_by, overlaps_with}
-pub use Rows.{row_in, rows_after, rows_with, with_last, written_bits}
+pub use Rows.{counts_from, row_in, rows_after, rows_with, waves_after, waves_since, waves_with, with_last, written_bits}
 pub use Waves.{change_in_row, change_of, is_within}
 pub use Words.{arrow, other_than, unlike, words_of}
 pub use declared.bits.BitState.{BitState}
-pub use Rattle.columns.specs.{WaveLimit}
+pub use Rattle.columns.specs.{WaveCount, WaveLimit}
 pub use declared.opened.OpenBitAccess.{OpenBitAccess}
 pub use declared.watched.DroppedRead.{DroppedRead}
 pub use declared.watched.BitChange.{BitChange}

@@ -1,22 +1,23 @@
 -- The changes of waves, in numbers.
 use Rattle.std.specs.Prelude.{ℕ, nat_lt, Bool, cond, Option, None, Some, option_and_then}
 use Rattle.record.specs.safe_bit.{Move}
-use Rattle.columns.specs.declared.limits.WaveLimit.{WaveLimit}
-use Rattle.columns.specs.declared.limits.WaveLimit.TheVariants.{Sixteen, All}
+use Rattle.columns.specs.declared.limits.WaveCount.{WaveCount}
+use Rattle.columns.specs.declared.limits.WaveCount.TheVariants.{Sixteen, All}
 use Rattle.record_accesses.specs.declared.watched.BitChange.{BitChange}
 use Rattle.record_accesses.specs.Moves.{alters}
 
 -- A row is shown.
-abbrev pub is_within : WaveLimit → ℕ → Bool
+abbrev pub is_within : WaveCount → ℕ → Bool
 is_within Sixteen row = nat_lt row 16
 is_within All row = nat_lt row 65536
 
--- The change of the wave in a row from one value to another, where a write of the bit is open or not.
-abbrev pub change_in_row : WaveLimit → Bool → Bool → Bool → ℕ → Option BitChange
-change_in_row limit old value is_open row = cond (is_within limit row)
-    (Some (record { row = row; old = old; value = value; is_open = is_open })) None
+-- The change of the wave in a row from one value to another, where a write of the bit was open before it or not, and is open after it or
+-- not.
+abbrev pub change_in_row : WaveCount → Bool → Bool → Bool → Bool → ℕ → Option BitChange
+change_in_row count old value was_open is_open row = cond (is_within count row)
+    (Some (record { row = row; old = old; value = value; was_open = was_open; is_open = is_open })) None
 
 -- The change of a wave by a move, whose bit may have a row.
-abbrev pub change_of : WaveLimit → Option ℕ → Move → Bool → Bool → Bool → Option BitChange
-change_of limit row how old value is_open =
-    cond (alters how) (option_and_then (change_in_row limit old value is_open) row) None
+abbrev pub change_of : WaveCount → Option ℕ → Move → Bool → Bool → Bool → Bool → Option BitChange
+change_of count row how old value was_open is_open =
+    cond (alters how) (option_and_then (change_in_row count old value was_open is_open) row) None

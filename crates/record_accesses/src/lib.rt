@@ -18,6 +18,11 @@
 //!   settling is a whole write. The wave of the bit shows that the interrupted write is open until the settling, and reads
 //!   that begin until then overlap it.
 //!
+//! A picture may begin after the first entry, at the entry with the number `limit.from`. Only a bit for which this entry or a
+//! later one begins, ends or settles a write has a wave, and these entries give the waves their order. Earlier entries count
+//! only for the state of the bits. [`written_bits_have_waves`] states that, from the first entry on, exactly the bits that
+//! were written have waves.
+//!
 //! [`boxes_show_overlapped_reads`] states that the box of an open read is marked exactly if the safe rule finds the read
 //! overlapped.
 //!
@@ -25,7 +30,7 @@
 //! |---|---|
 //! | `bits` | the state of a bit |
 //! | `boxes` | what the boxes of reads show |
-//! | `limits` | which waves are shown |
+//! | `limits` | how many waves are shown |
 //! | `moves` | the kind and the step of a move, and whether it writes |
 //! | `opened` | the access that each process has open |
 //! | `openings` | which bits exist, and their opening values |
@@ -33,7 +38,8 @@
 //! | `watched` | an access in numbers |
 //! | `words` | an access in words |
 //! | `watch` | the watch |
-//! | `written_bits` | the row and the state of each bit that was written |
+//! | `wave_rows` | the row of each bit that has a wave |
+//! | `written_bits` | the state of each bit that was written |
 #![tactic(auto)]
 
 mod bits;
@@ -45,14 +51,16 @@ mod openings;
 mod overlaps;
 mod watch;
 mod watched;
+mod wave_rows;
 mod words;
 mod written_bits;
 
 pub use boxes::boxes_show_overlapped_reads;
-pub use columns::WaveLimit;
+pub use columns::{WaveCount, WaveLimit};
 pub use opened::drops_open_read;
 pub use plain_store;
 pub use watch::RecordAccessWatch;
+pub use wave_rows::written_bits_have_waves;
 
 #[cfg(test)]
 mod tests;

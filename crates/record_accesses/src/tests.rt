@@ -2,7 +2,7 @@
 ghost use Rattle.std.specs.Prelude.{◌≡◌, Ok};
 ghost use Rattle.plain_store.specs.{checked};
 
-use crate::{RecordAccessWatch, WaveLimit};
+use crate::{RecordAccessWatch, WaveCount, WaveLimit};
 use columns::{AccessKind, AccessStep, ShownAccess, WaveChange};
 use plain_store::{Name, Setup, Value};
 use record::{Access, Act, Entry, Field, Mark, Move};
@@ -40,6 +40,9 @@ fn push_change(alloc: Global, change: &WaveChange, text: &mut Vec<u8>) -> Result
     text.extend_from_slice(change.old.as_slice())?;
     text.extend_from_slice(b" ")?;
     text.extend_from_slice(change.value.as_slice())?;
+    if change.was_open {
+        text.extend_from_slice(b" was open")?;
+    }
     if change.is_open {
         text.extend_from_slice(b" open")?;
     }
@@ -154,7 +157,7 @@ const FAILURES: [RecordCase; 19] = [
         1,
         Some((C0, Move::EndWrite)),
         false,
-        "3 1 writes end 0 [] 1.choosing.0.0 row 0 1.choosing.0.0 0 1",
+        "3 1 writes end 0 [] 1.choosing.0.0 row 0 1.choosing.0.0 0 1 was open",
     ),
     (
         0,
@@ -174,7 +177,7 @@ const FAILURES: [RecordCase; 19] = [
         1,
         Some((C0, Move::Settle(true))),
         false,
-        "8 1 writes end 5 [settle 1] 1.choosing.0.0 row 0 1.choosing.0.0 1 1",
+        "8 1 writes end 5 [settle 1] 1.choosing.0.0 row 0 1.choosing.0.0 1 1 was open",
     ),
     (
         1,
@@ -193,7 +196,7 @@ const FAILURES: [RecordCase; 19] = [
         1,
         Some((C0, Move::EndWrite)),
         false,
-        "12 1 writes end 11 [] 1.choosing.0.0 row 0 1.choosing.0.0 1 0",
+        "12 1 writes end 11 [] 1.choosing.0.0 row 0 1.choosing.0.0 1 0 was open",
     ),
     (
         0,
@@ -205,7 +208,7 @@ const FAILURES: [RecordCase; 19] = [
         1,
         Some((C1, Move::Settle(false))),
         false,
-        "14 1 writes whole 14 [settle 0] 1.choosing.0.1 row 1 1.choosing.0.1 0 0",
+        "14 1 writes whole 14 [settle 0] 1.choosing.0.1 row 1 1.choosing.0.1 0 0 was open",
     ),
     (2, Some((C0, Move::BeginRead)), false, ""),
     (
@@ -269,6 +272,57 @@ const OPENINGS: [RecordCase; 6] = [
     ),
 ];
 
+/// The copies of the choosing bit of process 0, for itself and for process 1.
+const B0: Bit = (0, Field::Choosing, 0, 0);
+
+const B1: Bit = (0, Field::Choosing, 0, 1);
+
+/// Waves begin with entry 3. One write is open then, and ends later. Another one ended before, so its bit has no wave. The last
+/// entry ends a write that never began.
+const LATER_WAVES: [RecordCase; 6] = [
+    (
+        1,
+        Some((C0, Move::BeginWrite(true))),
+        false,
+        "0 1 writes begin 0 [write 1] 1.choosing.0.0",
+    ),
+    (
+        0,
+        Some((B1, Move::BeginWrite(true))),
+        false,
+        "1 0 writes begin 1 [write 1] 0.choosing.0.1",
+    ),
+    (
+        0,
+        Some((B1, Move::EndWrite)),
+        false,
+        "2 0 writes end 1 [] 0.choosing.0.1",
+    ),
+    (
+        0,
+        Some((B0, Move::BeginWrite(true))),
+        false,
+        "3 0 writes begin 3 [write 1] 0.choosing.0.0 row 0 0.choosing.0.0 0 0 open",
+    ),
+    (
+        1,
+        Some((C0, Move::EndWrite)),
+        false,
+        "4 1 writes end 0 [] 1.choosing.0.0 row 1 1.choosing.0.0 0 1 was open",
+    ),
+    (
+        1,
+        Some((C1, Move::EndWrite)),
+        false,
+        "5 1 writes end 5 [] 1.choosing.0.1",
+    ),
+];
+
+/// Returns the limit of pictures from an entry on.
+fn limit(from: u64, count: WaveCount) -> WaveLimit {
+    WaveLimit { from, count }
+}
+
 /// Returns the row of the wave that begins as seventeen bits are written, if it is shown.
 fn seventeenth_row(
     alloc: Global,
@@ -296,7 +350,7 @@ fn seventeenth_row(
 fn shows_accesses_that_failures_interrupt(rt: HostRuntime) -> Result<(), Fail> {
     let setup = Setup::one(2, 1, 1, 1);
     setup.check()?;
-    let limit = WaveLimit::Sixteen;
+    let limit = limit(0, WaveCount::Sixteen);
     assert_eq!(rt; first_other(rt.alloc(), &setup, limit, &FAILURES)?, None);
     Ok(())
 }
@@ -307,7 +361,7 @@ fn compares_reads_with_opening_values(rt: HostRuntime) -> Result<(), Fail> {
     setup.version = 2;
     setup.opening.add(Name::new(b"a")?, Value::Count(5))?;
     setup.check()?;
-    let limit = WaveLimit::Sixteen;
+    let limit = limit(0, WaveCount::Sixteen);
     assert_eq!(rt; first_other(rt.alloc(), &setup, limit, &OPENINGS)?, None);
     Ok(())
 }
@@ -316,9 +370,20 @@ fn compares_reads_with_opening_values(rt: HostRuntime) -> Result<(), Fail> {
 fn shows_sixteen_waves_or_all(rt: HostRuntime) -> Result<(), Fail> {
     let setup = Setup::one(1, 1, 1, 1);
     setup.check()?;
-    let sixteen = seventeenth_row(rt.alloc(), &setup, WaveLimit::Sixteen)?;
+    let sixteen = seventeenth_row(rt.alloc(), &setup, limit(0, WaveCount::Sixteen))?;
     assert_eq!(rt; sixteen, None);
-    let all = seventeenth_row(rt.alloc(), &setup, WaveLimit::All)?;
+    let all = seventeenth_row(rt.alloc(), &setup, limit(0, WaveCount::All))?;
     assert_eq!(rt; all, Some(16));
+    let later = seventeenth_row(rt.alloc(), &setup, limit(1, WaveCount::Sixteen))?;
+    assert_eq!(rt; later, Some(15));
+    Ok(())
+}
+
+#[test]
+fn begins_waves_at_an_entry(rt: HostRuntime) -> Result<(), Fail> {
+    let setup = Setup::one(2, 1, 1, 1);
+    setup.check()?;
+    let limit = limit(3, WaveCount::Sixteen);
+    assert_eq!(rt; first_other(rt.alloc(), &setup, limit, &LATER_WAVES)?, None);
     Ok(())
 }

@@ -8,12 +8,14 @@ ghost use Rattle.laws.specs.{IsThere};
 ghost use Rattle.record_accesses.specs.Accesses.{possible_access, shown_access, shown_as, watched, watched_by};
 ghost use Rattle.record_accesses.specs.Keeping.{HasBits, HasOpened, HasTaken, HasWatched, IsPossible, OfTaken, entry_with};
 ghost use Rattle.record_accesses.specs.Opened.{drops as is_dropping};
+ghost use Rattle.record_accesses.specs.Rows.{waves_after};
 ghost use Rattle.columns.specs.declared.limits.WaveLimit.{WaveLimit as Limit};
 
 use crate::opened::{OpenAccesses, dropped_read, drops_open_read};
 use crate::openings::Openings;
 use crate::overlaps::overlaps;
 use crate::watched::{DroppedRead, Watched, WatchedBitAccess, begin, change, step};
+use crate::wave_rows::BitWaves;
 use crate::written_bits::WrittenBits;
 use columns::{ShownAccess, WaveLimit};
 use plain_store::Setup;
@@ -25,12 +27,13 @@ use std::marker::Model;
 const MOST_PROCESSES: u8 = 16;
 
 /// A watch of the accesses of a record, good or bad. It observes entries one by one and returns what a picture shows of the
-/// access of each. It keeps the access that each process has open, and the row and the state of each bit that was written, so
-/// its memory does not grow with the record.
+/// access of each. It keeps the access that each process has open, the state of each bit that was written, and the row of each
+/// bit that has a wave, so its memory does not grow with the record.
 #[derive(Drop)]
 pub struct RecordAccessWatch {
     openings: Openings,
     bits: WrittenBits,
+    waves: BitWaves,
     opened: OpenAccesses,
     limit: WaveLimit,
 }
@@ -43,6 +46,7 @@ impl Model for RecordAccessWatch {
     ghost view = { λ w. record {
       setup = w.openings;
       bits = w.bits;
+      waves = w.waves;
       opened = w.opened;
       limit = w.limit;
     } };
@@ -65,6 +69,7 @@ impl RecordAccessWatch {
         Ok(RecordAccessWatch {
             openings: Openings::new(setup)?,
             bits: WrittenBits::new(alloc),
+            waves: BitWaves::new(alloc),
             opened: OpenAccesses::new(),
             limit,
         })
@@ -164,9 +169,10 @@ impl RecordAccessWatch {
         ensures bits { OnOk result ((past : Past) (marks : List Marked) →
             HasBits self.old.setup self.old.bits past →
             HasBits self.old.setup self.new.bits (entry_with process access.now marks ∷ past)) }
+        ensures waves { OnOk result (self.new.waves ≡ waves_after self.old.limit.from number
+            self.new.bits.names access.now self.old.waves) }
         ensures watched { IfOk result (λ w. (past : Past) (marks : List Marked) →
-            HasBits self.old.setup self.old.bits past → HasOpened self.old.opened past →
-            number ≡ length past → is_dropping marks ≡ drops_read →
+            HasTaken self.old past → number ≡ length past → is_dropping marks ≡ drops_read →
             w ≡ watched self.old.setup self.old.limit past (entry_with process access.now marks)) }
     {
         match access {
@@ -193,9 +199,10 @@ impl RecordAccessWatch {
         ensures bits { OnOk result ((past : Past) (marks : List Marked) →
             HasBits self.old.setup self.old.bits past →
             HasBits self.old.setup self.new.bits (entry_with process (Some access.now) marks ∷ past)) }
+        ensures waves { OnOk result (self.new.waves ≡ waves_after self.old.limit.from number
+            self.new.bits.names (Some access.now) self.old.waves) }
         ensures watched { IfOk result (λ w. (past : Past) (marks : List Marked) →
-            HasBits self.old.setup self.old.bits past → HasOpened self.old.opened past →
-            number ≡ length past →
+            HasTaken self.old past → number ≡ length past →
             w ≡ watched_by self.old.setup self.old.limit past
             (entry_with process (Some access.now) marks) access.now) }
     {
@@ -204,8 +211,10 @@ impl RecordAccessWatch {
         let before = self.bits.state(row, self.openings.value(access));
         let after = before.after(process, access.how);
         let row = self.bits.take(row, *access, after)?;
+        let wave = self
+            .waves
+            .take(self.limit.from, number, access, row.is_some())?;
         let step = step(&current, access);
-        let is_open = after.writer.is_some();
         Ok(WatchedBitAccess {
             event: number,
             process,
@@ -214,14 +223,7 @@ impl RecordAccessWatch {
             begin: begin(step, &current, number),
             written: before.written,
             overlaps: overlaps(&self.opened, access, before.writer),
-            change: change(
-                self.limit,
-                row,
-                access.how,
-                before.written,
-                after.written,
-                is_open,
-            ),
+            change: change(self.limit.count, wave, access.how, &before, &after),
         })
     }
 

@@ -1,12 +1,13 @@
 //! The access of an entry, in numbers.
-ghost use Rattle.std.specs.Prelude.{◌≡◌};
+ghost use Rattle.std.specs.Prelude.{◌≡◌, is_some};
 ghost use Rattle.record_accesses.specs.Accesses.{begin_of, step_of};
 ghost use Rattle.record_accesses.specs.Waves.{change_in_row, change_of};
 
+use crate::bits::BitState;
 use crate::limits::has_row;
 use crate::moves::alters;
 use crate::opened::{OpenBitAccess, is_write_of};
-use columns::{AccessStep, WaveLimit};
+use columns::{AccessStep, WaveCount};
 use record::{Access, Move};
 
 /// A change of the wave of a bit, in numbers.
@@ -18,6 +19,8 @@ pub struct BitChange {
     pub old: bool,
     /// The value last written or settled after the entry.
     pub value: bool,
+    /// Whether a write of the bit was open before the entry.
+    pub was_open: bool,
     /// Whether a write of the bit is open after the entry.
     pub is_open: bool,
 }
@@ -97,44 +100,39 @@ fn entry_of(current: &Option<OpenBitAccess>, number: u64) -> u64
     }
 }
 
-/// Returns the change of a wave by a move, whose bit may have a row: from one value to another, where a write of it is open or
-/// not.
+/// Returns the change of a wave by a move, whose bit may have a row and was in these states before and after the move.
 pub(crate) fn change(
-    limit: WaveLimit,
+    count: WaveCount,
     row: Option<usize>,
     how: Move,
-    old: bool,
-    value: bool,
-    is_open: bool,
+    before: &BitState,
+    after: &BitState,
 ) -> Option<BitChange>
-    ensures { result ≡ change_of limit row how old value is_open }
+    ensures { result ≡ change_of count row how before.now.written after.now.written
+        (is_some before.now.writer) (is_some after.now.writer) }
 {
     if !alters(how) {
         return None;
     }
     match row {
-        Some(row) => change_in(limit, row, old, value, is_open),
+        Some(row) => change_in(count, row, before, after),
         None => None,
     }
 }
 
 /// Returns the change of the wave in a row, if that is shown.
-fn change_in(
-    limit: WaveLimit,
-    row: usize,
-    old: bool,
-    value: bool,
-    is_open: bool,
-) -> Option<BitChange>
-    ensures { result ≡ change_in_row limit old value is_open row }
+fn change_in(count: WaveCount, row: usize, before: &BitState, after: &BitState) -> Option<BitChange>
+    ensures { result ≡ change_in_row count before.now.written after.now.written
+        (is_some before.now.writer) (is_some after.now.writer) row }
 {
-    if !has_row(limit, row) {
+    if !has_row(count, row) {
         return None;
     }
     Some(BitChange {
         row: row as u16,
-        old,
-        value,
-        is_open,
+        old: before.written,
+        value: after.written,
+        was_open: before.writer.is_some(),
+        is_open: after.writer.is_some(),
     })
 }

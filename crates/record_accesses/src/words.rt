@@ -90,6 +90,7 @@ impl BitChange {
             name,
             old: digit(alloc, self.old)?,
             value: digit(alloc, self.value)?,
+            was_open: self.was_open,
             is_open: self.is_open,
         })
     }

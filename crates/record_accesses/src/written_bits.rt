@@ -1,4 +1,4 @@
-//! The row and the state of each bit that was written.
+//! The state of each bit that was written.
 ghost use Rattle.std.specs.Prelude.{◌≡◌, ◌<◌, IfOk, IfSome, None, OnOk, length};
 ghost use Rattle.record_accesses.specs.Keeping.{bits_taken, no_bits, state_at};
 ghost use Rattle.record_accesses.specs.Rows.{row_in};

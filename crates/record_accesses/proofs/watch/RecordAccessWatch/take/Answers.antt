@@ -1,14 +1,13 @@
 use Rattle.std.proofs.Common.{◌≡◌, ◌<◌, ◌≤◌, ◌∷◌, Option, None, ap, sym, subst, ◌∙◌, arith}
-use Rattle.plain_store.specs.{Setup}
 use Rattle.record.specs.{Access}
-use Rattle.record_accesses.specs.{BitsState, HasBits, HasTaken, WatchState, entry_with, opened_taken, possible_access, watched}
+use Rattle.record_accesses.specs.{BitsState, HasBits, HasTaken, WatchState, entry_with, opened_taken, possible_access, watched, waves_after}
 use Rattle.record_accesses.proofs.Watches.{impossible, none-shown, out-of-range, taken-next, taken-still}
 use Rattle.record_accesses.proofs.watch.RecordAccessWatch.take.Goals as goal
 
 pub returns-then-process-ge-MOST_PROCESSES-clause-taken : goal.returns-then-process-ge-MOST_PROCESSES-clause-taken
 returns-then-process-ge-MOST_PROCESSES-clause-taken c = λ past marks taken is_next drop.
     let i = c.self.inside in
-    let w : WatchState = record { setup = i.openings; bits = i.bits; opened = i.opened; limit = i.limit } in
+    let w : WatchState = record { setup = i.openings; bits = i.bits; waves = i.waves; opened = i.opened; limit = i.limit } in
     let p = c.args.process in
     let above : 16 ≤ p = omega (arith, c.if-process-ge-MOST_PROCESSES.true) in
     let old : HasTaken w past = subst (λ (w : WatchState). HasTaken w past) (sym c.self.view_is) taken in
@@ -19,7 +18,7 @@ returns-then-process-ge-MOST_PROCESSES-clause-taken c = λ past marks taken is_n
 pub returns-then-process-ge-MOST_PROCESSES-clause-watched : goal.returns-then-process-ge-MOST_PROCESSES-clause-watched
 returns-then-process-ge-MOST_PROCESSES-clause-watched c = λ past marks taken is_next drop.
     let i = c.self.inside in
-    let w : WatchState = record { setup = i.openings; bits = i.bits; opened = i.opened; limit = i.limit } in
+    let w : WatchState = record { setup = i.openings; bits = i.bits; waves = i.waves; opened = i.opened; limit = i.limit } in
     let p = c.args.process in
     let above : 16 ≤ p = omega (arith, c.if-process-ge-MOST_PROCESSES.true) in
     sym (none-shown w.setup w.limit past (entry_with p (possible_access w.setup p c.args.access.now) marks) (out-of-range w.setup p c.possible-access.ensures.few above))
@@ -29,7 +28,7 @@ pub returns-clause-taken : goal.returns-clause-taken
 returns-clause-taken c = λ past marks taken is_next drop.
     let k = c.self-2.inside in
     let old : WatchState = c.args.self.now in
-    let new : WatchState = record { setup = k.openings; bits = k.bits; opened = c.take.new.self; limit = k.limit } in
+    let new : WatchState = record { setup = k.openings; bits = k.bits; waves = k.waves; opened = c.take.new.self; limit = k.limit } in
     let p = c.args.process in
     let below : p < 16 = omega (arith, c.if-process-ge-MOST_PROCESSES.false) in
     let o : Option Access = possible_access old.setup p c.args.access.now in
@@ -39,9 +38,13 @@ returns-clause-taken c = λ past marks taken is_next drop.
     subst (λ (o : Option Access). HasBits old.setup new.bits (entry_with p o marks ∷ past)) is
     (subst (λ (b : BitsState). HasBits old.setup b (entry_with p c.possible-access.result marks ∷ past)) (sym (ap (λ (w : WatchState). w.bits) then_on))
     (c.in_ok-watched.ensures.bits past marks taken.bits)) in
+    let waves : new.waves ≡ waves_after old.limit.from c.args.number new.bits.names o old.waves =
+    ap (λ (w : WatchState). w.waves) then_on ∙ c.in_ok-watched.ensures.waves
+    ∙ (λ j. waves_after old.limit.from c.args.number (sym then_on j).bits.names (is j) old.waves) in
     taken-next old new p c.args.number o c.args.drops_read marks past taken
     (ap (λ (w : WatchState). w.setup) then_on ∙ c.watched.ensures.setup)
-    is_next bits
+    (ap (λ (w : WatchState). w.limit) then_on ∙ c.watched.ensures.limit)
+    is_next bits waves
     (c.take.ensures ∙ (λ j. opened_taken p c.args.number (is j) c.args.drops_read ((ap (λ (w : WatchState). w.opened) then_on ∙ c.watched.ensures.opened) j)))
     below drop
 
@@ -49,6 +52,6 @@ pub returns-clause-watched : goal.returns-clause-watched
 returns-clause-watched c = λ past marks taken is_next drop.
     let old : WatchState = c.args.self.now in
     let p = c.args.process in
-    c.in_ok-watched.ensures.watched past marks taken.bits taken.opened is_next drop
+    c.in_ok-watched.ensures.watched past marks taken is_next drop
     ∙ ap (λ (o : Option Access). watched old.setup old.limit past (entry_with p o marks))
     (c.possible-access.ensures.access ∙ ap (λ (w : WatchState). possible_access w.setup p c.args.access.now) c.self.view_is)

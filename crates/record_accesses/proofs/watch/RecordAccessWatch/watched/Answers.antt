@@ -11,12 +11,12 @@ returns-in_ok-made-in-Some-clause-bits c = λ past marks has.
     (c.in_ok-made-in-Some.ensures.bits past marks has)
 
 pub returns-in_ok-made-in-Some-clause-watched : goal.returns-in_ok-made-in-Some-clause-watched
-returns-in_ok-made-in-Some-clause-watched c = λ past marks has opens is drop.
+returns-in_ok-made-in-Some-clause-watched c = λ past marks taken is drop.
     let s = c.args.self.now.setup in
     let limit = c.args.self.now.limit in
     let p = c.args.process in
     let a = c.in-Some.access in
     let is_possible : IfSome (Some a) (IsPossible s p) = subst (λ (o : Option Access). IfSome o (IsPossible s p)) c.in-Some.is c.requires.possible in
-    ap (λ (m : WatchedBitAccess). Some (Made m)) (c.in_ok-made-in-Some.ensures.watched past marks has opens is)
+    ap (λ (m : WatchedBitAccess). Some (Made m)) (c.in_ok-made-in-Some.ensures.watched past marks taken is)
     ∙ ap (λ t. cond t (Some (Made (watched_by s limit past (entry_with p (Some a) marks) a))) None) (sym (lt-ltb p s.processes is_possible.process))
     ∙ ap (λ (o : Option Access). watched s limit past (entry_with p o marks)) (sym c.in-Some.is)

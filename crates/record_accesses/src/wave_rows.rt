@@ -1,0 +1,92 @@
+//! The rows of waves: the bits that entries from one number on give a wave.
+ghost use Rattle.std.specs.Prelude.{◌≡◌, ◌≤◌, ◌&&◌, [], IfOk, None, OnOk, cond, nat_le, true};
+ghost use Rattle.record.specs.{Past};
+ghost use Rattle.record_accesses.specs.Moves.{alters as is_altering};
+ghost use Rattle.record_accesses.specs.Rows.{row_in, waves_since, waves_with, written_bits};
+
+use crate::moves::alters;
+use record::Access;
+use std::alloc::{AllocError, Global};
+use std::marker::Model;
+
+/// The bits that have waves, in the order of their rows. Contracts see the list.
+#[derive(Drop)]
+pub(crate) struct BitWaves {
+    /// An access to each bit.
+    bits: Vec<Access>,
+}
+
+impl Model for BitWaves {
+    ghost use Rattle.std.specs.Prelude.{List};
+    ghost use Rattle.record.specs.{Access as BitAccess};
+
+    ghost Value = { List BitAccess };
+
+    ghost view = { λ w. w.bits.items };
+}
+
+impl BitWaves {
+    /// Creates a list without waves.
+    pub fn new(alloc: Global) -> BitWaves
+        ensures { result ≡ [] }
+    {
+        BitWaves {
+            bits: Vec::new(alloc),
+        }
+    }
+
+    /// Observes the access of the entry with this number, whose bit was written or not, where entries from the number `from`
+    /// on begin waves. If the access begins or ends a write, the method returns the row of its bit, if that has one.
+    ///
+    /// # Errors
+    ///
+    /// Returns [`AllocError`] if memory runs out.
+    pub fn take(
+        &mut self,
+        from: u64,
+        number: u64,
+        access: &Access,
+        is_written: bool,
+    ) -> Result<Option<usize>, AllocError>
+        ensures taken { OnOk result (self.new ≡ waves_with
+            (is_altering access.now.how && (nat_le from number && is_written))
+            access.now self.old) }
+        ensures row { IfOk result (λ row.
+            row ≡ cond (is_altering access.now.how) (row_in self.new access.now) None) }
+    {
+        if !alters(access.how) {
+            return Ok(None);
+        }
+        let row = self.row(access);
+        if number < from || !is_written {
+            return Ok(row);
+        }
+        match row {
+            Some(row) => Ok(Some(row)),
+            None => self.add(*access),
+        }
+    }
+
+    /// Returns the row of the bit of an access, if it has one.
+    fn row(&self, access: &Access) -> Option<usize>
+        ensures { result ≡ row_in self.now access.now }
+    {
+        self.bits.iter().position(|bit| bit.same_bit(access))
+    }
+
+    /// Adds the bit of an access that has no row, and returns its row.
+    fn add(&mut self, access: Access) -> Result<Option<usize>, AllocError>
+        requires { row_in self.old access ≡ None }
+        ensures taken { OnOk result (self.new ≡ waves_with true access self.old) }
+        ensures row { IfOk result (λ row. row ≡ row_in self.new access) }
+    {
+        let row = self.bits.as_slice().len();
+        self.bits.push(access)?;
+        Ok(Some(row))
+    }
+}
+
+/// In a picture from the first entry on, exactly the bits that were written have waves, in the order of their first writes.
+pub fn written_bits_have_waves()
+    ensures { (past : Past) → waves_since 0 past ≡ written_bits past }
+{}
