@@ -1,3 +1,4 @@
 mod KeptAccesses
 mod RowFacts
 mod Watches
+mod WaveFacts

@@ -2,10 +2,10 @@
 use Rattle.std.proofs.Common.{◌≡◌, ◌≢◌, ℕ, zero, suc, ◌+◌, ◌*◌, ◌<◌, ◌≤◌, Bool, true, false, cond, List, [], ◌∷◌, ◌++◌, Option, None, Some, get_or, length, option_map, replicate, slice_set, refl, sym, ap, ◌∙◌, subst, inl, inr, true≢false, add-one, arith, get_or-set_other, get_or-set_same, length-append, length-set}
 use Rattle.std.proofs.lemmas.List.{length-replicate}
 use Rattle.std.proofs.lemmas.Bool.{cases_Bool}
-use Rattle.trace.specs.{Cell, CellAccess, TraceSetup, is_trace_setup}
+use Rattle.trace.specs.{Cell, TraceSetup, is_trace_setup}
 use Rattle.trace_memory.specs.{has_cell, place_of, same_cell}
 use Rattle.trace_memory.proofs.CellPlaces.{place_within, places_apart, same_cell-eq, same_cell-refl}
-use Rattle.trace_accesses.specs.{HasRows, IsRows, RowsState, begun_if, no_rows, row_at, row_below, row_in, rows_after, rows_begun, rows_in, rows_taken, rows_with, with_last, writes}
+use Rattle.trace_accesses.specs.{HasRows, IsRows, RowsState, begun_if, no_rows, row_at, row_below, row_in, rows_begun, rows_in, rows_taken, rows_with, waves_with, with_last}
 
 -- The number of rows.
 
@@ -48,12 +48,12 @@ last-or : (b : Bool) (before after : Option ℕ) (n : ℕ) → (before ≡ None 
 last-or true before after n rest none = absurd (cc)
 last-or false before after n rest none = ap (option_map row_below) (rest (none_mapped before none)) ∙ ap Some (add-one n)
 
-last-same : (rows : List Cell) (c : Cell) → row_in rows c ≡ None → row_in (rows ++ c ∷ []) c ≡ Some (length rows)
+pub last-same : (rows : List Cell) (c : Cell) → row_in rows c ≡ None → row_in (rows ++ c ∷ []) c ≡ Some (length rows)
 last-same [] c none = ap (λ b. cond b (Some 0) None) (same_cell-refl c)
 last-same (d ∷ rows) c none = last-or (same_cell d c) (row_in rows c) (row_in (rows ++ c ∷ []) c) (length rows) (last-same rows c) none
 
 -- the others keep theirs
-last-other : (rows : List Cell) (c d : Cell) → same_cell c d ≡ false → row_in (rows ++ c ∷ []) d ≡ row_in rows d
+pub last-other : (rows : List Cell) (c d : Cell) → same_cell c d ≡ false → row_in (rows ++ c ∷ []) d ≡ row_in rows d
 last-other [] c d other = ap (λ b. cond b (Some 0) None) other
 last-other (x ∷ rows) c d other = ap (λ o. cond (same_cell x d) (Some 0) (option_map row_below o)) (last-other rows c d other)
 
@@ -87,24 +87,18 @@ module _ (s : TraceSetup) (r : RowsState) (rows : List Cell) (good : is_trace_se
   rows-begun c there = subst (λ (o : Option ℕ). HasRows s (begun_if o (place_of c) r) (rows_with c rows)) (sym (has.places c there)) (begun c there (row_in rows c) refl)
 
   -- after an access
-  pub rows-taken : (a : CellAccess) → has_cell s a.cell ≡ true → HasRows s (rows_taken a r) (rows_after (Some a) rows)
-  rows-taken a there = by (writes a.how)
-    where
-      by : (b : Bool) → HasRows s (cond b (rows_begun (place_of a.cell) r) r) (cond b (rows_with a.cell rows) rows)
-      by true = rows-begun a.cell there
-      by false = has
+  pub rows-taken : (counts : Bool) (c : Cell) → has_cell s c ≡ true → HasRows s (rows_taken counts c r) (waves_with counts c rows)
+  rows-taken true c there = rows-begun c there
+  rows-taken false c there = has
 
 -- the places stay
 long-begun : (o : Option ℕ) (place : ℕ) (r : RowsState) → length (begun_if o place r).places ≡ length r.places
 long-begun (Some row) place r = refl
 long-begun None place r = length-set r.places place (Some r.count)
 
-pub long-taken : (a : CellAccess) (r : RowsState) → length (rows_taken a r).places ≡ length r.places
-long-taken a r = by (writes a.how)
-  where
-    by : (b : Bool) → length (cond b (rows_begun (place_of a.cell) r) r).places ≡ length r.places
-    by true = long-begun (row_at r (place_of a.cell)) (place_of a.cell) r
-    by false = refl
+pub long-taken : (counts : Bool) (c : Cell) (r : RowsState) → length (rows_taken counts c r).places ≡ length r.places
+long-taken true c r = long-begun (row_at r (place_of c)) (place_of c) r
+long-taken false c r = refl
 
 -- the places and the rows of no cell, and of one cell more
 pub are-none : (registers : ℕ) (r : RowsState) → registers ≤ 64 → r ≡ no_rows (16 * registers) → IsRows r

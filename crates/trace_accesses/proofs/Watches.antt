@@ -2,11 +2,11 @@
 use Rattle.std.proofs.Common.{◌≡◌, ℕ, ◌+◌, ◌<◌, ◌≤◌, ◌*◌, Bool, true, false, nat_lt, cond, List, ◌∷◌, Option, None, Some, length, option_map, Result, Ok, Err, IfOk, refl, sym, ap, ◌∙◌, subst, add-one}
 use Rattle.std.proofs.lemmas.Bool.{and_parts, leb-true, ltb-true}
 use Rattle.trace.specs.{CellAccess, LockMark, TraceEntry, TracePast, TraceSetup, is_trace_setup, trace_entry}
-use Rattle.trace_memory.specs.{HasMade, MemoryState, has_cell, place_of}
+use Rattle.trace_memory.specs.{HasMade, MemoryState, has_cell, moves_on, open_write, place_of}
 use Rattle.trace_memory.proofs.CellPlaces.{place_within}
 use Rattle.trace_memory.proofs.Made.{made-still}
-use Rattle.trace_accesses.specs.{HasRows, HasTaken, HasWatched, IsWatch, RowsState, WatchState, WatchedAccess, WaveLimit, is_possible, possible_access, possible_past, rows_taken, shown_access, shown_as, watched_access, written_rows}
-use Rattle.trace_accesses.proofs.RowFacts.{long-taken, rows-taken}
+use Rattle.trace_accesses.specs.{HasRows, HasTaken, HasWatched, IsWatch, RowsState, WatchState, WatchedAccess, WaveLimit, counts_from, is_possible, possible_access, possible_past, rows_taken, shown_access, shown_as, watched_access, waves_since}
+use Rattle.trace_accesses.proofs.RowFacts.{rows-taken}
 
 -- a setup in range has at most 64 registers
 pub few-registers : (s : TraceSetup) → is_trace_setup s ≡ true → length s.registers ≤ 64
@@ -46,23 +46,24 @@ taken-still w p marks past taken = record {
 }
 
 -- An entry with an access.
-module _ (w : WatchState) (a : CellAccess) (memory : MemoryState) (rows : RowsState) (is : IsWatch w) (setup : memory.setup ≡ w.memory.setup) (are : rows ≡ rows_taken a w.rows) where
+module _ (w : WatchState) (a : CellAccess) (memory : MemoryState) (rows : RowsState) (is : IsWatch w) (setup : memory.setup ≡ w.memory.setup) where
   abbrev next : WatchState
   next = record { memory = memory; rows = rows; limit = w.limit; entries = w.entries + 1 }
 
-  pub is-watch : IsWatch next
-  is-watch = record {
+  pub is-watch : length rows.places ≡ length w.rows.places → IsWatch next
+  is-watch long = record {
     good = subst (λ (s : TraceSetup). is_trace_setup s ≡ true) (sym setup) is.good;
-    places = ap (λ (r : RowsState). length r.places) are ∙ long-taken a w.rows ∙ is.places ∙ ap (λ (s : TraceSetup). 16 * length s.registers) (sym setup);
+    places = long ∙ is.places ∙ ap (λ (s : TraceSetup). 16 * length s.registers) (sym setup);
   }
 
   pub taken-on : (p : ℕ) (marks : List LockMark) (past : TracePast) → has_cell w.memory.setup a.cell ≡ true → HasTaken w past → HasMade memory (trace_entry p (Some a) marks ∷ past) →
-      HasTaken next (trace_entry p (Some a) marks ∷ past)
-  taken-on p marks past there taken made = record {
+      rows ≡ rows_taken (counts_from w.limit.from w.entries a.how (open_write (moves_on a.cell past))) a.cell w.rows → HasTaken next (trace_entry p (Some a) marks ∷ past)
+  taken-on p marks past there taken made are = record {
     made = made;
-    rows = subst (λ (s : TraceSetup). HasRows s rows (written_rows (trace_entry p (Some a) marks ∷ past))) (sym setup)
-        (subst (λ (r : RowsState). HasRows w.memory.setup r (written_rows (trace_entry p (Some a) marks ∷ past))) (sym are)
-        (rows-taken w.memory.setup w.rows (written_rows past) is.good is.places taken.rows a there));
+    rows = subst (λ (s : TraceSetup). HasRows s rows (waves_since w.limit.from (trace_entry p (Some a) marks ∷ past))) (sym setup)
+        (subst (λ (r : RowsState). HasRows w.memory.setup r (waves_since w.limit.from (trace_entry p (Some a) marks ∷ past)))
+        (sym (are ∙ (λ i. rows_taken (counts_from w.limit.from (taken.entries i) a.how (open_write (moves_on a.cell past))) a.cell w.rows)))
+        (rows-taken w.memory.setup w.rows (waves_since w.limit.from past) is.good is.places taken.rows (counts_from w.limit.from (length past) a.how (open_write (moves_on a.cell past))) a.cell there));
     entries = ap (λ n. n + 1) taken.entries ∙ add-one (length past);
   }
 

@@ -5,12 +5,13 @@ use Rattle.std.specs.Option.{option_map_or}
 use Rattle.columns.specs.{GivenAccess, GivenChange}
 use Rattle.trace.specs.{CellAccess, CellMove, TraceEntry, TracePast, TraceRegister, TraceSetup, cell_text, ends}
 use Rattle.trace_memory.specs.{CellState, MadeAccess, cell_after, has_cell, number_of, opened, same_cell}
+use Rattle.columns.specs.declared.limits.WaveCount.{WaveCount}
+use Rattle.columns.specs.declared.limits.WaveCount.TheVariants.{Sixteen, All}
 use Rattle.columns.specs.declared.limits.WaveLimit.{WaveLimit}
-use Rattle.columns.specs.declared.limits.WaveLimit.TheVariants.{Sixteen, All}
 use Rattle.trace_accesses.specs.declared.watched.RowChange.{RowChange}
 use Rattle.trace_accesses.specs.declared.watched.WatchedAccess.{WatchedAccess}
 use Rattle.trace_accesses.specs.Moves.{alters, kind_of, step_of, writes}
-use Rattle.trace_accesses.specs.Rows.{row_in, written_rows}
+use Rattle.trace_accesses.specs.Rows.{row_in, waves_since}
 use Rattle.trace_accesses.specs.Words.{words_of}
 
 -- Which accesses are shown.
@@ -55,18 +56,18 @@ abbrev pub overlaps_of : TracePast → ℕ → CellAccess → List Bool
 overlaps_of past p a = cond (ends a.how) (replicate 16 false) (first_overlaps past p a 16)
 
 -- a row is shown
-abbrev pub is_within : WaveLimit → ℕ → Bool
+abbrev pub is_within : WaveCount → ℕ → Bool
 is_within Sixteen row = nat_lt row 16
 is_within All row = true
 
 -- the change of a wave in this row by a move, whose cell was in the first state and then in the second
-abbrev pub change_in_row : WaveLimit → CellState → CellState → ℕ → Option RowChange
-change_in_row limit before after row = cond (is_within limit row)
-    (Some (record { row = row; old = before.stored; value = after.stored; is_open = is_some after.writing })) None
+abbrev pub change_in_row : WaveCount → CellState → CellState → ℕ → Option RowChange
+change_in_row count before after row = cond (is_within count row)
+    (Some (record { row = row; old = before.stored; value = after.stored; was_open = is_some before.writing; is_open = is_some after.writing })) None
 
 -- the change of a wave by a move, whose cell may have a row
-abbrev pub change_of : WaveLimit → Option ℕ → CellMove → CellState → CellState → Option RowChange
-change_of limit row how before after = cond (alters how) (option_and_then (change_in_row limit before after) row) None
+abbrev pub change_of : WaveCount → Option ℕ → CellMove → CellState → CellState → Option RowChange
+change_of count row how before after = cond (alters how) (option_and_then (change_in_row count before after) row) None
 
 -- the access of an entry
 abbrev pub watched_by : TraceSetup → WaveLimit → TracePast → TraceEntry → CellAccess → WatchedAccess
@@ -77,7 +78,7 @@ watched_by s limit past e a = record {
   begin = begin_of past e.process a.how;
   stored = (cell_after s a.cell past).stored;
   overlaps = overlaps_of past e.process a;
-  change = change_of limit (row_in (written_rows (e ∷ past)) a.cell) a.how (cell_after s a.cell past) (cell_after s a.cell (e ∷ past));
+  change = change_of limit.count (row_in (waves_since limit.from (e ∷ past)) a.cell) a.how (cell_after s a.cell past) (cell_after s a.cell (e ∷ past));
 }
 
 abbrev pub watched_access : TraceSetup → WaveLimit → TracePast → TraceEntry → Option WatchedAccess
@@ -87,7 +88,7 @@ watched_access s limit past e = option_map (watched_by s limit past e) e.access
 
 -- the change of the wave of a cell
 abbrev pub shown_change : List ℕ → RowChange → GivenChange
-shown_change cell c = record { row = c.row; name = cell; old = decimal c.old; value = decimal c.value; is_open = c.is_open }
+shown_change cell c = record { row = c.row; name = cell; old = decimal c.old; value = decimal c.value; was_open = c.was_open; is_open = c.is_open }
 
 -- an access
 abbrev pub shown_as : List TraceRegister → WatchedAccess → GivenAccess

@@ -6,7 +6,7 @@ use Rattle.trace_memory.specs.{HasMade, MemoryState, OpenAccess, has_cell, place
 use Rattle.columns.specs.declared.limits.WaveLimit.{WaveLimit}
 use Rattle.trace_accesses.specs.Accesses.{possible_past}
 use Rattle.trace_accesses.specs.Moves.{writes}
-use Rattle.trace_accesses.specs.Rows.{row_in, written_rows}
+use Rattle.trace_accesses.specs.Rows.{row_in, waves_since}
 
 -- Open accesses, as memory keeps them.
 
@@ -52,9 +52,9 @@ begun_if None place r = record { places = slice_set r.places place (Some r.count
 abbrev pub rows_begun : ℕ → RowsState → RowsState
 rows_begun place r = begun_if (row_at r place) place r
 
--- after an access
-abbrev pub rows_taken : CellAccess → RowsState → RowsState
-rows_taken a r = cond (writes a.how) (rows_begun (place_of a.cell) r) r
+-- after an access to a cell, which counts or not
+abbrev pub rows_taken : Bool → Cell → RowsState → RowsState
+rows_taken counts c r = cond counts (rows_begun (place_of c) r) r
 
 -- these are the rows of the cells
 pub record HasRows (s : TraceSetup) (r : RowsState) (rows : List Cell) : Type 0 where
@@ -63,7 +63,7 @@ pub record HasRows (s : TraceSetup) (r : RowsState) (rows : List Cell) : Type 0 
 
 -- The watch.
 
--- the memory, the rows, the limit of rows, and the number of entries
+-- the memory, the rows, the limit of waves, and the number of entries
 pub record WatchState : Type 0 where
   pub memory : MemoryState
   pub rows : RowsState
@@ -78,14 +78,14 @@ pub record IsWatch (w : WatchState) : Type 0 where
 -- it has taken these entries, whose accesses are possible
 pub record HasTaken (w : WatchState) (past : TracePast) : Type 0 where
   pub made : HasMade w.memory past
-  pub rows : HasRows w.memory.setup w.rows (written_rows past)
+  pub rows : HasRows w.memory.setup w.rows (waves_since w.limit.from past)
   pub entries : w.entries ≡ length past
 
 -- this holds of each past that was taken
 abbrev pub OfTaken : WatchState → (TracePast → Type 0) → Type 0
 OfTaken w P = (past : TracePast) → HasTaken w past → P past
 
--- it has watched these entries of a trace with this setup, and shows as many rows
+-- it has watched these entries of a trace with this setup, and shows the waves within this limit
 pub record HasWatched (w : WatchState) (s : TraceSetup) (limit : WaveLimit) (past : TracePast) : Type 0 where
   pub setup : w.memory.setup ≡ s
   pub shows : w.limit ≡ limit

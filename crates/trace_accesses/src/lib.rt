@@ -7,14 +7,19 @@
 //! Reads::All => Ok(Some(AccessWatch::new(view.alloc, setup, view.limit())?)),
 //! ```
 //!
+//! A picture may begin after the first entry, at the entry with the number `limit.from`. Only a cell for which this entry or a
+//! later one begins a write, or ends a write that is open, has a wave, and these entries give the waves their order. Earlier
+//! entries count only for the state of the cells. [`written_cells_have_waves`] states that, from the first entry on, exactly the
+//! cells that were written have waves.
+//!
 //! | Module | Contents |
 //! |---|---|
-//! | `limits` | which waves are shown |
+//! | `limits` | how many waves are shown |
 //! | `making` | one access, and what is kept after it |
 //! | `moves` | the kind and the step of a move, and whether it writes |
 //! | `overlaps` | where an access began, and which open accesses it overlaps |
 //! | `possible` | which accesses are shown |
-//! | `rows` | the row of each cell's wave |
+//! | `rows` | which cells have waves, and the row of each wave |
 //! | `watched` | an access in numbers |
 //! | `words` | an access in words |
 //! | `watch` | the watch |
@@ -30,7 +35,8 @@ mod watch;
 mod watched;
 mod words;
 
-pub use columns::WaveLimit;
+pub use columns::{WaveCount, WaveLimit};
+pub use rows::written_cells_have_waves;
 pub use watch::AccessWatch;
 
 #[cfg(test)]

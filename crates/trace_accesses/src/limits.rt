@@ -2,14 +2,14 @@
 ghost use Rattle.std.specs.Prelude.{◌≡◌};
 ghost use Rattle.trace_accesses.specs.Accesses.{is_within};
 
-use columns::WaveLimit;
+use columns::WaveCount;
 
 /// Returns whether the wave in a row is shown.
-pub(crate) fn has_row(limit: WaveLimit, row: u16) -> bool
-    ensures { result ≡ is_within limit row }
+pub(crate) fn has_row(count: WaveCount, row: u16) -> bool
+    ensures { result ≡ is_within count row }
 {
-    match limit {
-        WaveLimit::Sixteen => row < 16,
-        WaveLimit::All => true,
+    match count {
+        WaveCount::Sixteen => row < 16,
+        WaveCount::All => true,
     }
 }

@@ -1,14 +1,14 @@
 //! One access, in numbers, and the memory and the rows after it.
 ghost use Rattle.std.specs.Prelude.{◌≡◌, ◌<◌, ◌*◌, ◌∷◌, IsTrue, List, Some, length, true};
 ghost use Rattle.trace.specs.{LockMark as Mark, is_trace_setup, trace_entry};
-ghost use Rattle.trace_memory.specs.Cells.{has_cell};
+ghost use Rattle.trace_memory.specs.Cells.{has_cell, moves_on, open_write};
 ghost use Rattle.trace_memory.specs.Keeping.{HasMade, OfMade};
 ghost use Rattle.trace_accesses.specs.Accesses.{watched_by};
 ghost use Rattle.trace_accesses.specs.Keeping.{HasRows, rows_taken};
-ghost use Rattle.trace_accesses.specs.Rows.{written_rows};
+ghost use Rattle.trace_accesses.specs.Rows.{counts_from, waves_since};
 
 use crate::overlaps::{begin, overlaps};
-use crate::rows::WaveRows;
+use crate::rows::{WaveRows, counts};
 use crate::watched::{WatchedAccess, change};
 use columns::WaveLimit;
 use trace::CellAccess;
@@ -28,11 +28,14 @@ pub(crate) fn make(
     requires cell { IsTrue (has_cell memory.old.setup access.now.cell) }
     requires places { length rows.old.places ≡ 16 * length memory.old.setup.registers }
     ensures setup { memory.new.setup ≡ memory.old.setup }
-    ensures rows { rows.new ≡ rows_taken access.now rows.old }
+    ensures places { length rows.new.places ≡ length rows.old.places }
+    ensures rows { OfMade memory.old (λ past. number ≡ length past →
+        rows.new ≡ rows_taken (counts_from limit.from number access.now.how
+        (open_write (moves_on access.now.cell past))) access.now.cell rows.old) }
     ensures made { (marks : List Mark) → OfMade memory.old (λ past. number ≡ length past →
         HasMade memory.new (trace_entry process (Some access.now) marks ∷ past)) }
     ensures watched { (marks : List Mark) → OfMade memory.old (λ past. number ≡ length past →
-        HasRows memory.old.setup rows.old (written_rows past) →
+        HasRows memory.old.setup rows.old (waves_since limit.from past) →
         result ≡ watched_by memory.old.setup limit past
         (trace_entry process (Some access.now) marks) access.now) }
 {
@@ -41,7 +44,7 @@ pub(crate) fn make(
     let over = overlaps(memory, process, access);
     let made = Some(*access);
     memory.take(process, number, &made);
-    rows.take(access);
+    rows.take(counts(limit.from, number, access.how, &before), access.cell);
     let after = memory.cell(access.cell);
     let row = rows.row(access.cell);
     WatchedAccess {
@@ -51,6 +54,6 @@ pub(crate) fn make(
         begin: since,
         stored: before.stored,
         overlaps: over,
-        change: change(limit, row, access.how, &before, &after),
+        change: change(limit.count, row, access.how, &before, &after),
     }
 }

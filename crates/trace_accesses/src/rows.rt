@@ -1,15 +1,18 @@
 //! The row of each cell's wave.
 ghost use Rattle.std.specs.Prelude.{◌≡◌, ◌<◌, ◌≤◌, ◌*◌, IfOk, None, length, replicate};
+ghost use Rattle.trace.specs.{TracePast as Past};
 ghost use Rattle.trace_accesses.specs.Keeping.{no_rows, row_at, rows_begun, rows_taken};
+ghost use Rattle.trace_accesses.specs.Rows.{counts_from, waves_since, written_rows};
 ghost use Rattle.trace_memory.specs.Keeping.{place_of};
 
-use crate::moves::writes;
+use crate::moves::{alters, writes};
 use std::alloc::{AllocError, Global};
 use std::marker::Model;
-use trace::{Cell, CellAccess};
-use trace_memory::place_of as index_of;
+use trace::{Cell, CellMove};
+use trace_memory::{CellState, place_of as index_of};
 
-/// The rows of the cells that were written, in the order of their first writes. Contracts see the row of each cell's place.
+/// The rows of the cells that have waves, in the order of the entries that begin them. Contracts see the row of each cell's
+/// place.
 #[derive(Drop)]
 pub(crate) struct WaveRows {
     places: Vec<Option<u16>>,
@@ -27,7 +30,7 @@ impl Model for WaveRows {
 }
 
 impl WaveRows {
-    /// Creates the rows of this number of registers, none of which was written.
+    /// Creates the rows of this number of registers, none of which has a wave.
     ///
     /// # Errors
     ///
@@ -48,13 +51,13 @@ impl WaveRows {
         self.places[index_of(cell)]
     }
 
-    /// Observes an access: the first write of a cell begins the next row.
-    pub fn take(&mut self, access: &CellAccess)
-        requires { place_of access.now.cell < length self.old.places }
-        ensures { self.new ≡ rows_taken access.now self.old }
+    /// Observes an access to a cell. The first that counts ([`counts`]) begins the next row.
+    pub fn take(&mut self, counts: bool, cell: Cell)
+        requires { place_of cell < length self.old.places }
+        ensures { self.new ≡ rows_taken counts cell self.old }
     {
-        if writes(access.how) {
-            self.begin(access.cell);
+        if counts {
+            self.begin(cell);
         }
     }
 
@@ -73,6 +76,19 @@ impl WaveRows {
         }
     }
 }
+
+/// Returns whether the move of the entry with this number counts from a number on: it begins a write, or ends the write of its
+/// cell that is open. The end of a write that is not open gives its cell no wave.
+pub(crate) fn counts(from: u64, number: u64, how: CellMove, before: &CellState) -> bool
+    ensures { result ≡ counts_from from number how before.now.writing }
+{
+    number >= from && (writes(how) || (alters(how) && before.writing.is_some()))
+}
+
+/// In a picture from the first entry on, exactly the cells that were written have waves, in the order of their first writes.
+pub fn written_cells_have_waves()
+    ensures { (past : Past) → waves_since 0 past ≡ written_rows past }
+{}
 
 /// Returns the places of this number of registers, none of which has a row.
 fn places_without_rows(alloc: Global, registers: usize) -> Result<Vec<Option<u16>>, AllocError>

@@ -2,7 +2,7 @@
 ghost use Rattle.std.specs.Prelude.{◌≡◌, ◌<◌, ◌≤◌, true, IfOk};
 ghost use Rattle.trace.specs.{is_trace_setup};
 
-use crate::{AccessWatch, WaveLimit};
+use crate::{AccessWatch, WaveCount, WaveLimit};
 use columns::{AccessKind, AccessStep, ShownAccess, WaveChange};
 use smallvec::SmallVec;
 use std::alloc::{AllocError, Global};
@@ -38,6 +38,9 @@ fn push_change(alloc: Global, change: &WaveChange, text: &mut Vec<u8>) -> Result
     text.extend_from_slice(change.old.as_slice())?;
     text.extend_from_slice(b" ")?;
     text.extend_from_slice(change.value.as_slice())?;
+    if change.was_open {
+        text.extend_from_slice(b" was open")?;
+    }
     if change.is_open {
         text.extend_from_slice(b" open")?;
     }
@@ -106,15 +109,17 @@ fn entry(alloc: Global, case: &Case) -> TraceEntry {
     }
 }
 
-/// Returns the number of the first entry of which another line is shown.
+/// Returns the number of the first entry of which another line is shown, in a picture with waves from an entry on.
 fn first_other(
     alloc: Global,
     setup: &TraceSetup,
+    from: u64,
     cases: &[Case],
 ) -> Result<Option<usize>, AllocError>
     requires { is_trace_setup setup.now ≡ true }
 {
-    let mut watch = AccessWatch::new(alloc, setup, WaveLimit::Sixteen)?;
+    let count = WaveCount::Sixteen;
+    let mut watch = AccessWatch::new(alloc, setup, WaveLimit { from, count })?;
     for (number, case) in cases.iter().enumerate() {
         if watch.entries() == u64::MAX {
             return Ok(Some(number));
@@ -156,7 +161,7 @@ const SAFE: [Case; 13] = [
         0,
         Some(0),
         CellMove::End,
-        "3 0 writes end 0 [] flag[0] row 0 flag[0] 0 1",
+        "3 0 writes end 0 [] flag[0] row 0 flag[0] 0 1 was open",
     ),
     (
         1,
@@ -243,16 +248,52 @@ const ATOMIC: [Case; 5] = [
     (0, Some(0), CellMove::Set(1), ""),
 ];
 
+/// Waves begin with entry 2. One write is open then, and ends later. Entry 2 ends a write that is not open.
+const LATER_WAVES: [Case; 5] = [
+    (
+        0,
+        Some(0),
+        CellMove::Write(1),
+        "0 0 writes begin 0 [write 1] flag[0]",
+    ),
+    (
+        1,
+        Some(1),
+        CellMove::Set(1),
+        "1 1 writes whole 1 [set 1] flag[1]",
+    ),
+    (1, Some(1), CellMove::End, "2 1 writes end 2 [] flag[1]"),
+    (
+        0,
+        Some(0),
+        CellMove::End,
+        "3 0 writes end 0 [] flag[0] row 0 flag[0] 0 1 was open",
+    ),
+    (
+        1,
+        Some(1),
+        CellMove::Set(0),
+        "4 1 writes whole 4 [set 0] flag[1] row 1 flag[1] 1 0",
+    ),
+];
+
 #[test]
 fn shows_reads_that_writes_overlap(rt: HostRuntime) -> Result<(), Fail> {
     let setup = setup(rt.alloc(), b"flag", 1, false)?;
-    assert_eq!(rt; first_other(rt.alloc(), &setup, &SAFE)?, None);
+    assert_eq!(rt; first_other(rt.alloc(), &setup, 0, &SAFE)?, None);
     Ok(())
 }
 
 #[test]
 fn shows_updates_of_a_shared_cell(rt: HostRuntime) -> Result<(), Fail> {
     let setup = setup(rt.alloc(), b"turn", 2, true)?;
-    assert_eq!(rt; first_other(rt.alloc(), &setup, &ATOMIC)?, None);
+    assert_eq!(rt; first_other(rt.alloc(), &setup, 0, &ATOMIC)?, None);
+    Ok(())
+}
+
+#[test]
+fn begins_waves_at_an_entry(rt: HostRuntime) -> Result<(), Fail> {
+    let setup = setup(rt.alloc(), b"flag", 1, false)?;
+    assert_eq!(rt; first_other(rt.alloc(), &setup, 2, &LATER_WAVES)?, None);
     Ok(())
 }

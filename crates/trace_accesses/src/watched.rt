@@ -4,7 +4,7 @@ ghost use Rattle.trace_accesses.specs.Accesses.{change_in_row, change_of};
 
 use crate::limits::has_row;
 use crate::moves::alters;
-use columns::WaveLimit;
+use columns::WaveCount;
 use trace::{CellAccess, CellMove};
 use trace_memory::CellState;
 
@@ -17,6 +17,8 @@ pub struct RowChange {
     pub old: u32,
     /// The value after the entry.
     pub value: u32,
+    /// Whether a write of the cell was open before the entry.
+    pub was_open: bool,
     /// Whether a write of the cell is open after the entry.
     pub is_open: bool,
 }
@@ -40,34 +42,35 @@ pub struct WatchedAccess {
 
 /// Returns the change of a wave by a move, whose cell may have a row and was in these states before and after the move.
 pub(crate) fn change(
-    limit: WaveLimit,
+    count: WaveCount,
     row: Option<u16>,
     how: CellMove,
     before: &CellState,
     after: &CellState,
 ) -> Option<RowChange>
-    ensures { result ≡ change_of limit row how before.now after.now }
+    ensures { result ≡ change_of count row how before.now after.now }
 {
     if !alters(how) {
         return None;
     }
     match row {
-        Some(row) => change_in(limit, row, before, after),
+        Some(row) => change_in(count, row, before, after),
         None => None,
     }
 }
 
 /// Returns the change of the wave in a row, if that is shown.
-fn change_in(limit: WaveLimit, row: u16, before: &CellState, after: &CellState) -> Option<RowChange>
-    ensures { result ≡ change_in_row limit before.now after.now row }
+fn change_in(count: WaveCount, row: u16, before: &CellState, after: &CellState) -> Option<RowChange>
+    ensures { result ≡ change_in_row count before.now after.now row }
 {
-    if !has_row(limit, row) {
+    if !has_row(count, row) {
         return None;
     }
     Some(RowChange {
         row,
         old: before.stored,
         value: after.stored,
+        was_open: before.writing.is_some(),
         is_open: after.writing.is_some(),
     })
 }

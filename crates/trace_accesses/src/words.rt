@@ -101,6 +101,7 @@ impl RowChange {
             name,
             old: number(alloc, self.old)?,
             value: number(alloc, self.value)?,
+            was_open: self.was_open,
             is_open: self.is_open,
         })
     }

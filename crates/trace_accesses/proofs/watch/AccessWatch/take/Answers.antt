@@ -16,7 +16,8 @@ returns-in-Some-clause-taken c = λ marks past taken.
     let was : possible_access c.args.self.now.memory.setup p c.args.access.now ≡ Some a = ap (λ (w : WatchState). possible_access w.memory.setup p c.args.access.now) (sym c.self.view_is) ∙ is in
     let there = (possible-parts w.memory.setup p c.args.access.now a is).cell in
     subst (λ (o : Option CellAccess). HasTaken next (trace_entry p o marks ∷ past)) (sym was)
-    (taken-on w a c.make.new.memory c.make.new.rows c.self.invariant c.make.ensures.setup c.make.ensures.rows p marks past there before (c.make.ensures.made marks past before.made before.entries))
+    (taken-on w a c.make.new.memory c.make.new.rows c.self.invariant c.make.ensures.setup p marks past there before (c.make.ensures.made marks past before.made before.entries)
+    (c.make.ensures.rows past before.made before.entries))
 
 pub returns-in-Some-clause-watched : goal.returns-in-Some-clause-watched
 returns-in-Some-clause-watched c = λ marks past taken.
