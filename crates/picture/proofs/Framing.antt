@@ -2,7 +2,7 @@
 use Rattle.std.proofs.Common.{◌≡◌, ℕ, Result, Ok, Err, IfOk, OnOk, List, [], ◌∷◌, codes, Some, refl, ap, ◌∙◌}
 use Rattle.markup.specs.{Reading, begun, group, opens_in, reading, with_begun, with_tags}
 use Rattle.picture.specs.{Subject, list_begun, page_names, picture_names, script_of}
-use Rattle.picture.specs.declared.subjects.Subject.TheVariants.{Run, Trace}
+use Rattle.picture.specs.declared.subjects.Subject.TheVariants.{Record, Run, Trace}
 
 -- the lines and the open elements of a part
 abbrev Leaves : Reading → List (List ℕ) → List (List ℕ) → Type 0
@@ -46,11 +46,13 @@ list_end_text = codes "</ol></details>\n"
 -- the list ends the legend, and ends itself, whatever is listed
 list_reads : (subject : Subject) → opens_in list_end_text (opens_in (list_begun subject) (begun (codes "svg") (Some page_names))) ≡ Some page_names
 list_reads Run = refl
+list_reads Record = refl
 list_reads Trace = refl
 
 -- no script begins an element or ends one
 pub script_reads : (subject : Subject) → opens_in (script_of subject) (Some (codes "script" ∷ page_names)) ≡ Some (codes "script" ∷ page_names)
 script_reads Run = refl
+script_reads Record = refl
 script_reads Trace = refl
 
 -- the elements that begin in the body before the bands end there too

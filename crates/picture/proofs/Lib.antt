@@ -9,4 +9,5 @@ mod Framing
 mod Pagings
 mod VerdictLines
 mod Standings
+pub mod Windowing
 mod Sheetings

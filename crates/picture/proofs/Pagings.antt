@@ -5,8 +5,9 @@ use Rattle.std.proofs.Math.Seq.{take-append_seam}
 use Rattle.std.proofs.lemmas.List.{length-map}
 use Rattle.markup.specs.{drawings}
 use Rattle.record.specs.{Mark}
-use Rattle.picture.specs.{Accesses, Bands, BeginsColumn, DrawsBand, GivesRest, GoesOn, Item, Judges, MakesRoom, Places, Plan, Puts, Reads, SeenPage, Tells, ShownVerdict, accesses_behind, accesses_in, band_text, bands_of, bands_told, begun_by, behind_columns, columns_of, filled, framed, full_bytes, height_with, heights, heights_of, heights_told, held_in_64, judged_shapes, judged_with, layout_in, line_by, newest, newest_at, older, page_by, page_holding, page_of, placing_before, placing_in, room_by, state_after, verdict_in, whole_bytes, with_line, with_placed, with_put, with_room}
-use Rattle.columns.specs.{Column, Layout, OverlappedRead, Placing, RunLine, Saying, Seen, SeenAccesses, ShownAccess, State, accesses_after, accesses_at, alone, column_of_access, column_of_read, drawn_apart, end_of_words, freed_by, has_room_at, joined, joins, last_of, layout_of, moved_to, place_of, placing_at_first, put_at, seen, state_lock_marked, state_marked, state_told, stretched_all, widened}
+use Rattle.picture.specs.{Accesses, Bands, BeginsColumn, DrawsBand, GivesLast, Item, Judges, MakesRoom, Passes, Places, Plan, Puts, Reads, SeenPage, SetsOpening, ShownVerdict, TakesItem, Tells, accesses_behind, accesses_in, accesses_left, band_text, bands_drawn, bands_of, begun_by, behind_columns, columns_of, filled, framed, full_bytes, height_with, heights, heights_drawn, heights_of, held_in_64, judged_shapes, judged_with, layout_in, line_by, newest, newest_at, older, opening_by, page_by, page_holding, page_of, placing_before, placing_in, room_by, state_after, verdict_in, whole_bytes, with_line, with_placed, with_put, with_room}
+use Rattle.picture.specs.Bandings.{opening_length, opens_with}
+use Rattle.columns.specs.{Column, Layout, OverlappedRead, Placing, RunLine, Saying, Seen, SeenAccesses, ShownAccess, State, TakenChange, accesses_after, accesses_at, alone, change_told, column_of_access, column_of_read, drawn_apart, end_of_words, freed_by, has_room_at, joined, joins, last_of, layout_of, moved_to, place_of, placing_at_first, put_at, seen, state_lock_marked, state_marked, state_told, stretched_all, widened}
 use Rattle.columns.specs.trace.{LockMark}
 use Rattle.columns.specs.trace.declared.marks.LockMark.TheVariants as lock
 use Rattle.columns.specs.declared.told.Saying.TheVariants.{Ended, LockEnded, LockMarked, Marked, Refused, Shown, Tired}
@@ -57,7 +58,7 @@ drawn_by is_last verdict processes page =
 pub draws_begun : (is_last : Bool) (verdict : Option ShownVerdict) (old : SeenPage) (band : List ℕ) (new : SeenPage) → new ≡ filled_page verdict old → band ≡ drawn_by is_last verdict old.state.processes old → DrawsBand is_last verdict old band new
 draws_begun is_last verdict old band new is drawn plan state pending last_at bands same holds = (
   is ∙ ap (filled_page verdict) holds
-      ∙ (λ i. record (page_holding plan state pending last_at (filled bands)) { height = held_in_64 (heights plan.processes bands.full + (height_with verdict (layout_in (same i) (accesses_behind bands.full) bands.begun false).height + 16)) }),
+      ∙ (λ i. record (page_holding plan state pending last_at (filled bands)) { height = held_in_64 (heights plan bands.full + (height_with verdict (layout_in (same i) (accesses_behind plan.accesses bands.full) bands.begun false).height + 16)) }),
   drawn ∙ ap (λ (page : SeenPage). drawn_by is_last verdict page.state.processes page) holds ∙ ap (λ (n : ℕ). drawn_by is_last verdict n (page_holding plan state pending last_at bands)) same,
 )
 
@@ -141,19 +142,19 @@ told_processes state (Ended events taken refused) = refl
 told_processes state (LockMarked p mark) = lock_marked_processes (nat_lt p state.processes) state p mark
 told_processes state (LockEnded entries) = refl
 
-pub processes_after : (n : ℕ) (items : List Item) → (state_after n items).processes ≡ n
-processes_after n [] = refl
-processes_after n (Tells line ∷ before) = told_processes (state_after n before) line.saying ∙ processes_after n before
-processes_after n (Reads read ∷ before) = processes_after n before
-processes_after n (Accesses access ∷ before) = processes_after n before
-processes_after n (Judges verdict ∷ before) = processes_after n before
+pub processes_after : (state : State) (items : List Item) → (state_after state items).processes ≡ state.processes
+processes_after state [] = refl
+processes_after state (Tells line ∷ before) = told_processes (state_after state before) line.saying ∙ processes_after state before
+processes_after state (Reads read ∷ before) = processes_after state before
+processes_after state (Accesses access ∷ before) = processes_after state before
+processes_after state (Judges at verdict ∷ before) = processes_after state before
 
 -- a page without a verdict has taken in items of which the newest is none
 no_verdict : (old : SeenPage) (plan : Plan) (items : List Item) → old.verdict ≡ None → old ≡ page_of plan items → verdict_in items ≡ None
 no_verdict old plan items none holds = sym (ap (λ (p : SeenPage). p.verdict) holds) ∙ none
 
-unjudged : (old : SeenPage) (plan : Plan) (items : List Item) → old.verdict ≡ None → old ≡ page_of plan items → old ≡ page_by plan (state_after plan.processes items) (columns_of plan.processes items)
-unjudged old plan items none holds = holds ∙ (λ i. record (page_by plan (state_after plan.processes items) (columns_of plan.processes items)) { verdict = no_verdict old plan items none holds i })
+unjudged : (old : SeenPage) (plan : Plan) (items : List Item) → old.verdict ≡ None → old ≡ page_of plan items → old ≡ page_by plan (state_after plan.state items) (columns_of plan items)
+unjudged old plan items none holds = holds ∙ (λ i. record (page_by plan (state_after plan.state items) (columns_of plan items)) { verdict = no_verdict old plan items none holds i })
 
 -- a line joins the column that is not placed yet
 abbrev pub joined_page : RunLine → Seen → SeenPage → SeenPage
@@ -173,8 +174,8 @@ none_to_join line pending none column is = absurd (none_newest column pending no
 -- what a line does to a page with these columns
 abbrev OnwardBy : Plan → State → List Seen → RunLine → Option (List ℕ) → SeenPage → Type 0
 OnwardBy plan state columns line full new =
-    (new ≡ page_by plan (state_told state line.saying) (with_line line (freed_by state line.saying) (state_told state line.saying) columns))
-    × (full_bytes plan (bands_of plan.opening (older (with_line line (freed_by state line.saying) (state_told state line.saying) columns))).full ≡ full_bytes plan (bands_of plan.opening (older columns)).full ++ band_text full)
+    (new ≡ page_by plan (state_told state line.saying) (with_line plan.at line (freed_by state line.saying) (state_told state line.saying) columns))
+    × (full_bytes plan (bands_of plan.opening (older (with_line plan.at line (freed_by state line.saying) (state_told state line.saying) columns))).full ≡ full_bytes plan (bands_of plan.opening (older columns)).full ++ band_text full)
 
 joins_by : (line : RunLine) (column : Seen) (old new : SeenPage) (plan : Plan) (state : State) (columns : List Seen) → old.pending ≡ Some column → joins column line ≡ true → new ≡ joined_page line column old → old ≡ page_by plan state columns → OnwardBy plan state columns line None new
 joins_by line column old new plan state [] one joins is holds = absurd (none_newest column old.pending (ap (λ (p : SeenPage). p.pending) holds) one)
@@ -182,13 +183,13 @@ joins_by line column old new plan state (other ∷ before) one does is holds =
     let same : column ≡ other = same_column column other old.pending one (ap (λ (p : SeenPage). p.pending) holds) in
     let has : joins other line ≡ true = ap (λ (c : Seen). joins c line) (sym same) ∙ does in (
       is ∙ (λ i. joined_page line (same i) (holds i))
-          ∙ ap (λ (b : Bool). page_by plan (state_told state line.saying) (line_by b line (freed_by state line.saying) (state_told state line.saying) other before)) (sym has),
-      ap (λ (b : Bool). full_bytes plan (bands_of plan.opening (older (line_by b line (freed_by state line.saying) (state_told state line.saying) other before))).full) has
+          ∙ ap (λ (b : Bool). page_by plan (state_told state line.saying) (line_by b plan.at line (freed_by state line.saying) (state_told state line.saying) other before)) (sym has),
+      ap (λ (b : Bool). full_bytes plan (bands_of plan.opening (older (line_by b plan.at line (freed_by state line.saying) (state_told state line.saying) other before))).full) has
           ∙ sym (append-nil (full_bytes plan (bands_of plan.opening before).full)),
     )
 
-pub joins_pending : (line : RunLine) (column : Seen) (old new : SeenPage) → old.verdict ≡ None → old.pending ≡ Some column → joins column line ≡ true → new ≡ joined_page line column old → GoesOn (Tells line) old None new
-joins_pending line column old new none one does is plan items holds = joins_by line column old new plan (state_after plan.processes items) (columns_of plan.processes items) one does is (unjudged old plan items none holds)
+pub joins_pending : (line : RunLine) (column : Seen) (old new : SeenPage) → old.verdict ≡ None → old.pending ≡ Some column → joins column line ≡ true → new ≡ joined_page line column old → TakesItem (Tells line) old None new
+joins_pending line column old new none one does is plan items holds = joins_by line column old new plan (state_after plan.state items) (columns_of plan items) one does is (unjudged old plan items none holds)
 
 -- or has a column of its own
 abbrev pub told_page : RunLine → SeenPage → SeenPage
@@ -197,19 +198,19 @@ told_page line page = record page { state = state_told page.state line.saying }
 abbrev pub begun_page : RunLine → Option ℕ → State → SeenPage → SeenPage
 begun_page line frees after placed = record placed { pending = Some (alone line (line.at - placed.last_at) frees after); last_at = line.at }
 
-begins_line : (line : RunLine) (frees : Option ℕ) (after : State) (columns : List Seen) → JoinsNone line (newest columns) → begun_by line frees after columns ≡ with_line line frees after columns
-begins_line line frees after [] other = refl
-begins_line line frees after (column ∷ before) other = ap (λ (b : Bool). line_by b line frees after column before) (sym (other column refl))
+begins_line : (at : ℕ) (line : RunLine) (frees : Option ℕ) (after : State) (columns : List Seen) → JoinsNone line (newest columns) → begun_by at line frees after columns ≡ with_line at line frees after columns
+begins_line at line frees after [] other = refl
+begins_line at line frees after (column ∷ before) other = ap (λ (b : Bool). line_by b at line frees after column before) (sym (other column refl))
 
-pub begins_alone : (line : RunLine) (old told new : SeenPage) (frees : Option ℕ) (full : Option (List ℕ)) → old.verdict ≡ None → JoinsNone line old.pending → told ≡ told_page line old → frees ≡ freed_by old.state line.saying → BeginsColumn line frees told full new → GoesOn (Tells line) old full new
+pub begins_alone : (line : RunLine) (old told new : SeenPage) (frees : Option ℕ) (full : Option (List ℕ)) → old.verdict ≡ None → JoinsNone line old.pending → told ≡ told_page line old → frees ≡ freed_by old.state line.saying → BeginsColumn line frees told full new → TakesItem (Tells line) old full new
 begins_alone line old told new frees full none other says free begun plan items is =
-    let holds : old ≡ page_by plan (state_after plan.processes items) (columns_of plan.processes items) = unjudged old plan items none is in
-    let before : State = state_after plan.processes items in
+    let holds : old ≡ page_by plan (state_after plan.state items) (columns_of plan items) = unjudged old plan items none is in
+    let before : State = state_after plan.state items in
     let state : State = state_told before line.saying in
     let freed : Option ℕ = freed_by before line.saying in
-    let columns : List Seen = columns_of plan.processes items in
-    let put = begun.places plan state (newest_at columns) columns (told_processes before line.saying ∙ processes_after plan.processes items) (says ∙ ap (told_page line) holds) in
-    let begins : begun_by line freed state columns ≡ with_line line freed state columns = begins_line line freed state columns (subst (λ (p : SeenPage). JoinsNone line p.pending) holds other) in (
+    let columns : List Seen = columns_of plan items in
+    let put = begun.places plan state (newest_at plan.at columns) columns (told_processes before line.saying ∙ processes_after plan.state items) (says ∙ ap (told_page line) holds) in
+    let begins : begun_by plan.at line freed state columns ≡ with_line plan.at line freed state columns = begins_line plan.at line freed state columns (subst (λ (p : SeenPage). JoinsNone line p.pending) holds other) in (
       begun.is ∙ (λ i. begun_page line (free i) (says i).state begun.placed) ∙ (λ i. begun_page line (freed_by (holds i).state line.saying) (state_told (holds i).state line.saying) (put.0 i)) ∙ ap (page_by plan state) begins,
       ap (λ (l : List Seen). full_bytes plan (bands_of plan.opening (older l)).full) (sym begins) ∙ put.1,
     )
@@ -227,10 +228,10 @@ pub read_is : (read : OverlappedRead) (placed : SeenPage) (column : Seen) (gap :
     (let page : SeenPage = record placed { pending = Some column; last_at = read.end } in page) ≡ read_page read placed
 read_is read placed column gap is far = ap (λ (c : Seen). (let page : SeenPage = record placed { pending = Some c; last_at = read.end } in page)) (is ∙ ap (λ (g : ℕ). column_of_read read g placed.state) far)
 
-pub begins_read : (read : OverlappedRead) (old placed new : SeenPage) (full : Option (List ℕ)) → old.verdict ≡ None → Places old full placed → new ≡ read_page read placed → GoesOn (Reads read) old full new
+pub begins_read : (read : OverlappedRead) (old placed new : SeenPage) (full : Option (List ℕ)) → old.verdict ≡ None → Places old full placed → new ≡ read_page read placed → TakesItem (Reads read) old full new
 begins_read read old placed new full none places is plan items holds =
-    let columns : List Seen = columns_of plan.processes items in
-    let put = places plan (state_after plan.processes items) (newest_at columns) columns (processes_after plan.processes items) (unjudged old plan items none holds) in
+    let columns : List Seen = columns_of plan items in
+    let put = places plan (state_after plan.state items) (newest_at plan.at columns) columns (processes_after plan.state items) (unjudged old plan items none holds) in
     (is ∙ ap (read_page read) put.0, put.1)
 
 -- and so has an access
@@ -241,36 +242,78 @@ pub access_is : (access : ShownAccess) (placed : SeenPage) (column : Seen) (gap 
     (let page : SeenPage = record placed { pending = Some column; last_at = access.event } in page) ≡ access_page access placed
 access_is access placed column gap is far = ap (λ (c : Seen). (let page : SeenPage = record placed { pending = Some c; last_at = access.event } in page)) (is ∙ ap (λ (g : ℕ). column_of_access access g placed.state) far)
 
-pub begins_access : (access : ShownAccess) (old placed new : SeenPage) (full : Option (List ℕ)) → old.verdict ≡ None → Places old full placed → new ≡ access_page access placed → GoesOn (Accesses access) old full new
+pub begins_access : (access : ShownAccess) (old placed new : SeenPage) (full : Option (List ℕ)) → old.verdict ≡ None → Places old full placed → new ≡ access_page access placed → TakesItem (Accesses access) old full new
 begins_access access old placed new full none places is plan items holds =
-    let columns : List Seen = columns_of plan.processes items in
-    let put = places plan (state_after plan.processes items) (newest_at columns) columns (processes_after plan.processes items) (unjudged old plan items none holds) in
+    let columns : List Seen = columns_of plan items in
+    let put = places plan (state_after plan.state items) (newest_at plan.at columns) columns (processes_after plan.state items) (unjudged old plan items none holds) in
     (is ∙ ap (access_page access) put.0, put.1)
 
 -- items with a verdict: their state and their columns are as before, and the verdict is the newest
 abbrev pub whole_with : Plan → Option ShownVerdict → List Item → List ℕ
-whole_with plan verdict items = whole_bytes plan verdict (bands_of plan.opening (columns_of plan.processes items))
+whole_with plan verdict items = whole_bytes plan verdict (bands_of plan.opening (columns_of plan items))
 
 abbrev pub heights_with : Plan → Option ShownVerdict → List Item → ℕ
-heights_with plan verdict items = heights_of plan.processes verdict (bands_of plan.opening (columns_of plan.processes items))
+heights_with plan verdict items = heights_of plan verdict (bands_of plan.opening (columns_of plan items))
 
-judged_bytes : (plan : Plan) (verdict : Option ShownVerdict) (items : List Item) → verdict_in items ≡ None → whole_with plan verdict items ≡ bands_told plan (judged_with verdict items)
-judged_bytes plan None items none = ap (λ (v : Option ShownVerdict). whole_with plan v items) (sym none)
-judged_bytes plan (Some verdict) items none = refl
+judged_bytes : (plan : Plan) (verdict : Option ShownVerdict) (items : List Item) (at : ℕ) → verdict_in items ≡ None → whole_with plan verdict items ≡ bands_drawn plan (judged_with at verdict items)
+judged_bytes plan None items at none = ap (λ (v : Option ShownVerdict). whole_with plan v items) (sym none)
+judged_bytes plan (Some verdict) items at none = refl
 
-judged_heights : (plan : Plan) (verdict : Option ShownVerdict) (items : List Item) → verdict_in items ≡ None → heights_with plan verdict items ≡ heights_told plan (judged_with verdict items)
-judged_heights plan None items none = ap (λ (v : Option ShownVerdict). heights_with plan v items) (sym none)
-judged_heights plan (Some verdict) items none = refl
+judged_heights : (plan : Plan) (verdict : Option ShownVerdict) (items : List Item) (at : ℕ) → verdict_in items ≡ None → heights_with plan verdict items ≡ heights_drawn plan (judged_with at verdict items)
+judged_heights plan None items at none = ap (λ (v : Option ShownVerdict). heights_with plan v items) (sym none)
+judged_heights plan (Some verdict) items at none = refl
 
 -- the last bands
-pub gives_rest : (verdict : Option ShownVerdict) (old placed new : SeenPage) (full : Option (List ℕ)) (last : List ℕ) → old.verdict ≡ None → Places old full placed → DrawsBand true verdict placed last new → GivesRest verdict old full last new
-gives_rest verdict old placed new full last none places draws plan items holds =
-    let state : State = state_after plan.processes items in
-    let columns : List Seen = columns_of plan.processes items in
-    let same : state.processes ≡ plan.processes = processes_after plan.processes items in
+pub gives_rest : (verdict : Option ShownVerdict) (old placed new : SeenPage) (full : Option (List ℕ)) (last : List ℕ) → old.verdict ≡ None → Places old full placed → DrawsBand true verdict placed last new → GivesLast verdict old full last new
+gives_rest verdict old placed new full last none places draws plan items at holds =
+    let state : State = state_after plan.state items in
+    let columns : List Seen = columns_of plan items in
+    let same : state.processes ≡ plan.state.processes = processes_after plan.state items in
     let unread : verdict_in items ≡ None = no_verdict old plan items none holds in
-    let put = places plan state (newest_at columns) columns same (unjudged old plan items none holds) in
-    let drawn = draws plan state None (newest_at columns) (bands_of plan.opening columns) same put.0 in (
-      sym (judged_bytes plan verdict items unread) ∙ (λ i. put.1 i ++ sym drawn.1 i),
-      ap (λ (p : SeenPage). p.height) drawn.0 ∙ judged_heights plan verdict items unread,
+    let put = places plan state (newest_at plan.at columns) columns same (unjudged old plan items none holds) in
+    let drawn = draws plan state None (newest_at plan.at columns) (bands_of plan.opening columns) same put.0 in (
+      sym (judged_bytes plan verdict items at unread) ∙ (λ i. put.1 i ++ sym drawn.1 i),
+      ap (λ (p : SeenPage). p.height) drawn.0 ∙ judged_heights plan verdict items at unread,
     )
+
+-- a page without items, whose picture begins after an item: a line
+abbrev pub at_edge : State → SeenPage → SeenPage
+at_edge state page = record page { state = state; before = state }
+
+-- the plan after a line that changes the store, or does not
+abbrev pub plan_after : Plan → Saying → Option TakenChange → Plan
+plan_after plan saying change = record plan { state = state_told plan.state saying; opening = opening_by plan.opening change }
+
+edge_after : (line : RunLine) (old new : SeenPage) (state : State) (plan : Plan) → state ≡ state_told old.state line.saying → new ≡ at_edge state old → old ≡ page_of plan [] → new ≡ page_of (plan_after plan line.saying None) []
+edge_after line old new state plan told is holds = is ∙ ap (λ (s : State). at_edge s old) told ∙ ap (λ (p : SeenPage). at_edge (state_told p.state line.saying) p) holds
+
+pub passes_line : (line : RunLine) (old new : SeenPage) (state : State) → change_told line.saying ≡ None → state ≡ state_told old.state line.saying → new ≡ at_edge state old → Passes (Tells line) old new
+passes_line line old new state none told is plan holds =
+    edge_after line old new state plan told is holds
+    ∙ ap (λ (c : Option TakenChange). page_of (plan_after plan line.saying c) []) (sym none)
+
+pub passes_change : (line : RunLine) (change : TakenChange) (words : List ℕ) (old at new : SeenPage) (state : State) → change_told line.saying ≡ Some change → words ≡ change.store.items → state ≡ state_told old.state line.saying → at ≡ at_edge state old → SetsOpening words at new → Passes (Tells line) old new
+passes_change line change words old at new state some are told is sets plan holds =
+    sets (plan_after plan line.saying None) (edge_after line old at state plan told is holds)
+    ∙ ap (λ (w : List ℕ). page_of (record (plan_after plan line.saying None) { opening = w }) []) are
+    ∙ ap (λ (c : Option TakenChange). page_of (plan_after plan line.saying c) []) (sym some)
+
+-- an access
+abbrev pub after_access : ShownAccess → SeenPage → SeenPage
+after_access access page = record page { accesses = accesses_left page.accesses access page.state }
+
+pub passes_access : (access : ShownAccess) (old new : SeenPage) → new ≡ after_access access old → Passes (Accesses access) old new
+passes_access access old new is plan holds = is ∙ ap (after_access access) holds
+
+pub access_left : (access : ShownAccess) (state : State) (columns : List Seen) (before at left : SeenAccesses) → columns ≡ column_of_access access 0 state ∷ [] → at ≡ accesses_at before columns → left ≡ accesses_after at columns → left ≡ accesses_left before access state
+access_left access state columns before at left are begun passed =
+    passed ∙ (λ i. accesses_after (begun i) columns) ∙ (λ i. accesses_after (accesses_at before (are i)) (are i))
+
+-- the words of the store
+abbrev pub opening_set : List ℕ → SeenPage → SeenPage
+opening_set words page = record page { opens = opens_with words; placing = placing_at_first (opening_length words) }
+
+pub sets_words : (words opens : List ℕ) (placing : Placing) (old : SeenPage) → opens ≡ opens_with words → placing ≡ placing_at_first (opening_length words) →
+    SetsOpening words old (record old { opens = opens; placing = placing })
+sets_words words opens placing old says placed plan holds =
+    (λ i. record old { opens = says i; placing = placed i }) ∙ ap (opening_set words) holds

@@ -2,7 +2,7 @@
 use Rattle.std.proofs.Common.{◌≡◌, ℕ, Result, Ok, Err, OnOk, List, [], ◌∷◌, ◌++◌, codes, flat_map, ap, ◌∙◌, append_assoc}
 use Rattle.markup.specs.{Attribute, Said, attribute_text, said_text}
 use Rattle.std.specs.Fmt.{decimal}
-use Rattle.picture.specs.{plural_of, says}
+use Rattle.picture.specs.{Subject, counted_of, format_word, plural_of, says, subject_word}
 
 -- one piece more
 pub adds : (old now new more : List ℕ) → new ≡ now ++ more → now ≡ old → new ≡ old ++ more
@@ -18,12 +18,17 @@ pub adds_last : {A E : Type 0} (r : Result A E) (start some old new more : List 
 adds_last (Ok done) start some old new more is was = adds_on start some old new more is was
 adds_last (Err e) start some old new more is was = tt
 
--- the heading, as `format!` puts it together
-pub heading_is : (processes version tickets stamps slots : ℕ) (many : List ℕ) → many ≡ plural_of processes →
-    (codes "Run of " ++ (decimal processes ++ (codes " process" ++ (many ++ (codes " (bakery " ++ (decimal version ++ (codes ", tickets " ++ (decimal tickets ++ (codes ", stamps " ++ (decimal stamps ++ (codes ", slots " ++ decimal slots))))))))))) ++ codes ")"
-    ≡ codes "Run of " ++ decimal processes ++ codes " process" ++ plural_of processes ++ codes " (bakery " ++ decimal version ++ codes ", tickets " ++ decimal tickets ++ codes ", stamps " ++ decimal stamps ++ codes ", slots " ++ decimal slots ++ codes ")"
-heading_is processes version tickets stamps slots many is =
-    ap (λ many. (codes "Run of " ++ (decimal processes ++ (codes " process" ++ (many ++ (codes " (bakery " ++ (decimal version ++ (codes ", tickets " ++ (decimal tickets ++ (codes ", stamps " ++ (decimal stamps ++ (codes ", slots " ++ decimal slots))))))))))) ++ codes ")") is
+-- how the heading begins and ends, as `format!` puts it together
+pub counted_is : (subject : Subject) (processes : ℕ) (kind many : List ℕ) → kind ≡ subject_word subject → many ≡ plural_of processes →
+    kind ++ (codes " of " ++ (decimal processes ++ (codes " process" ++ many))) ≡ counted_of subject processes
+counted_is subject processes kind many kinds is =
+    (λ i. kinds i ++ (codes " of " ++ (decimal processes ++ (codes " process" ++ is i)))) ∙ simp append_assoc
+
+pub numbers_are : (subject : Subject) (version tickets stamps slots : ℕ) (file : List ℕ) → file ≡ format_word subject →
+    codes " (" ++ (file ++ (codes " " ++ (decimal version ++ (codes ", tickets " ++ (decimal tickets ++ (codes ", stamps " ++ (decimal stamps ++ (codes ", slots " ++ (decimal slots ++ codes ")")))))))))
+    ≡ codes " (" ++ format_word subject ++ codes " " ++ decimal version ++ codes ", tickets " ++ decimal tickets ++ codes ", stamps " ++ decimal stamps ++ codes ", slots " ++ decimal slots ++ codes ")"
+numbers_are subject version tickets stamps slots file files =
+    (λ i. codes " (" ++ (files i ++ (codes " " ++ (decimal version ++ (codes ", tickets " ++ (decimal tickets ++ (codes ", stamps " ++ (decimal stamps ++ (codes ", slots " ++ (decimal slots ++ codes ")"))))))))))
     ∙ simp append_assoc
 
 -- a tag with four attributes

@@ -1,14 +1,15 @@
 -- Each column shows the stages of the record that the lines up to it say.
-use Rattle.std.proofs.Common.{◌≡◌, ◌-◌, ℕ, Bool, true, false, cond, nat_lt, List, [], ◌∷◌, refl, ap, sym, ◌∙◌}
+use Rattle.std.proofs.Common.{◌≡◌, ◌-◌, ℕ, Bool, true, false, ◌&&◌, ◌||◌, not, cond, nat_lt, List, [], ◌∷◌, refl, ap, sym, subst, ◌∙◌, true≢false}
 use Rattle.std.proofs.lemmas.Grind.{fold-append}
 use Rattle.std.specs.List.{AllByRecursion}
 use Rattle.record.specs.{Mark, Stage}
-use Rattle.picture.specs.{Accesses, BarsAreStages, Item, Judges, Reads, ShowsStages, Tells, columns_of, line_by, newest_at, sayings, state_after, with_line}
-use Rattle.columns.specs.{RunLine, Saying, Seen, State, alone, column_of_access, column_of_read, freed_by, joined, joins, like, nothing_told, stage_among, stages_after, stages_marked, stages_told, state_lock_marked, state_marked, state_told}
+use Rattle.picture.specs.{Accesses, BarsAreStages, Item, Judges, Plan, Reads, ShowsStages, Tells, WindowPlan, begun_in, columns_of, item_if, items_taken, line_by, newest_at, passed, passed_if, plan_at, precedes, sayings, shows_item, state_after, with_line, within}
+use Rattle.columns.specs.{RunLine, Saying, Seen, State, alone, at_first, column_of_access, column_of_read, freed_by, joined, joins, like, nothing_told, stage_among, stages_after, stages_marked, stages_told, state_lock_marked, state_marked, state_told}
 use Rattle.columns.specs.trace.{LockMark}
 use Rattle.columns.specs.trace.declared.marks.LockMark.TheVariants as lock
 use Rattle.columns.specs.declared.told.Saying.TheVariants.{Ended, LockEnded, LockMarked, Marked, Refused, Shown, Tired}
 use Rattle.picture.proofs.Pagings.{processes_after}
+use Rattle.picture.proofs.Windowing.{hides, none_shown}
 use Rattle.columns.proofs.Stages.{stages_are}
 
 -- the stages after a line
@@ -31,18 +32,18 @@ told_stages state (LockMarked p mark) = lock_marked_stages (nat_lt p state.proce
 told_stages state (LockEnded entries) = refl
 
 -- and after all
-stages_of : (n : ℕ) (items : List Item) → (state_after n items).stages ≡ stages_after n (sayings items)
+stages_of : (n : ℕ) (items : List Item) → (state_after (at_first n) items).stages ≡ stages_after n (sayings items)
 stages_of n [] = refl
 stages_of n (Tells line ∷ before) =
-    told_stages (state_after n before) line.saying
-    ∙ (λ i. stages_told (processes_after n before i) (stages_of n before i) line.saying)
+    told_stages (state_after (at_first n) before) line.saying
+    ∙ (λ i. stages_told (processes_after (at_first n) before i) (stages_of n before i) line.saying)
     ∙ sym (fold-append (stages_told n) nothing_told (sayings before) (line.saying ∷ []))
 stages_of n (Reads read ∷ before) = stages_of n before
 stages_of n (Accesses access ∷ before) = stages_of n before
-stages_of n (Judges verdict ∷ before) = stages_of n before
+stages_of n (Judges at verdict ∷ before) = stages_of n before
 
--- a column behind the last of these items
-shows_now : (n : ℕ) (items : List Item) (column : Seen) → column.after ≡ state_after n items → ShowsStages n items column
+-- a column after the last of these items
+shows_now : (n : ℕ) (items : List Item) (column : Seen) → column.after ≡ state_after (at_first n) items → ShowsStages n items column
 shows_now n items column after = record {
   later = [];
   before = items;
@@ -61,33 +62,78 @@ shows_before n item items column shows = record {
   stages = shows.stages;
 }
 
-all_before : (n : ℕ) (item : Item) (items : List Item) (columns : List Seen) → AllByRecursion (ShowsStages n items) columns → AllByRecursion (ShowsStages n (item ∷ items)) columns
+abbrev AllShow : ℕ → List Item → List Seen → Type 0
+AllShow n items columns = AllByRecursion (ShowsStages n items) columns
+
+all_before : (n : ℕ) (item : Item) (items : List Item) (columns : List Seen) → AllShow n items columns → AllShow n (item ∷ items) columns
 all_before n item items [] all = tt
 all_before n item items (column ∷ columns) all = (shows_before n item items column all.0, all_before n item items columns all.1)
 
--- a line more
-line_shows : (n : ℕ) (line : RunLine) (before : List Item) (columns : List Seen) → AllByRecursion (ShowsStages n before) columns →
-    AllByRecursion (ShowsStages n (Tells line ∷ before)) (with_line line (freed_by (state_after n before) line.saying) (state_told (state_after n before) line.saying) columns)
-line_shows n line before [] all =
-    let column : Seen = alone line (line.at - 0) (freed_by (state_after n before) line.saying) (state_told (state_after n before) line.saying) in
-    (shows_now n (Tells line ∷ before) column refl, tt)
-line_shows n line before (column ∷ columns) all = go (joins column line)
-  where
-    go : (b : Bool) → AllByRecursion (ShowsStages n (Tells line ∷ before)) (line_by b line (freed_by (state_after n before) line.saying) (state_told (state_after n before) line.saying) column columns)
-    go true =
-        let last : Seen = joined column line (freed_by (state_after n before) line.saying) (state_told (state_after n before) line.saying) in
-        (shows_now n (Tells line ∷ before) last refl, all_before n (Tells line) before columns all.1)
-    go false =
-        let last : Seen = alone line (line.at - column.at) (freed_by (state_after n before) line.saying) (state_told (state_after n before) line.saying) in
-        (shows_now n (Tells line ∷ before) last refl, all_before n (Tells line) before (column ∷ columns) all)
+-- a line more, where the state before it is the one after the items that were taken in
+module _ (n : ℕ) (at : ℕ) (line : RunLine) (state : State) (taken : List Item) (same : state ≡ state_after (at_first n) taken) where
+  line_after : state_told state line.saying ≡ state_after (at_first n) (Tells line ∷ taken)
+  line_after = ap (λ (s : State). state_told s line.saying) same
+
+  line_by_shows : (b : Bool) (column : Seen) (columns : List Seen) → AllShow n taken (column ∷ columns) →
+      AllShow n (Tells line ∷ taken) (line_by b at line (freed_by state line.saying) (state_told state line.saying) column columns)
+  line_by_shows true column columns all =
+      let last : Seen = joined column line (freed_by state line.saying) (state_told state line.saying) in
+      (shows_now n (Tells line ∷ taken) last line_after, all_before n (Tells line) taken columns all.1)
+  line_by_shows false column columns all =
+      let last : Seen = alone line (line.at - column.at) (freed_by state line.saying) (state_told state line.saying) in
+      (shows_now n (Tells line ∷ taken) last line_after, all_before n (Tells line) taken (column ∷ columns) all)
+
+  line_shows : (columns : List Seen) → AllShow n taken columns →
+      AllShow n (Tells line ∷ taken) (with_line at line (freed_by state line.saying) (state_told state line.saying) columns)
+  line_shows [] all =
+      let column : Seen = alone line (line.at - at) (freed_by state line.saying) (state_told state line.saying) in
+      (shows_now n (Tells line ∷ taken) column line_after, tt)
+  line_shows (column ∷ columns) all = line_by_shows (joins column line) column columns all
+
+-- an item more that is shown
+item_shows : (n : ℕ) (item : Item) (plan : Plan) (items taken : List Item) → state_after plan.state items ≡ state_after (at_first n) taken → AllShow n taken (columns_of plan items) → AllShow n (item ∷ taken) (columns_of plan (item ∷ items))
+item_shows n (Tells line) plan items taken same all = line_shows n plan.at line (state_after plan.state items) taken same (columns_of plan items) all
+item_shows n (Reads read) plan items taken same all =
+    let last : Seen = column_of_read read (read.end - newest_at plan.at (columns_of plan items)) (state_after plan.state items) in
+    (shows_now n (Reads read ∷ taken) last same, all_before n (Reads read) taken (columns_of plan items) all)
+item_shows n (Accesses access) plan items taken same all =
+    let last : Seen = column_of_access access (access.event - newest_at plan.at (columns_of plan items)) (state_after plan.state items) in
+    (shows_now n (Accesses access ∷ taken) last same, all_before n (Accesses access) taken (columns_of plan items) all)
+item_shows n (Judges at verdict) plan items taken same all = all_before n (Judges at verdict) taken (columns_of plan items) all
+
+-- the state after one more, by the state after those before it
+item_state : (n : ℕ) (item : Item) (state : State) (items taken : List Item) → state_after state items ≡ state_after (at_first n) taken → state_after state (item ∷ items) ≡ state_after (at_first n) (item ∷ taken)
+item_state n (Tells line) state items taken same = ap (λ (s : State). state_told s line.saying) same
+item_state n (Reads read) state items taken same = same
+item_state n (Accesses access) state items taken same = same
+item_state n (Judges at verdict) state items taken same = same
+
+passed_state : (n : ℕ) (item : Item) (plan : Plan) (taken : List Item) → plan.state ≡ state_after (at_first n) taken → (passed plan item).state ≡ state_after (at_first n) (item ∷ taken)
+passed_state n (Tells line) plan taken same = ap (λ (s : State). state_told s line.saying) same
+passed_state n (Reads read) plan taken same = same
+passed_state n (Accesses access) plan taken same = same
+passed_state n (Judges at verdict) plan taken same = same
+
+-- the state after the items that are shown, and their columns
+abbrev Shows : ℕ → Plan → List Item → List Item → Type 0
+Shows n plan items taken = (state_after plan.state items ≡ state_after (at_first n) taken) × AllShow n taken (columns_of plan items)
+
+-- an item that is shown, that comes before the window, or that is left out
+taken_next : (n : ℕ) (is begun shown : Bool) (item : Item) (plan : Plan) (items taken : List Item) → (is ≡ true → shown ≡ false) → (begun ≡ false → items ≡ []) → Shows n plan items taken →
+    Shows n (passed_if (is && not begun) item plan) (item_if shown item items) (item_if (shown || (is && not begun)) item taken)
+taken_next n true begun true item plan items taken hidden none shows = absurd (true≢false (hidden refl))
+taken_next n true false false item plan items taken hidden none shows =
+    let state : plan.state ≡ state_after (at_first n) taken = ap (state_after plan.state) (sym (none refl)) ∙ shows.0 in
+    subst (λ (l : List Item). Shows n (passed plan item) l (item ∷ taken)) (sym (none refl)) (passed_state n item plan taken state, tt)
+taken_next n true true false item plan items taken hidden none shows = shows
+taken_next n false begun true item plan items taken hidden none shows = (item_state n item plan.state items taken shows.0, item_shows n item plan items taken shows.0 shows.1)
+taken_next n false begun false item plan items taken hidden none shows = shows
+
+window_shows : (plan : WindowPlan) (items : List Item) → Shows plan.processes (plan_at plan items) (within plan.window items) (items_taken plan.window items)
+window_shows plan [] = (refl, tt)
+window_shows plan (item ∷ before) =
+    taken_next plan.processes (precedes plan.window item) (begun_in plan.window before) (shows_item plan.window item) item (plan_at plan before) (within plan.window before) (items_taken plan.window before)
+    (hides plan.window item) (none_shown plan.window before) (window_shows plan before)
 
 pub bars_are : BarsAreStages
-bars_are n [] = tt
-bars_are n (Tells line ∷ before) = line_shows n line before (columns_of n before) (bars_are n before)
-bars_are n (Reads read ∷ before) =
-    let last : Seen = column_of_read read (read.end - newest_at (columns_of n before)) (state_after n before) in
-    (shows_now n (Reads read ∷ before) last refl, all_before n (Reads read) before (columns_of n before) (bars_are n before))
-bars_are n (Accesses access ∷ before) =
-    let last : Seen = column_of_access access (access.event - newest_at (columns_of n before)) (state_after n before) in
-    (shows_now n (Accesses access ∷ before) last refl, all_before n (Accesses access) before (columns_of n before) (bars_are n before))
-bars_are n (Judges verdict ∷ before) = all_before n (Judges verdict) before (columns_of n before) (bars_are n before)
+bars_are plan items = (window_shows plan items).1

@@ -4,7 +4,7 @@ use Rattle.std.specs.Fmt.{decimal}
 use Rattle.markup.specs.{End, drawings, drawn, entering_by, lowering}
 use Rattle.markup.specs.declared.names.Key.TheVariants as key
 use Rattle.markup.specs.declared.names.Tag.TheVariants as tag
-use Rattle.columns.specs.{Layout, OverlappedRead, Placing, RunLine, Seen, SeenAccesses, ShownAccess, State, accesses_after, accesses_at, alone, at_first, column_of_access, column_of_read, freed_by, has_room_at, joined, joins, layout_of, moved_to, no_accesses, place_of, placing_at_first, put_at, shortened, state_told, stretched_all}
+use Rattle.columns.specs.{Layout, OverlappedRead, Placing, RunLine, Seen, SeenAccesses, ShownAccess, State, accesses_after, accesses_at, alone, column_of_access, column_of_read, freed_by, has_room_at, joined, joins, layout_of, moved_to, place_of, placing_at_first, put_at, shortened, state_told, stretched_all}
 use Rattle.picture.specs.Drawings.{last_in}
 use Rattle.picture.specs.Sheets.{held_in_64, says, view_of}
 use Rattle.picture.specs.Verdicts.{height_with, judged_shapes}
@@ -18,22 +18,24 @@ pub data Item : Type 0 where
   Tells : RunLine → Item  -- a line of the run
   Reads : OverlappedRead → Item  -- a read that a write overlapped
   Accesses : ShownAccess → Item  -- what an entry does to an access
-  Judges : ShownVerdict → Item  -- a verdict; it is the last item
+  Judges : ℕ → ShownVerdict → Item  -- a verdict, after this number of entries; it is the last item
 
--- what is known of a picture from the start: what its bands stand in, what it is of, how many processes there are, and the opening store, with no byte if it is empty
+-- What is known of a picture from the start: where its bands are drawn, its subject, and what is at the left edge of its first band: the words of the store, or no byte, the state of all processes, the number of entries before it, and the accesses.
 pub record Plan : Type 0 where
   pub form : Form
   pub subject : Subject
-  pub processes : ℕ
   pub opening : List ℕ
+  pub state : State
+  pub at : ℕ
+  pub accesses : SeenAccesses
 
--- what has been told of all processes
-abbrev pub state_after : ℕ → List Item → State
-state_after processes [] = at_first processes
-state_after processes (Tells line ∷ before) = state_told (state_after processes before) line.saying
-state_after processes (Reads read ∷ before) = state_after processes before
-state_after processes (Accesses access ∷ before) = state_after processes before
-state_after processes (Judges verdict ∷ before) = state_after processes before
+-- the state of all processes after items, by the state before them
+abbrev pub state_after : State → List Item → State
+state_after state [] = state
+state_after state (Tells line ∷ before) = state_told (state_after state before) line.saying
+state_after state (Reads read ∷ before) = state_after state before
+state_after state (Accesses access ∷ before) = state_after state before
+state_after state (Judges at verdict ∷ before) = state_after state before
 
 -- the verdict of items, if the newest is one
 abbrev pub verdict_in : List Item → Option ShownVerdict
@@ -41,12 +43,12 @@ verdict_in [] = None
 verdict_in (Tells line ∷ before) = None
 verdict_in (Reads read ∷ before) = None
 verdict_in (Accesses access ∷ before) = None
-verdict_in (Judges verdict ∷ before) = Some verdict
+verdict_in (Judges at verdict ∷ before) = Some verdict
 
--- items, and then a verdict, if there is one
-abbrev pub judged_with : Option ShownVerdict → List Item → List Item
-judged_with None items = items
-judged_with (Some verdict) items = Judges verdict ∷ items
+-- items, and then a verdict, if there is one, after this number of entries
+abbrev pub judged_with : ℕ → Option ShownVerdict → List Item → List Item
+judged_with at None items = items
+judged_with at (Some verdict) items = Judges at verdict ∷ items
 
 -- the newest column, and those before it
 abbrev pub newest : List Seen → Option Seen
@@ -57,31 +59,37 @@ abbrev pub older : List Seen → List Seen
 older [] = []
 older (column ∷ before) = before
 
--- how many events were accepted before the newest column
-abbrev pub newest_at : List Seen → ℕ
-newest_at [] = 0
-newest_at (column ∷ before) = column.at
+-- how many events were accepted before the newest column, or at the left edge
+abbrev pub newest_at : ℕ → List Seen → ℕ
+newest_at at [] = at
+newest_at at (column ∷ before) = column.at
 
 -- a column of its own
-abbrev pub begun_by : RunLine → Option ℕ → State → List Seen → List Seen
-begun_by line frees after columns = alone line (line.at - newest_at columns) frees after ∷ columns
+abbrev pub begun_by : ℕ → RunLine → Option ℕ → State → List Seen → List Seen
+begun_by at line frees after columns = alone line (line.at - newest_at at columns) frees after ∷ columns
 
 -- a line joins the newest column, if it is a mark of its event; else it begins one
-abbrev pub line_by : Bool → RunLine → Option ℕ → State → Seen → List Seen → List Seen
-line_by true line frees after column before = joined column line frees after ∷ before
-line_by false line frees after column before = begun_by line frees after (column ∷ before)
+abbrev pub line_by : Bool → ℕ → RunLine → Option ℕ → State → Seen → List Seen → List Seen
+line_by true at line frees after column before = joined column line frees after ∷ before
+line_by false at line frees after column before = begun_by at line frees after (column ∷ before)
 
-abbrev pub with_line : RunLine → Option ℕ → State → List Seen → List Seen
-with_line line frees after [] = begun_by line frees after []
-with_line line frees after (column ∷ before) = line_by (joins column line) line frees after column before
+abbrev pub with_line : ℕ → RunLine → Option ℕ → State → List Seen → List Seen
+with_line at line frees after [] = begun_by at line frees after []
+with_line at line frees after (column ∷ before) = line_by (joins column line) at line frees after column before
 
 -- the columns of items
-abbrev pub columns_of : ℕ → List Item → List Seen
-columns_of processes [] = []
-columns_of processes (Tells line ∷ before) = with_line line (freed_by (state_after processes before) line.saying) (state_told (state_after processes before) line.saying) (columns_of processes before)
-columns_of processes (Reads read ∷ before) = column_of_read read (read.end - newest_at (columns_of processes before)) (state_after processes before) ∷ columns_of processes before
-columns_of processes (Accesses access ∷ before) = column_of_access access (access.event - newest_at (columns_of processes before)) (state_after processes before) ∷ columns_of processes before
-columns_of processes (Judges verdict ∷ before) = columns_of processes before
+abbrev pub columns_of : Plan → List Item → List Seen
+columns_of plan [] = []
+columns_of plan (Tells line ∷ before) =
+    with_line plan.at line (freed_by (state_after plan.state before) line.saying)
+    (state_told (state_after plan.state before) line.saying) (columns_of plan before)
+columns_of plan (Reads read ∷ before) =
+    column_of_read read (read.end - newest_at plan.at (columns_of plan before))
+    (state_after plan.state before) ∷ columns_of plan before
+columns_of plan (Accesses access ∷ before) =
+    column_of_access access (access.event - newest_at plan.at (columns_of plan before))
+    (state_after plan.state before) ∷ columns_of plan before
+columns_of plan (Judges at verdict ∷ before) = columns_of plan before
 
 -- the band that is begun, its columns in order, and the bands that are full
 pub record Bands : Type 0 where
@@ -138,10 +146,10 @@ bands_of opening (column ∷ before) = with_put opening column (with_room openin
 abbrev pub behind_columns : List Seen → State × ℕ → State × ℕ
 behind_columns columns before = elim (last_in columns) [ None ↦ before | Some column ↦ (column.after, column.at) ]
 
--- and what stood before a band
-abbrev pub before_band : ℕ → List (List Seen) → State × ℕ
-before_band processes [] = (at_first processes, 0)
-before_band processes (band ∷ full) = behind_columns band (before_band processes full)
+-- and what is before a band; before the first one it is the entry before the left edge
+abbrev pub before_band : Plan → List (List Seen) → State × ℕ
+before_band plan [] = (plan.state, plan.at - 1)
+before_band plan (band ∷ full) = behind_columns band (before_band plan full)
 
 -- what the store opens with, in the first band alone
 abbrev pub opens_before : List ℕ → List (List Seen) → List ℕ
@@ -153,13 +161,19 @@ abbrev pub accesses_in : SeenAccesses → List Seen → SeenAccesses
 accesses_in before band = accesses_at before (stretched_all band)
 
 -- what full bands leave
-abbrev pub accesses_behind : List (List Seen) → SeenAccesses
-accesses_behind [] = no_accesses
-accesses_behind (band ∷ full) = accesses_after (accesses_in (accesses_behind full) band) (stretched_all band)
+abbrev pub accesses_behind : SeenAccesses → List (List Seen) → SeenAccesses
+accesses_behind first [] = first
+accesses_behind first (band ∷ full) =
+    accesses_after (accesses_in (accesses_behind first full) band) (stretched_all band)
 
 -- where the lanes of a band lie, once its columns are drawn apart
 abbrev pub layout_in : ℕ → SeenAccesses → List Seen → Bool → Layout
 layout_in processes before band = layout_of processes (accesses_in before band) (stretched_all band)
+
+-- where the lanes of a band lie that comes after full ones
+abbrev pub layout_of_band : Plan → List Seen → List (List Seen) → Bool → Layout
+layout_of_band plan band full is_last =
+    layout_in plan.state.processes (accesses_behind plan.accesses full) band is_last
 
 -- how many bands are full
 abbrev pub number_of : List (List Seen) → ℕ
@@ -167,9 +181,10 @@ number_of [] = 0
 number_of (band ∷ full) = held_in_64 (number_of full + 1)
 
 -- the heights of full bands, with 16 more for each
-abbrev pub heights : ℕ → List (List Seen) → ℕ
-heights processes [] = 0
-heights processes (band ∷ full) = held_in_64 (heights processes full + ((layout_in processes (accesses_behind full) band false).height + 16))
+abbrev pub heights : Plan → List (List Seen) → ℕ
+heights plan [] = 0
+heights plan (band ∷ full) = held_in_64
+    (heights plan full + ((layout_of_band plan band full false).height + 16))
 
 -- the tag of a band's own picture
 abbrev pub band_tag : ℕ → ℕ → List ℕ
@@ -183,16 +198,17 @@ framed (form.Picture top) number above height shapes = lowering (held_in_64 (top
 -- what is written of a band behind full ones, with a verdict below it, if there is one
 abbrev pub band_bytes : Plan → Bool → Option ShownVerdict → List Seen → List (List Seen) → List ℕ
 band_bytes plan is_last verdict band full =
-    framed plan.form (number_of (band ∷ full)) (heights plan.processes full) (height_with verdict (layout_in plan.processes (accesses_behind full) band is_last).height)
+    framed plan.form (number_of (band ∷ full)) (heights plan full)
+    (height_with verdict (layout_of_band plan band full is_last).height)
     (drawings (judged_shapes verdict (record {
       columns = stretched_all band;
-      before = (before_band plan.processes full).0;
-      before_at = (before_band plan.processes full).1;
-      layout = layout_in plan.processes (accesses_behind full) band is_last;
+      before = (before_band plan full).0;
+      before_at = (before_band plan full).1;
+      layout = layout_of_band plan band full is_last;
       is_last = is_last;
       opens = opens_before plan.opening full;
       subject = plan.subject;
-    }) (accesses_in (accesses_behind full) band)))
+    }) (accesses_in (accesses_behind plan.accesses full) band)))
 
 -- what is written of full bands
 abbrev pub full_bytes : Plan → List (List Seen) → List ℕ
@@ -203,18 +219,20 @@ full_bytes plan (band ∷ full) = full_bytes plan full ++ band_bytes plan false 
 abbrev pub whole_bytes : Plan → Option ShownVerdict → Bands → List ℕ
 whole_bytes plan verdict bands = full_bytes plan bands.full ++ band_bytes plan true verdict bands.begun bands.full
 
--- what is written of items, up to where the bands are full that stand before the newest column
-abbrev pub full_told : Plan → List Item → List ℕ
-full_told plan items = full_bytes plan (bands_of plan.opening (older (columns_of plan.processes items))).full
+-- what is written of items, up to where the bands are full that come before the newest column
+abbrev pub full_drawn : Plan → List Item → List ℕ
+full_drawn plan items = full_bytes plan (bands_of plan.opening (older (columns_of plan items))).full
 
 -- what is written of all items, once there are no more, and the heights of their bands
-abbrev pub bands_told : Plan → List Item → List ℕ
-bands_told plan items = whole_bytes plan (verdict_in items) (bands_of plan.opening (columns_of plan.processes items))
+abbrev pub bands_drawn : Plan → List Item → List ℕ
+bands_drawn plan items =
+    whole_bytes plan (verdict_in items) (bands_of plan.opening (columns_of plan items))
 
 -- the heights of bands and of the verdict, with 16 more for each band
-abbrev pub heights_of : ℕ → Option ShownVerdict → Bands → ℕ
-heights_of processes verdict bands =
-    held_in_64 (heights processes bands.full + (height_with verdict (layout_in processes (accesses_behind bands.full) bands.begun false).height + 16))
+abbrev pub heights_of : Plan → Option ShownVerdict → Bands → ℕ
+heights_of plan verdict bands = held_in_64 (heights plan bands.full
+    + (height_with verdict (layout_of_band plan bands.begun bands.full false).height + 16))
 
-abbrev pub heights_told : Plan → List Item → ℕ
-heights_told plan items = heights_of plan.processes (verdict_in items) (bands_of plan.opening (columns_of plan.processes items))
+abbrev pub heights_drawn : Plan → List Item → ℕ
+heights_drawn plan items =
+    heights_of plan (verdict_in items) (bands_of plan.opening (columns_of plan items))

@@ -7,7 +7,7 @@ use Rattle.record.specs.declared.stages.Stage.TheVariants as stage
 use Rattle.markup.specs.{Block, Label, Point, Shape, line_from}
 use Rattle.columns.specs.{Group, Lane, Seen, Word, bar_of, capped, stage_among, stands_in, word_of}
 use Rattle.picture.specs.Words.{left_reach_of, right_reach_of, word_text}
-use Rattle.columns.specs.declared.state.Word.TheVariants as word
+use Rattle.columns.specs.declared.groups.Word.TheVariants as word
 use Rattle.picture.specs.declared.words.Stretch.{Stretch}
 
 -- a place in a band

@@ -110,13 +110,19 @@ abbrev pub history_name : Bool → ℕ → List Shape
 history_name true knot = Label (codes "name") (point 8 (knot + 3)) (codes "history") ∷ []
 history_name false knot = []
 
+-- after how many positions of the history its chain goes on at the left edge: none where the words of the store begin it
+abbrev pub places_behind : List ℕ → ℕ → ℕ
+places_behind [] places = places
+places_behind (b ∷ opens) places = 0
+
 -- the lane of the history without its lines
 abbrev pub chain_shapes : SeenBand → List Shape
 chain_shapes band =
     line_from (codes "ground") (point 8 (band.layout.chain - 3)) (point 1188 (band.layout.chain - 3))
     ∷ (history_name (has_history band.subject) (knot_of band.layout)
     ++ opening_words (knot_of band.layout) band.opens
-    ++ chain_line (knot_of band.layout) (chain_ends_of band.before.places band.is_last band.layout.end band.columns))
+    ++ chain_line (knot_of band.layout)
+    (chain_ends_of (places_behind band.opens band.before.places) band.is_last band.layout.end band.columns))
 
 -- an arrow from a place to a lane, by the styles of its line and of its tip: its line, up to five pixels before its tip, and its tip
 abbrev pub arrow_by : List ℕ → List ℕ → Point → ℕ → ℕ → List ℕ → List Shape

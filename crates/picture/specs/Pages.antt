@@ -3,8 +3,8 @@ use Rattle.std.specs.Prelude.{◌≡◌, ℕ, ◌-◌, Bool, List, [], ◌∷◌
 use Rattle.std.specs.Option.{option_to_list}
 use Rattle.record.specs.{Stage}
 use Rattle.markup.specs.{lines_in}
-use Rattle.picture.specs.Bandings.{Bands, Item, Plan, accesses_behind, band_bytes, bands_of, bands_told, before_band, columns_of, filled, full_bytes, full_told, heights, heights_of, heights_told, judged_with, newest, newest_at, number_of, older, opens_before, placing_in, state_after, verdict_in, with_put, with_room}
-use Rattle.columns.specs.{Column, Placing, RunLine, Seen, SeenAccesses, State, alone, seen, seen_accesses, told_in}
+use Rattle.picture.specs.Bandings.{Accesses, Bands, Item, Judges, Plan, Reads, Tells, accesses_behind, band_bytes, bands_drawn, bands_of, before_band, columns_of, filled, full_bytes, full_drawn, heights, heights_drawn, heights_of, judged_with, newest, newest_at, number_of, older, opens_before, placing_in, state_after, verdict_in, with_put, with_room}
+use Rattle.columns.specs.{Column, Placing, RunLine, Saying, Seen, SeenAccesses, ShownAccess, State, TakenChange, accesses_after, accesses_at, alone, change_told, column_of_access, seen, seen_accesses, state_told, told_in}
 use Rattle.picture.specs.declared.page.Form.{Form}
 use Rattle.picture.specs.declared.page.Page.{Page}
 use Rattle.picture.specs.declared.subjects.Subject.{Subject}
@@ -15,8 +15,8 @@ abbrev pub lines_of : List Column → Option Column → List (List ℕ)
 lines_of columns pending = flat_map told_in columns ++ flat_map told_in (option_to_list pending)
 
 -- the lines of the band that is begun, and of the column that is not placed yet
-abbrev pub held : Page → List (List ℕ)
-held page = lines_of page.columns.items page.pending
+abbrev pub held_back : Page → List (List ℕ)
+held_back page = lines_of page.columns.items page.pending
 
 -- the lines of a band that is full, if one is
 abbrev pub lines_of_band : Option (List ℕ) → List (List ℕ)
@@ -76,25 +76,28 @@ page_holding plan state pending last_at bands = record {
   subject = plan.subject;
   opens = opens_before plan.opening bands.full;
   state = state;
-  before = (before_band plan.processes bands.full).0;
-  before_at = (before_band plan.processes bands.full).1;
-  accesses = accesses_behind bands.full;
+  before = (before_band plan bands.full).0;
+  before_at = (before_band plan bands.full).1;
+  accesses = accesses_behind plan.accesses bands.full;
   placing = placing_in plan.opening bands;
   columns = bands.begun;
   pending = pending;
   last_at = last_at;
   bands = number_of bands.full;
-  height = heights plan.processes bands.full;
+  height = heights plan bands.full;
   verdict = None;
 }
 
 -- a page with these columns, of which the newest is not placed yet
 abbrev pub page_by : Plan → State → List Seen → SeenPage
-page_by plan state columns = page_holding plan state (newest columns) (newest_at columns) (bands_of plan.opening (older columns))
+page_by plan state columns =
+    page_holding plan state (newest columns) (newest_at plan.at columns)
+    (bands_of plan.opening (older columns))
 
 -- a page that has taken in these items
 abbrev pub page_of : Plan → List Item → SeenPage
-page_of plan items = record (page_by plan (state_after plan.processes items) (columns_of plan.processes items)) { verdict = verdict_in items }
+page_of plan items =
+    record (page_by plan (state_after plan.state items) (columns_of plan items)) { verdict = verdict_in items }
 
 -- what is written of a band, if there is one
 abbrev pub band_text : Option (List ℕ) → List ℕ
@@ -102,20 +105,57 @@ band_text None = []
 band_text (Some band) = band
 
 -- A page takes in one item more, and gives the band that is full with what came before it, if one is.
-abbrev pub GoesOn : Item → SeenPage → Option (List ℕ) → SeenPage → Type 0
-GoesOn item old full new = (plan : Plan) (items : List Item) → old ≡ page_of plan items → (new ≡ page_of plan (item ∷ items)) × (full_told plan (item ∷ items) ≡ full_told plan items ++ band_text full)
+abbrev pub TakesItem : Item → SeenPage → Option (List ℕ) → SeenPage → Type 0
+TakesItem item old full new =
+    (plan : Plan) (items : List Item) → old ≡ page_of plan items →
+    (new ≡ page_of plan (item ∷ items))
+    × (full_drawn plan (item ∷ items) ≡ full_drawn plan items ++ band_text full)
 
 -- Once there are no more items, it gives the last bands, with a verdict, if there is one.
-abbrev pub GivesRest : Option ShownVerdict → SeenPage → Option (List ℕ) → List ℕ → SeenPage → Type 0
-GivesRest verdict old full last new =
-    (plan : Plan) (items : List Item) → old ≡ page_of plan items →
-    (bands_told plan (judged_with verdict items) ≡ full_told plan items ++ band_text full ++ last)
-    × (new.height ≡ heights_told plan (judged_with verdict items))
+abbrev pub GivesLast : Option ShownVerdict → SeenPage → Option (List ℕ) → List ℕ → SeenPage → Type 0
+GivesLast verdict old full last new =
+    (plan : Plan) (items : List Item) (at : ℕ) → old ≡ page_of plan items →
+    (bands_drawn plan (judged_with at verdict items) ≡ full_drawn plan items ++ band_text full ++ last)
+    × (new.height ≡ heights_drawn plan (judged_with at verdict items))
+
+-- what an access leaves of the accesses before it, with the state of all processes there
+abbrev pub accesses_left : SeenAccesses → ShownAccess → State → SeenAccesses
+accesses_left before access state =
+    accesses_after (accesses_at before (column_of_access access 0 state ∷ []))
+    (column_of_access access 0 state ∷ [])
+
+-- the words of the store after a change, if there is one, and after what a line says, by those before it
+abbrev pub opening_by : List ℕ → Option TakenChange → List ℕ
+opening_by opening None = opening
+opening_by opening (Some change) = change.store.items
+
+abbrev pub opening_told : List ℕ → Saying → List ℕ
+opening_told opening saying = opening_by opening (change_told saying)
+
+-- the plan of a picture that begins after an item
+abbrev pub passed : Plan → Item → Plan
+passed plan (Tells line) = record plan {
+  state = state_told plan.state line.saying;
+  opening = opening_told plan.opening line.saying;
+}
+passed plan (Reads read) = plan
+passed plan (Accesses access) =
+    record plan { accesses = accesses_left plan.accesses access plan.state }
+passed plan (Judges at verdict) = plan
+
+-- A page without items is one whose picture begins after an item.
+abbrev pub Passes : Item → SeenPage → SeenPage → Type 0
+Passes item old new = (plan : Plan) → old ≡ page_of plan [] → new ≡ page_of (passed plan item) []
+
+-- The words of the store at the left edge of a page without items are set.
+abbrev pub SetsOpening : List ℕ → SeenPage → SeenPage → Type 0
+SetsOpening words old new =
+    (plan : Plan) → old ≡ page_of plan [] → new ≡ page_of (record plan { opening = words }) []
 
 -- The column that is not placed yet is put in its band, or in the next one.
 abbrev pub Places : SeenPage → Option (List ℕ) → SeenPage → Type 0
 Places old full new =
-    (plan : Plan) (state : State) (last_at : ℕ) (columns : List Seen) → state.processes ≡ plan.processes → old ≡ page_holding plan state (newest columns) last_at (bands_of plan.opening (older columns)) →
+    (plan : Plan) (state : State) (last_at : ℕ) (columns : List Seen) → state.processes ≡ plan.state.processes → old ≡ page_holding plan state (newest columns) last_at (bands_of plan.opening (older columns)) →
     (new ≡ page_holding plan state None last_at (bands_of plan.opening columns)) × (full_bytes plan (bands_of plan.opening columns).full ≡ full_bytes plan (bands_of plan.opening (older columns)).full ++ band_text full)
 
 -- It is, and a line begins the next one, which is not placed yet.
@@ -127,7 +167,7 @@ pub record BeginsColumn (line : RunLine) (frees : Option ℕ) (old : SeenPage) (
 -- Another band begins where a column has no room.
 abbrev pub MakesRoom : Seen → SeenPage → Option (List ℕ) → SeenPage → Type 0
 MakesRoom column old full new =
-    (plan : Plan) (state : State) (pending : Option Seen) (last_at : ℕ) (bands : Bands) → state.processes ≡ plan.processes → old ≡ page_holding plan state pending last_at bands →
+    (plan : Plan) (state : State) (pending : Option Seen) (last_at : ℕ) (bands : Bands) → state.processes ≡ plan.state.processes → old ≡ page_holding plan state pending last_at bands →
     (new ≡ page_holding plan state pending last_at (with_room plan.opening column bands)) × (full_bytes plan (with_room plan.opening column bands).full ≡ full_bytes plan bands.full ++ band_text full)
 
 -- A column is put behind the others.
@@ -138,10 +178,10 @@ Puts column old new =
 -- A page whose band that was begun is drawn, with a verdict below it, if there is one.
 abbrev pub page_filled : Plan → State → Option Seen → ℕ → Option ShownVerdict → Bands → SeenPage
 page_filled plan state pending last_at verdict bands =
-    record (page_holding plan state pending last_at (filled bands)) { height = heights_of plan.processes verdict bands }
+    record (page_holding plan state pending last_at (filled bands)) { height = heights_of plan verdict bands }
 
 -- The band that is begun is drawn, with a verdict below it, if there is one, and another begins.
 abbrev pub DrawsBand : Bool → Option ShownVerdict → SeenPage → List ℕ → SeenPage → Type 0
 DrawsBand is_last verdict old band new =
-    (plan : Plan) (state : State) (pending : Option Seen) (last_at : ℕ) (bands : Bands) → state.processes ≡ plan.processes → old ≡ page_holding plan state pending last_at bands →
+    (plan : Plan) (state : State) (pending : Option Seen) (last_at : ℕ) (bands : Bands) → state.processes ≡ plan.state.processes → old ≡ page_holding plan state pending last_at bands →
     (new ≡ page_filled plan state pending last_at verdict bands) × (band ≡ band_bytes plan is_last verdict bands.begun bands.full)

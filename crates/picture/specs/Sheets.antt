@@ -6,7 +6,7 @@ use Rattle.record.specs.plain_store.{Setup}
 use Rattle.markup.specs.{Said, entering_by, lowering, said_text, standing_by, telling_by}
 use Rattle.markup.specs.declared.names.Key.TheVariants as key
 use Rattle.markup.specs.declared.names.Tag.TheVariants as tag
-use Rattle.picture.specs.Subjects.{legend_of, list_begun, script_of, shown_by}
+use Rattle.picture.specs.Subjects.{format_word, legend_of, list_begun, script_of, shown_by, subject_word}
 use Rattle.picture.specs.declared.constants.TheConstants.{PAGE_STYLE, PATTERNS, STYLE}
 use Rattle.picture.specs.declared.reads.Reads.{Reads}
 use Rattle.picture.specs.declared.reads.Reads.TheVariants.{All, Hidden, Shown}
@@ -29,11 +29,20 @@ view_of height = codes "0 0 1200 " ++ decimal height
 abbrev pub plural_of : ℕ → List ℕ
 plural_of processes = cond (processes == 1) [] (codes "es")
 
--- the heading of a page and of one picture
-abbrev pub heading_of : Setup → List ℕ
-heading_of s =
-    codes "Run of " ++ decimal s.processes ++ codes " process" ++ plural_of s.processes ++ codes " (bakery " ++ decimal s.version ++ codes ", tickets " ++ decimal s.ticket_bits
+-- what it is of: how many processes
+abbrev pub counted_of : Subject → ℕ → List ℕ
+counted_of subject processes =
+    subject_word subject ++ codes " of " ++ decimal processes ++ codes " process" ++ plural_of processes
+
+-- the first word of its file, and the numbers of its setup
+abbrev pub setup_words : Subject → Setup → List ℕ
+setup_words subject s =
+    codes " (" ++ format_word subject ++ codes " " ++ decimal s.version ++ codes ", tickets " ++ decimal s.ticket_bits
     ++ codes ", stamps " ++ decimal s.stamp_bits ++ codes ", slots " ++ decimal s.slots ++ codes ")"
+
+-- the heading of a page and of one picture
+abbrev pub heading_of : Subject → Setup → List ℕ
+heading_of subject s = counted_of subject s.processes ++ setup_words subject s
 
 -- how a page lies where it is printed: upright for more than ten processes
 abbrev pub paper_of : ℕ → List ℕ
@@ -86,8 +95,8 @@ body_front subject heading printed reads =
 abbrev pub page_front_by : Subject → ℕ → List ℕ → List ℕ → Reads → List ℕ
 page_front_by subject processes heading printed reads = page_begun processes heading ++ body_front subject heading printed reads
 
-abbrev pub page_front : Setup → List ℕ → Reads → List ℕ
-page_front s = page_front_by subject.Run s.processes (heading_of s)
+abbrev pub page_front : Subject → Setup → List ℕ → Reads → List ℕ
+page_front subject s = page_front_by subject s.processes (heading_of subject s)
 
 abbrev pub trace_page_front : ℕ → List ℕ → List ℕ → Reads → List ℕ
 trace_page_front = page_front_by subject.Trace
@@ -155,8 +164,8 @@ picture_front_by subject heading bands reads =
     ++ (PATTERNS.now ++ codes "\n")
     ++ ground_of (picture_height bands reads) heading
 
-abbrev pub picture_front : Setup → ℕ → Reads → List ℕ
-picture_front s = picture_front_by subject.Run (heading_of s)
+abbrev pub picture_front : Subject → Setup → ℕ → Reads → List ℕ
+picture_front subject s = picture_front_by subject (heading_of subject s)
 
 abbrev pub trace_picture_front : List ℕ → ℕ → Reads → List ℕ
 trace_picture_front = picture_front_by subject.Trace

@@ -1,9 +1,11 @@
 -- The bars of a picture and the stages of a record.
-use Rattle.std.specs.Prelude.{◌≡◌, ◌<◌, ℕ, List, [], ◌∷◌, ◌++◌, flat_map}
+use Rattle.std.specs.Prelude.{◌≡◌, ◌<◌, ℕ, ◌&&◌, ◌||◌, not, List, [], ◌∷◌, ◌++◌, flat_map}
 use Rattle.std.specs.List.{AllByRecursion}
 use Rattle.record.specs.{Past, stage}
 use Rattle.picture.specs.Bandings.{Accesses, Item, Judges, Reads, Tells, columns_of, state_after}
-use Rattle.columns.specs.{Saying, Seen, marks_in, marks_said, stage_among}
+use Rattle.picture.specs.Windows.{WindowPlan, begun_in, item_if, plan_at, precedes, shows_item, within}
+use Rattle.picture.specs.declared.windows.Window.{Window}
+use Rattle.columns.specs.{Saying, Seen, at_first, marks_in, marks_said, stage_among}
 
 -- what the lines among items say, in their order
 abbrev pub sayings : List Item → List Saying
@@ -11,16 +13,25 @@ sayings [] = []
 sayings (Tells line ∷ before) = sayings before ++ line.saying ∷ []
 sayings (Reads read ∷ before) = sayings before
 sayings (Accesses access ∷ before) = sayings before
-sayings (Judges verdict ∷ before) = sayings before
+sayings (Judges at verdict ∷ before) = sayings before
 
--- A column shows what was told up to some moment: right of it, where the bars of its band go on, the bar of each process is its stage in any record whose marks the lines up to then say.
+-- the items that a picture of a window takes in: until the window begins those before it, and those that are shown
+abbrev pub items_taken : Window → List Item → List Item
+items_taken w [] = []
+items_taken w (item ∷ before) =
+    item_if (shows_item w item || (precedes w item && not (begun_in w before))) item (items_taken w before)
+
+-- A column shows the state after the items that came up to some moment: right of it, where the bars of its band go on, the bar of each process is its stage in any record whose marks are those of the lines up to then.
 pub record ShowsStages (processes : ℕ) (items : List Item) (column : Seen) : Type 0 where
   pub later : List Item
   pub before : List Item
   pub are : later ++ before ≡ items
-  pub after : column.after ≡ state_after processes before
-  pub stages : (past : Past) → flat_map marks_said (sayings before) ≡ marks_in past → (p : ℕ) → p < processes → p < 16 → stage_among column.after.stages p ≡ stage p past
+  pub after : column.after ≡ state_after (at_first processes) before
+  pub stages : (past : Past) → flat_map marks_said (sayings before) ≡ marks_in past →
+      (p : ℕ) → p < processes → p < 16 → stage_among column.after.stages p ≡ stage p past
 
--- So does each column of a picture.
+-- So does each column of the picture of a window, after the items that it takes in.
 abbrev pub BarsAreStages : Type 0
-BarsAreStages = (processes : ℕ) (items : List Item) → AllByRecursion (ShowsStages processes items) (columns_of processes items)
+BarsAreStages = (plan : WindowPlan) (items : List Item) →
+    AllByRecursion (ShowsStages plan.processes (items_taken plan.window items))
+    (columns_of (plan_at plan items) (within plan.window items))

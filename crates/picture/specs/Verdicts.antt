@@ -32,9 +32,15 @@ abbrev pub bad_place : Option FirstBadEntry → List Seen → Option ℕ
 bad_place None columns = None
 bad_place (Some bad) columns = bad_among bad (last_in columns)
 
--- the right edge of what is named: the column of the bad entry, or the right end of the lanes
+-- where what is named ends in a band without the bad entry: at the right end of the lanes or, if that entry comes before the window, which then has no columns, at the left edge, so that nothing is outlined
+abbrev pub edge_without : Option FirstBadEntry → ℕ → List Seen → ℕ
+edge_without (Some bad) end [] = 52
+edge_without _ end columns = end
+
+-- the right edge of what is named: the column of the bad entry, if the band has it
 abbrev pub edge_of : Option FirstBadEntry → SeenBand → ℕ
-edge_of bad band = unwrap_or (bad_place bad band.columns) band.layout.end
+edge_of bad band =
+    unwrap_or (bad_place bad band.columns) (edge_without bad band.layout.end band.columns)
 
 -- the column of the bad entry, if the band has it
 abbrev pub bad_column : Layout → Option ℕ → List Shape

@@ -4,6 +4,7 @@ ghost use Rattle.picture.specs.Adding.{Draws, TellsLines, all_told};
 ghost use Rattle.markup.specs.{reading};
 ghost use Rattle.columns.specs.{seen, seen_accesses};
 ghost use Rattle.picture.specs.AccessShapes.{begun, guide, ties};
+ghost use Rattle.picture.specs.Bandings.{behind_columns};
 ghost use Rattle.picture.specs.Drawings.{band_shapes, column_shapes, for_each, lane_accesses, lane_shapes, lane_words, links, seen_band};
 
 use crate::subjects::Subject;
@@ -155,5 +156,15 @@ impl Band {
             self.draw_column(alloc, column, markup)?;
         }
         Ok(())
+    }
+}
+
+/// Returns the state after columns and the number of events accepted until then, by those before them.
+pub(crate) fn behind(columns: &[Column], before: State, before_at: u64) -> (State, u64)
+    ensures { result ≡ behind_columns (map seen columns.now) (before, before_at) }
+{
+    match columns.last() {
+        Some(column) => (column.after, column.at),
+        None => (before, before_at),
     }
 }

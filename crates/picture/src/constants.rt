@@ -52,7 +52,7 @@ h2{font-size:13px;margin:.2em 0;position:sticky;left:0;width:max-content}.frame{
 @media screen and (max-width:1199px){svg{width:1470px}.band .lane,.band .thin,.band .name{paint-order:stroke;stroke:#fff;stroke-width:6px;stroke-linejoin:round}}\n\
 @media (max-width:699px){#now small{float:none;display:block;margin:0}}\n\
 @media (max-height:520px){details{position:static}}\n\
-@media print{#now,.cur{display:none}.frame{overflow:visible}g.m.on text{text-decoration:none}details{position:static;border:0}li.on{background:none;color:inherit;font-weight:normal}ol{max-height:none;font-size:10px;columns:2;column-gap:3.5em}h1{font-size:15px}body{padding:0;max-width:none}.band{break-inside:avoid}*{print-color-adjust:exact;-webkit-print-color-adjust:exact}}";
+@media print{#now,.cur{display:none}.frame{overflow:visible}g.m.on text{text-decoration:none}details{position:static;border:0}li.on{background:none;color:inherit;font-weight:normal}ol{max-height:none;font-size:10px;columns:2;column-gap:3.5em}h1{font-size:15px}body{padding:0;max-width:none}.band{break-inside:avoid}h2{break-after:avoid}*{print-color-adjust:exact;-webkit-print-color-adjust:exact}}";
 
 /// The script of a page.
 pub(crate) const SCRIPT: &str = "(function(){\n\
@@ -70,6 +70,8 @@ function staged(w){if(after[w[2]]&&!(w[2]==='leave'&&stages[w[1]]==='failed'))st
 keys.textContent='keys: Left and Right by events, Up and Down by marks';said.parentNode.insertBefore(keys,said);\n\
 [].slice.call(document.querySelectorAll('g.r')).forEach(function(g){var t=text(g),to=/from event [0-9]+ to ([0-9]+)/.exec(t),\n\
 e=to?+to[1]:parseInt(t,10);shown[e]=g;g.addEventListener('mouseenter',function(){event(e);});});\n\
+var first=events.concat(Object.keys(shown).map(Number)).reduce(function(a,b){return Math.min(a,b);},Infinity);\n\
+last=Object.keys(shown).reduce(function(a,e){return Math.max(a,+e);},last);\n\
 cur.setAttribute('class','cur');\n\
 function text(m){return m.querySelector('title').textContent;}\n\
 function place(m){return +m.getAttribute('data-x');}\n\
@@ -92,13 +94,15 @@ if(look)show(svg,place(m));}\n\
 function show(svg,x){var r=svg.getBoundingClientRect(),to=x*r.width/1200;\n\
 if(r.top<list.getBoundingClientRect().bottom||r.bottom>innerHeight-150)svg.scrollIntoView({block:'center'});\n\
 if(to<frame.scrollLeft+70||to>frame.scrollLeft+frame.clientWidth-40)frame.scrollLeft=to-frame.clientWidth/2;hold();}\n\
-function event(e){var n=0,m,then,x;e=Math.max(0,Math.min(e,last));\n\
+function event(e){var n=0,m,then,x;e=Math.max(first,Math.min(e,last));\n\
 while(n<marks.length-1&&!(events[n+1]>e))n++;while(n>0&&events[n-1]===e)n--;go(n,true);\n\
-if(shown[e])line('access',text(shown[e]));if(events[n]===e)return;now=e;m=marks[n];then=marks[n+1];x=place(m);\n\
+if(shown[e]&&!(events[n]<=e))said.textContent='';\n\
+if(shown[e])line('access',text(shown[e]));if(events[n]===e)return;now=e;m=marks[n];then=marks[n+1];\n\
 if(shown[e]){var own=shown[e].ownerSVGElement;cursor(own,spot(shown[e]));show(own,spot(shown[e]));at.setAttribute('aria-valuetext',text(shown[e]));return;}\n\
+if(!m)return;var side=events[n]>e?'before':'after';x=place(m);\n\
 if(then&&then.ownerSVGElement===m.ownerSVGElement)x+=(place(then)-x)*(e-events[n])/(events[n+1]-events[n]);\n\
-cursor(m.ownerSVGElement,Math.round(x));show(m.ownerSVGElement,x);line('event',e+' has no mark; it comes after that line');\n\
-at.setAttribute('aria-valuetext','event '+e+', after '+text(m));}\n\
+cursor(m.ownerSVGElement,Math.round(x));show(m.ownerSVGElement,x);line('event',e+' has no mark; it comes '+side+' that line');\n\
+at.setAttribute('aria-valuetext','event '+e+', '+side+' '+text(m));}\n\
 at.max=marks.length-1;at.addEventListener('input',function(){go(+at.value,true);});\n\
 at.addEventListener('keydown',function(k){var by={ArrowLeft:-1,ArrowRight:1}[k.key];\n\
 if(by){k.preventDefault();event(now+by);}});\n\
@@ -107,18 +111,20 @@ m.addEventListener('click',function(){go(n);at.focus();history.replaceState(null
 function named(look){var n=parseInt(location.hash.replace(/^#e?/,''),10);if(n>=0)event(n);else go(0,look);}\n\
 function framed(svgs){var f=document.createElement('div');f.className='frame';\n\
 svgs[0].parentNode.insertBefore(f,svgs[0]);svgs.forEach(function(svg){f.appendChild(svg);});return f;}\n\
-var bands=[].slice.call(document.querySelectorAll('.band')),frame=framed(bands),ends=new Map(),from=0,\n\
+var bands=[].slice.call(document.querySelectorAll('.band')),frame=framed(bands),ends=new Map(),from=isFinite(first)?first:0,\n\
 names=frame.querySelectorAll('.lane,.thin,.name');\n\
 names.forEach(function(name){name.parentNode.appendChild(name);});\n\
 framed([document.querySelector('svg')]);\n\
 marks.forEach(function(m,n){ends.set(m.ownerSVGElement,events[n]);\n\
 if(/^[0-9]/.test(text(m))&&events[n]!==events[n-1])m.id='e'+events[n];});\n\
+Object.keys(shown).forEach(function(e){var b=shown[e].ownerSVGElement;if(!(ends.get(b)>=+e))ends.set(b,+e);});\n\
 bands.forEach(function(band,n){var h=document.createElement('h2'),to=ends.get(band)||0;\n\
 h.textContent='Part '+(n+1)+': '+Math.min(from,to)+' to '+to;frame.insertBefore(h,band);from=to+1;});\n\
 function hold(){var moved='translate('+Math.round(frame.scrollLeft*1200/bands[0].getBoundingClientRect().width)+' 0)';\n\
 names.forEach(function(name){name.setAttribute('transform',moved);});}\n\
 frame.addEventListener('scroll',hold);\n\
 window.addEventListener('hashchange',function(){named(true);});\n\
+at.focus({preventScroll:true});\n\
 named(location.hash.length>1);\n\
 })();";
 
@@ -138,6 +144,8 @@ function staged(w){if(after[w[2]]&&!(w[2]==='leave'&&stages[w[1]]==='failed'))st
 keys.textContent='keys: Left and Right by events, Up and Down by marks';said.parentNode.insertBefore(keys,said);\n\
 [].slice.call(document.querySelectorAll('g.r')).forEach(function(g){var t=text(g),to=/from event [0-9]+ to ([0-9]+)/.exec(t),\n\
 e=to?+to[1]:parseInt(t,10);shown[e]=g;g.addEventListener('mouseenter',function(){event(e);});});\n\
+var first=events.concat(Object.keys(shown).map(Number)).reduce(function(a,b){return Math.min(a,b);},Infinity);\n\
+last=Object.keys(shown).reduce(function(a,e){return Math.max(a,+e);},last);\n\
 cur.setAttribute('class','cur');\n\
 function text(m){return m.querySelector('title').textContent;}\n\
 function place(m){return +m.getAttribute('data-x');}\n\
@@ -159,13 +167,15 @@ if(look)show(svg,place(m));}\n\
 function show(svg,x){var r=svg.getBoundingClientRect(),to=x*r.width/1200;\n\
 if(r.top<list.getBoundingClientRect().bottom||r.bottom>innerHeight-150)svg.scrollIntoView({block:'center'});\n\
 if(to<frame.scrollLeft+70||to>frame.scrollLeft+frame.clientWidth-40)frame.scrollLeft=to-frame.clientWidth/2;hold();}\n\
-function event(e){var n=0,m,then,x;e=Math.max(0,Math.min(e,last));\n\
+function event(e){var n=0,m,then,x;e=Math.max(first,Math.min(e,last));\n\
 while(n<marks.length-1&&!(events[n+1]>e))n++;while(n>0&&events[n-1]===e)n--;go(n,true);\n\
-if(shown[e])line('access',text(shown[e]));if(events[n]===e)return;now=e;m=marks[n];then=marks[n+1];x=place(m);\n\
+if(shown[e]&&!(events[n]<=e))said.textContent='';\n\
+if(shown[e])line('access',text(shown[e]));if(events[n]===e)return;now=e;m=marks[n];then=marks[n+1];\n\
 if(shown[e]){var own=shown[e].ownerSVGElement;cursor(own,spot(shown[e]));show(own,spot(shown[e]));at.setAttribute('aria-valuetext',text(shown[e]));return;}\n\
+if(!m)return;var side=events[n]>e?'before':'after';x=place(m);\n\
 if(then&&then.ownerSVGElement===m.ownerSVGElement)x+=(place(then)-x)*(e-events[n])/(events[n+1]-events[n]);\n\
-cursor(m.ownerSVGElement,Math.round(x));show(m.ownerSVGElement,x);line('event',e+' has no mark; it comes after that line');\n\
-at.setAttribute('aria-valuetext','event '+e+', after '+text(m));}\n\
+cursor(m.ownerSVGElement,Math.round(x));show(m.ownerSVGElement,x);line('event',e+' has no mark; it comes '+side+' that line');\n\
+at.setAttribute('aria-valuetext','event '+e+', '+side+' '+text(m));}\n\
 at.max=marks.length-1;at.addEventListener('input',function(){go(+at.value,true);});\n\
 at.addEventListener('keydown',function(k){var by={ArrowLeft:-1,ArrowRight:1}[k.key];\n\
 if(by){k.preventDefault();event(now+by);}});\n\
@@ -174,18 +184,20 @@ m.addEventListener('click',function(){go(n);at.focus();history.replaceState(null
 function named(look){var n=parseInt(location.hash.replace(/^#e?/,''),10);if(n>=0)event(n);else go(0,look);}\n\
 function framed(svgs){var f=document.createElement('div');f.className='frame';\n\
 svgs[0].parentNode.insertBefore(f,svgs[0]);svgs.forEach(function(svg){f.appendChild(svg);});return f;}\n\
-var bands=[].slice.call(document.querySelectorAll('.band')),frame=framed(bands),ends=new Map(),from=0,\n\
+var bands=[].slice.call(document.querySelectorAll('.band')),frame=framed(bands),ends=new Map(),from=isFinite(first)?first:0,\n\
 names=frame.querySelectorAll('.lane,.thin,.name');\n\
 names.forEach(function(name){name.parentNode.appendChild(name);});\n\
 framed([document.querySelector('svg')]);\n\
 marks.forEach(function(m,n){ends.set(m.ownerSVGElement,events[n]);\n\
 if(/^[0-9]/.test(text(m))&&events[n]!==events[n-1])m.id='e'+events[n];});\n\
+Object.keys(shown).forEach(function(e){var b=shown[e].ownerSVGElement;if(!(ends.get(b)>=+e))ends.set(b,+e);});\n\
 bands.forEach(function(band,n){var h=document.createElement('h2'),to=ends.get(band)||0;\n\
 h.textContent='Part '+(n+1)+': '+Math.min(from,to)+' to '+to;frame.insertBefore(h,band);from=to+1;});\n\
 function hold(){var moved='translate('+Math.round(frame.scrollLeft*1200/bands[0].getBoundingClientRect().width)+' 0)';\n\
 names.forEach(function(name){name.setAttribute('transform',moved);});}\n\
 frame.addEventListener('scroll',hold);\n\
 window.addEventListener('hashchange',function(){named(true);});\n\
+at.focus({preventScroll:true});\n\
 named(location.hash.length>1);\n\
 })();";
 

@@ -3,7 +3,7 @@ ghost use Rattle.std.specs.Prelude.{◌≡◌, [], ◌∷◌, map, OnOk};
 ghost use Rattle.picture.specs.Adding.{Draws};
 ghost use Rattle.markup.specs.{reading};
 ghost use Rattle.columns.specs.{knot_of, seen};
-ghost use Rattle.picture.specs.Drawings.{axis, axis_line, axis_up_to, chain_shapes, first_inside, gap_words, history_name, inside_since, opening_words, seen_band, shade_of, shade_up_to, shades, tick};
+ghost use Rattle.picture.specs.Drawings.{axis, axis_line, axis_up_to, chain_shapes, first_inside, gap_words, history_name, inside_since, opening_words, places_behind, seen_band, shade_of, shade_up_to, shades, tick};
 ghost use Rattle.picture.specs.Subjects.{has_history};
 
 use crate::bands::Band;
@@ -95,14 +95,27 @@ impl Band {
         )?;
         self.draw_name(markup)?;
         self.draw_opening(markup)?;
+        let places = self.places_behind();
         let ends = self
             .layout
-            .chain_ends(self.before.places, self.columns.as_slice(), self.is_last);
+            .chain_ends(places, self.columns.as_slice(), self.is_last);
         let Some((from, to)) = ends else {
             return Ok(());
         };
         let from = Point::at(u32::from(from), knot);
         markup.line("chain", from, Point::at(u32::from(to), knot))
+    }
+
+    /// Returns after how many positions of the history its chain goes on at the left edge: none where the words of the store
+    /// begin it.
+    fn places_behind(&self) -> u64
+        ensures { result ≡ places_behind self.now.opens.items self.now.before.places }
+    {
+        if self.opens.is_empty() {
+            self.before.places
+        } else {
+            0
+        }
     }
 
     /// Draws the name of the lowest lane, if it is a history.

@@ -11,6 +11,7 @@ mod laws;
 mod legends;
 mod links;
 mod marks;
+mod openings;
 mod outlines;
 mod page;
 mod reads;
@@ -21,6 +22,8 @@ mod ties;
 mod trace_sheets;
 mod verdict_box;
 mod waves;
+mod windowed_page;
+mod windows;
 mod words;
 
 pub use columns::{
@@ -29,11 +32,13 @@ pub use columns::{
 };
 pub use laws::bars_are_stages;
 pub use markup::Markup;
-pub use page::{Form, Page};
-pub use reads::Reads;
+pub use page::Form;
+pub use reads::{PictureOptions, Reads};
 pub use sheets::{FIRST_BAND, page_end, page_head, picture_end, picture_head};
 pub use shown_verdict::{
     FirstBadEntry, Pointer, PointerKind, ShownVerdict, VerdictLine, verdict_of,
 };
 pub use subjects::Subject;
 pub use trace_sheets::{trace_page_end, trace_page_head, trace_picture_end, trace_picture_head};
+pub use windowed_page::WindowedPage;
+pub use windows::Window;

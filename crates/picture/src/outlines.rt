@@ -5,24 +5,36 @@ ghost use Rattle.columns.specs.{seen, seen_accesses, shows_access};
 ghost use Rattle.picture.specs.Adding.{Draws};
 ghost use Rattle.picture.specs.Bars.{point};
 ghost use Rattle.picture.specs.Drawings.{seen_band};
-ghost use Rattle.picture.specs.Verdicts.{bad_column, bad_place, because, blame, edge_of, named_bar, named_boxes, outline_of, outline, outline_from, outline_if, shows_accesses, words_begin as start_of_words};
+ghost use Rattle.picture.specs.Verdicts.{bad_column, bad_place, because, blame, edge_of, edge_without, named_bar, named_boxes, outline_of, outline, outline_from, outline_if, shows_accesses, words_begin as start_of_words};
 ghost use Rattle.shown_verdict.specs.{seen_line};
 
 use crate::bands::Band;
 use crate::links::draw_arrow_to;
-use columns::{AXIS, AccessState, Column, DIGIT, Lane, event_place, room};
+use columns::{AXIS, AccessState, Column, DIGIT, LEFT, Lane, event_place, room};
 use markup::{Markup, Point};
 use shown_verdict::{FirstBadEntry, Pointer, PointerKind, ShownVerdict};
 use std::alloc::{AllocError, Global};
 
 impl Band {
-    /// Returns the right edge of all outlines: the column of the bad entry, or the right end of the lanes.
+    /// Returns the right edge of all outlines: the column of the bad entry, or the right end of the lanes. A window after the
+    /// bad entry has no columns, and nothing in it is outlined.
     pub(crate) fn edge(&self, bad: Option<FirstBadEntry>) -> u16
         ensures { result ≡ edge_of bad (seen_band self.now) }
     {
         match self.bad_place(bad) {
             Some(x) => x,
-            None => self.layout.end,
+            None => self.edge_without(bad),
+        }
+    }
+
+    /// Returns where the outlines end if the band does not have the bad entry.
+    fn edge_without(&self, bad: Option<FirstBadEntry>) -> u16
+        ensures { result ≡ edge_without bad self.now.layout.end (map seen self.now.columns.items) }
+    {
+        if bad.is_some() && self.columns.is_empty() {
+            LEFT
+        } else {
+            self.layout.end
         }
     }
 

@@ -1,18 +1,19 @@
 //! A page that draws bands from the lines of a run, a record or a trace.
-ghost use Rattle.std.specs.Prelude.{◌≡◌, ◌++◌, [], ◌∷◌, codes, map, IfOk, IfSome, None, OnOk};
+ghost use Rattle.std.specs.Prelude.{◌≡◌, ◌++◌, [], ◌∷◌, codes, IfOk, IfSome, None, OnOk};
 ghost use Rattle.picture.specs.Adding.{Begins, FramesBand, GivesLines, all_told};
 ghost use Rattle.markup.specs.{EndsAll, lines_in};
-ghost use Rattle.picture.specs.Bandings.{Accesses, Reads, Tells, band_tag, behind_columns, opening_length, opens_with};
-ghost use Rattle.columns.specs.{nothing_told, seen, stages_told, text_of, told_in};
-ghost use Rattle.picture.specs.Pages.{BeginsColumn, DrawsBand, GivesRest, GoesOn, MakesRoom, Places, Puts, held, lines_of_band, page_of, seen_page, stages_kept};
+ghost use Rattle.picture.specs.Bandings.{Accesses, Reads, Tells, band_tag};
+ghost use Rattle.columns.specs.{at_first, no_accesses, nothing_told, seen, stages_told, text_of, told_in};
+ghost use Rattle.picture.specs.Pages.{BeginsColumn, DrawsBand, GivesLast, MakesRoom, Passes, Places, Puts, SetsOpening, TakesItem, held_back, lines_of_band, page_of, seen_page, stages_kept};
 ghost use Rattle.picture.specs.Verdicts.{titles_if};
 ghost use Rattle.picture.specs.declared.page.Form.TheVariants as form_variants;
 
-use crate::bands::Band;
+use crate::bands::{Band, behind};
+use crate::openings::{characters, opening_words};
 use crate::sheets::view;
 use crate::subjects::Subject;
 use columns::{
-    AccessState, Column, Layout, OverlappedRead, Placing, RunLine, ShownAccess, State, cut, stretch,
+    AccessState, Column, Layout, OverlappedRead, Placing, RunLine, ShownAccess, State, stretch,
 };
 use markup::{Key, Markup, Tag, class, words};
 use shown_verdict::ShownVerdict;
@@ -47,16 +48,29 @@ pub struct Page {
 }
 
 impl Page {
-    /// Creates a page without lines, where `opening` is the opening store, or empty.
+    /// Creates a page without lines, where `opening` is the store at its left edge, or empty, and `at` the number of
+    /// entries before that edge.
+    ///
+    /// # Errors
+    ///
+    /// Returns [`AllocError`] if memory is lacking.
     pub fn new(
         alloc: Global,
         form: Form,
         subject: Subject,
         processes: u8,
         opening: &[u8],
+        at: u64,
     ) -> Result<Page, AllocError>
-        ensures page { IfOk result (λ page. seen_page page ≡ page_of (record { form = form; subject = subject; processes = processes; opening = opening.now }) []) }
-        ensures lines { IfOk result (λ page. held page ≡ []) }
+        ensures page { IfOk result (λ page. seen_page page ≡ page_of (record {
+          form = form;
+          subject = subject;
+          opening = opening.now;
+          state = at_first processes;
+          at = at;
+          accesses = no_accesses;
+        }) []) }
+        ensures lines { IfOk result (λ page. held_back page ≡ []) }
         ensures stages { IfOk result (λ page. stages_kept page ≡ nothing_told) }
         ensures processes { IfOk result (λ page. page.state.processes ≡ processes) }
     {
@@ -68,16 +82,62 @@ impl Page {
             subject,
             state,
             before: state,
-            before_at: 0,
+            before_at: at.saturating_sub(1),
             accesses: AccessState::new(alloc),
             placing: Placing::new(characters(opening)),
             opens,
             columns: Vec::new(alloc),
             pending: None,
-            last_at: 0,
+            last_at: at,
             bands: 0,
             height: 0,
         })
+    }
+
+    /// Updates the state and the store at the left edge by a line before it. The page has no items yet.
+    ///
+    /// # Errors
+    ///
+    /// Returns [`AllocError`] if memory is lacking.
+    pub fn pass(&mut self, line: &RunLine) -> Result<(), AllocError>
+        ensures page { OnOk result (Passes (Tells line.now) (seen_page self.old) (seen_page self.new)) }
+        ensures lines { OnOk result (held_back self.new ≡ held_back self.old) }
+        ensures stages { OnOk result (stages_kept self.new
+            ≡ stages_told self.old.state.processes (stages_kept self.old) line.now.saying) }
+        ensures processes { self.new.state.processes ≡ self.old.state.processes }
+    {
+        self.state.take(self.alloc, line)?;
+        self.before = self.state;
+        match line.change() {
+            None => Ok(()),
+            Some(change) => self.set_opening(change.store.as_slice()),
+        }
+    }
+
+    /// Updates the accesses and the waves at the left edge by an access before it. The page has no items yet.
+    ///
+    /// # Errors
+    ///
+    /// Returns [`AllocError`] if memory is lacking.
+    pub fn pass_access(&mut self, access: ShownAccess) -> Result<(), AllocError>
+        ensures page { OnOk result (Passes (Accesses access) (seen_page self.old) (seen_page self.new)) }
+        ensures lines { OnOk result (held_back self.new ≡ held_back self.old) }
+        ensures state { self.new.state ≡ self.old.state }
+    {
+        let columns = [Column::of_access(self.alloc, access, 0, self.state)];
+        self.accesses.begin(self.alloc, &columns)?;
+        self.accesses.pass(self.alloc, &columns)
+    }
+
+    /// Sets the words of the store at the left edge. The page has no items yet.
+    fn set_opening(&mut self, words: &[u8]) -> Result<(), AllocError>
+        ensures page { OnOk result (SetsOpening words.now (seen_page self.old) (seen_page self.new)) }
+        ensures lines { OnOk result (held_back self.new ≡ held_back self.old) }
+        ensures state { self.new.state ≡ self.old.state }
+    {
+        self.opens = opening_words(self.alloc, words)?;
+        self.placing = Placing::new(characters(words));
+        Ok(())
     }
 
     /// Returns the sum of the heights of all bands so far, with 16 more for each. That of the last band has the room of the
@@ -92,8 +152,8 @@ impl Page {
     /// held back, are the lines that were held back before, and this one. In the band each element that begins ends. The line
     /// changes the stages.
     pub fn take(&mut self, line: RunLine) -> Result<Option<Markup>, AllocError>
-        ensures page { IfOk result (λ full. GoesOn (Tells line) (seen_page self.old) full (seen_page self.new)) }
-        ensures lines { GivesLines result (held self.new) (held self.old ++ text_of line ∷ []) }
+        ensures page { IfOk result (λ full. TakesItem (Tells line) (seen_page self.old) full (seen_page self.new)) }
+        ensures lines { GivesLines result (held_back self.new) (held_back self.old ++ text_of line ∷ []) }
         ensures ended { IfOk result (λ full. IfSome full EndsAll) }
         ensures stages { OnOk result (stages_kept self.new ≡ stages_told self.old.state.processes (stages_kept self.old) line.saying) }
         ensures processes { self.new.state.processes ≡ self.old.state.processes }
@@ -115,7 +175,7 @@ impl Page {
         frees: Option<u8>,
     ) -> Result<Option<Markup>, AllocError>
         ensures page { IfOk result (λ full. BeginsColumn line frees (seen_page self.old) full (seen_page self.new)) }
-        ensures lines { GivesLines result (held self.new) (held self.old ++ text_of line ∷ []) }
+        ensures lines { GivesLines result (held_back self.new) (held_back self.old ++ text_of line ∷ []) }
         ensures ended { IfOk result (λ full. IfSome full EndsAll) }
         ensures state { self.new.state ≡ self.old.state }
     {
@@ -129,8 +189,8 @@ impl Page {
     /// Adds a read that a write overlapped, and returns the band before it, if that is full. A read is not a
     /// line.
     pub fn take_read(&mut self, read: OverlappedRead) -> Result<Option<Markup>, AllocError>
-        ensures page { IfOk result (λ full. GoesOn (Reads read) (seen_page self.old) full (seen_page self.new)) }
-        ensures lines { GivesLines result (held self.new) (held self.old) }
+        ensures page { IfOk result (λ full. TakesItem (Reads read) (seen_page self.old) full (seen_page self.new)) }
+        ensures lines { GivesLines result (held_back self.new) (held_back self.old) }
         ensures ended { IfOk result (λ full. IfSome full EndsAll) }
         ensures stages { OnOk result (stages_kept self.new ≡ stages_kept self.old) }
         ensures processes { self.new.state.processes ≡ self.old.state.processes }
@@ -150,8 +210,8 @@ impl Page {
     /// Returns [`AllocError`] if memory is lacking.
     pub fn take_access(&mut self, access: ShownAccess) -> Result<Option<Markup>, AllocError>
         ensures page { IfOk result
-            (λ full. GoesOn (Accesses access) (seen_page self.old) full (seen_page self.new)) }
-        ensures lines { GivesLines result (held self.new) (held self.old) }
+            (λ full. TakesItem (Accesses access) (seen_page self.old) full (seen_page self.new)) }
+        ensures lines { GivesLines result (held_back self.new) (held_back self.old) }
         ensures ended { IfOk result (λ full. IfSome full EndsAll) }
         ensures stages { OnOk result (stages_kept self.new ≡ stages_kept self.old) }
         ensures processes { self.new.state.processes ≡ self.old.state.processes }
@@ -174,9 +234,9 @@ impl Page {
         verdict: Option<ShownVerdict>,
     ) -> Result<(Option<Markup>, Markup), AllocError>
         ensures page { IfOk result
-            (λ bands. GivesRest verdict (seen_page self.old) bands.0 bands.1 (seen_page self.new)) }
+            (λ bands. GivesLast verdict (seen_page self.old) bands.0 bands.1 (seen_page self.new)) }
         ensures lines { IfOk result
-            (λ bands. lines_of_band bands.0 ++ lines_in bands.1 ≡ held self.old ++ titles_if verdict) }
+            (λ bands. lines_of_band bands.0 ++ lines_in bands.1 ≡ held_back self.old ++ titles_if verdict) }
         ensures full { IfOk result (λ bands. IfSome bands.0 EndsAll) }
         ensures last { IfOk result (λ bands. EndsAll bands.1) }
     {
@@ -190,7 +250,7 @@ impl Page {
         ensures page { IfOk result (λ full. Places (seen_page self.old) full (seen_page self.new)) }
         ensures placed { OnOk result (self.new.pending ≡ None) }
         ensures state { self.new.state ≡ self.old.state }
-        ensures lines { GivesLines result (all_told self.new.columns.items) (held self.old) }
+        ensures lines { GivesLines result (all_told self.new.columns.items) (held_back self.old) }
         ensures ended { IfOk result (λ full. IfSome full EndsAll) }
     {
         let Some(column) = self.pending.take() else {
@@ -331,37 +391,4 @@ fn enter_band(number: u64, height: u32, markup: &mut Markup) -> Result<(), Alloc
             words(Key::Label, label.as_bytes()),
         ],
     )
-}
-
-/// Returns the state after columns and the number of events accepted until then, by those before them.
-fn behind(columns: &[Column], before: State, before_at: u64) -> (State, u64)
-    ensures { result ≡ behind_columns (map seen columns.now) (before, before_at) }
-{
-    match columns.last() {
-        Some(column) => (column.after, column.at),
-        None => (before, before_at),
-    }
-}
-
-/// Returns the words with which the history begins.
-fn opening_words(alloc: Global, opening: &[u8]) -> Result<Vec<u8>, AllocError>
-    ensures { IfOk result (λ words. words.items ≡ opens_with opening.now) }
-{
-    if opening.is_empty() {
-        return Ok(Vec::new(alloc));
-    }
-    let mut words = Vec::new(alloc);
-    words.extend_from_slice(b"opens with ")?;
-    words.extend_from_slice(opening)?;
-    cut(alloc, words.as_slice())
-}
-
-/// Returns the number of characters of these words.
-fn characters(opening: &[u8]) -> usize
-    ensures { result ≡ opening_length opening.now }
-{
-    if opening.is_empty() {
-        return 0;
-    }
-    opening.len().min(33) + 11
 }

@@ -7,6 +7,7 @@ ghost use Rattle.picture.specs.Sheets.{height_of_legend};
 
 use crate::bands::Band;
 use crate::signs::below;
+use crate::windows::Window;
 use columns::{OverlappedRead, event_place};
 use markup::{Markup, Point};
 use std::alloc::{AllocError, Global};
@@ -20,6 +21,13 @@ pub enum Reads {
     Shown,
     /// All accesses, as boxes. The reads that writes overlapped have no brackets.
     All,
+}
+
+/// The accesses and the entries that are asked for in a picture.
+#[derive(Clone, Copy)]
+pub struct PictureOptions {
+    pub reads: Reads,
+    pub window: Window,
 }
 
 /// Returns the height of the legend.

@@ -5,7 +5,7 @@ ghost use Rattle.std.specs.String.{string_bytes};
 ghost use Rattle.markup.specs.{lines_in, opens_in, reading};
 ghost use Rattle.picture.specs.Pages.{page_names, picture_names};
 ghost use Rattle.picture.specs.declared.constants.TheConstants.{PATTERNS, STYLE};
-ghost use Rattle.picture.specs.Sheets.{body_front, ground_of, heading_of, item_of, legend_front, legend_tag, list_of, page_back, page_back_by, page_begun, page_front, page_front_by, paper_of, picture_back, picture_back_by, picture_front, picture_front_by, plural_of, slider_of, styles_of, svg_front, svg_tag, titles_of, view_of};
+ghost use Rattle.picture.specs.Sheets.{body_front, counted_of, ground_of, heading_of, item_of, legend_front, legend_tag, list_of, page_back, page_back_by, page_begun, page_front, page_front_by, paper_of, picture_back, picture_back_by, picture_front, picture_front_by, plural_of, setup_words, slider_of, styles_of, svg_front, svg_tag, titles_of, view_of};
 
 use crate::constants::{PAGE_STYLE, PATTERNS, STYLE};
 use crate::reads::{Reads, legend_height};
@@ -18,23 +18,24 @@ use std::alloc::{AllocError, Global};
 /// The top of the first band of one picture.
 pub const FIRST_BAND: u64 = 34;
 
-/// Returns the start of a page, up to its bands, where `printed` has the lines of the scenario.
+/// Returns the start of the page of a run or a record, up to its bands, where `printed` has the lines that it lists.
 pub fn page_head(
     alloc: Global,
+    subject: Subject,
     setup: &Setup,
     printed: &[u8],
     reads: Reads,
 ) -> Result<Markup, AllocError>
-    ensures draws { IfOk result (λ markup. markup ≡ page_front setup.now printed.now reads) }
+    ensures draws { IfOk result (λ markup. markup ≡ page_front subject setup.now printed.now reads) }
     ensures lines { IfOk result (λ markup. lines_in markup ≡ []) }
     ensures elements { IfOk result (λ markup. opens_in markup (Some []) ≡ Some page_names) }
 {
-    let heading = heading(alloc, setup)?;
+    let heading = heading(alloc, subject, setup)?;
     let mut markup = Markup::new(alloc);
     add_page_front(
-        Subject::Run,
+        subject,
         setup.processes,
-        heading.as_bytes(),
+        heading.as_slice(),
         printed,
         reads,
         &mut markup,
@@ -229,20 +230,21 @@ fn add_slider(opening: &[u8], markup: &mut Markup) -> Result<(), AllocError>
     ])
 }
 
-/// Returns the start of one picture, where `bands` is the sum of the heights of its bands.
+/// Returns the start of one picture of a run or a record, where `bands` is the sum of the heights of its bands.
 pub fn picture_head(
     alloc: Global,
+    subject: Subject,
     setup: &Setup,
     bands: u64,
     reads: Reads,
 ) -> Result<Markup, AllocError>
-    ensures draws { IfOk result (λ markup. markup ≡ picture_front setup.now bands reads) }
+    ensures draws { IfOk result (λ markup. markup ≡ picture_front subject setup.now bands reads) }
     ensures lines { IfOk result (λ markup. lines_in markup ≡ []) }
     ensures elements { IfOk result (λ markup. opens_in markup (Some []) ≡ Some picture_names) }
 {
-    let heading = heading(alloc, setup)?;
+    let heading = heading(alloc, subject, setup)?;
     let mut markup = Markup::new(alloc);
-    add_picture_front(Subject::Run, heading.as_bytes(), bands, reads, &mut markup)?;
+    add_picture_front(subject, heading.as_slice(), bands, reads, &mut markup)?;
     Ok(markup)
 }
 
@@ -373,21 +375,39 @@ fn plural(processes: u8) -> &'static str
     if processes == 1 { "" } else { "es" }
 }
 
-/// Returns the heading of a page or a picture.
-#[tactic(auto, using(crate::proofs::Sheetings::heading_is))]
-fn heading(alloc: Global, setup: &Setup) -> Result<String, AllocError>
-    ensures { IfOk result (λ heading. string_bytes heading ≡ heading_of setup.now) }
+/// Returns how a heading begins: what the picture is of, and its number of processes.
+#[tactic(auto, using(crate::proofs::Sheetings::counted_is))]
+fn counted(alloc: Global, subject: Subject, processes: u8) -> Result<String, AllocError>
+    ensures { IfOk result (λ text. string_bytes text ≡ counted_of subject processes) }
+{
+    let kind = subject.word();
+    let many = plural(processes);
+    format!(in alloc; "{kind} of {processes} process{many}")
+}
+
+/// Returns how it ends: the first word of the file, and the numbers of the setup.
+fn numbers(alloc: Global, subject: Subject, setup: &Setup) -> Result<String, AllocError>
+    ensures { IfOk result (λ text. string_bytes text ≡ setup_words subject setup.now) }
 {
     let Setup {
         version,
-        processes,
         ticket_bits,
         stamp_bits,
         slots,
         ..
     } = *setup;
-    let many = plural(processes);
+    let file = subject.file_word();
     format!(in alloc;
-        "Run of {processes} process{many} (bakery {version}, tickets {ticket_bits}, stamps {stamp_bits}, slots {slots})"
+        " ({file} {version}, tickets {ticket_bits}, stamps {stamp_bits}, slots {slots})"
     )
+}
+
+/// Returns the heading of a page or a picture.
+fn heading(alloc: Global, subject: Subject, setup: &Setup) -> Result<Vec<u8>, AllocError>
+    ensures { IfOk result (λ heading. heading.items ≡ heading_of subject setup.now) }
+{
+    let numbers = numbers(alloc, subject, setup)?;
+    let mut heading = counted(alloc, subject, setup.processes)?.into_bytes();
+    heading.extend_from_slice(numbers.as_bytes())?;
+    Ok(heading)
 }

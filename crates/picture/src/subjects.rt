@@ -1,7 +1,7 @@
 //! The subject of a picture: a run, a record or a trace.
 ghost use Rattle.std.specs.Prelude.{◌≡◌, ◌++◌, OnOk};
 ghost use Rattle.markup.specs.{opens_in, reading, with_tags};
-ghost use Rattle.picture.specs.Subjects.{has_history, legend_of, list_begun, script_of, shown_by, time_unit};
+ghost use Rattle.picture.specs.Subjects.{format_word, has_history, legend_of, list_begun, script_of, shown_by, subject_word, time_unit};
 
 use crate::constants::{SCRIPT, TRACE_SCRIPT};
 use crate::legends::{ACCESS_LEGEND, LEGEND, READS_LEGEND, TRACE_ACCESS_LEGEND, TRACE_LEGEND};
@@ -20,8 +20,10 @@ const TRACE_DESCRIPTION: &[u8] =
 /// The subject of a picture.
 #[derive(Clone, Copy, PartialEq, Eq)]
 pub enum Subject {
-    /// A run or a record, which has a history of the commands taken.
+    /// The run of a scenario, which has a history of the commands taken.
     Run,
+    /// The record of a run or of another lock, which has such a history.
+    Record,
     /// A trace, which has no store.
     Trace,
 }
@@ -31,7 +33,29 @@ impl Subject {
     pub(crate) fn has_history(self) -> bool
         ensures { result ≡ has_history self }
     {
-        self == Subject::Run
+        self != Subject::Trace
+    }
+
+    /// Returns the word with which the heading of a picture begins.
+    pub(crate) fn word(self) -> &'static str
+        ensures { result.now ≡ subject_word self }
+    {
+        match self {
+            Subject::Run => "Run",
+            Subject::Record => "Record",
+            Subject::Trace => "Trace",
+        }
+    }
+
+    /// Returns the first word of its file, which names the format.
+    pub(crate) fn file_word(self) -> &'static str
+        ensures { result.now ≡ format_word self }
+    {
+        match self {
+            Subject::Run => "bakery",
+            Subject::Record => "record",
+            Subject::Trace => "trace",
+        }
     }
 
     /// Returns what the axis counts.
@@ -39,7 +63,7 @@ impl Subject {
         ensures { result.now ≡ time_unit self }
     {
         match self {
-            Subject::Run => b"events",
+            Subject::Run | Subject::Record => b"events",
             Subject::Trace => b"entries",
         }
     }
@@ -49,7 +73,7 @@ impl Subject {
         ensures { result.now ≡ shown_by self }
     {
         match self {
-            Subject::Run => DESCRIPTION,
+            Subject::Run | Subject::Record => DESCRIPTION,
             Subject::Trace => TRACE_DESCRIPTION,
         }
     }
@@ -60,9 +84,9 @@ impl Subject {
         ensures read { OnOk result (reading markup.new ≡ reading markup.old) }
     {
         match (self, reads) {
-            (Subject::Run, Reads::Hidden) => markup.constant(LEGEND),
-            (Subject::Run, Reads::Shown) => markup.constant(READS_LEGEND),
-            (Subject::Run, Reads::All) => markup.constant(ACCESS_LEGEND),
+            (Subject::Run | Subject::Record, Reads::Hidden) => markup.constant(LEGEND),
+            (Subject::Run | Subject::Record, Reads::Shown) => markup.constant(READS_LEGEND),
+            (Subject::Run | Subject::Record, Reads::All) => markup.constant(ACCESS_LEGEND),
             (Subject::Trace, Reads::Hidden | Reads::Shown) => markup.constant(TRACE_LEGEND),
             (Subject::Trace, Reads::All) => markup.constant(TRACE_ACCESS_LEGEND),
         }
@@ -77,6 +101,9 @@ impl Subject {
             Subject::Run => {
                 markup.frame("\n</svg>\n<details open><summary>The scenario</summary><ol>\n")
             }
+            Subject::Record => {
+                markup.frame("\n</svg>\n<details open><summary>The record</summary><ol>\n")
+            }
             Subject::Trace => {
                 markup.frame("\n</svg>\n<details open><summary>The trace</summary><ol>\n")
             }
@@ -89,7 +116,7 @@ impl Subject {
         ensures read { OnOk result (reading markup.new ≡ with_tags (opens_in (script_of self)) (reading markup.old)) }
     {
         match self {
-            Subject::Run => markup.frame(SCRIPT),
+            Subject::Run | Subject::Record => markup.frame(SCRIPT),
             Subject::Trace => markup.frame(TRACE_SCRIPT),
         }
     }

@@ -1,5 +1,5 @@
 use Rattle.columns.specs.{seen, text_of}
-use Rattle.picture.specs.{held, seen_page}
+use Rattle.picture.specs.{held_back, seen_page}
 use Rattle.picture.proofs.Held.{alone_pending}
 use Rattle.picture.proofs.Pagings.{begun_is}
 use Rattle.picture.proofs.page.Page.begin_column.Goals as goal
@@ -12,4 +12,4 @@ returns-clause-page c = record {
 }
 
 pub returns-clause-lines : goal.returns-clause-lines
-returns-clause-lines c = alone_pending c.place_pending.new.self.columns.items _ (held c.args.self.now) c.in_ok-new.field-0 (text_of c.args.line) c.in_ok-full.ensures.lines c.in_ok-new.ensures.told
+returns-clause-lines c = alone_pending c.place_pending.new.self.columns.items _ (held_back c.args.self.now) c.in_ok-new.field-0 (text_of c.args.line) c.in_ok-full.ensures.lines c.in_ok-new.ensures.told

@@ -1,6 +1,6 @@
 use Rattle.std.proofs.Common.{Some, [], ◌∷◌, ◌++◌, ap, option_map, refl, ◌∙◌, sym}
 use Rattle.columns.specs.{State, joined, seen, text_of}
-use Rattle.picture.specs.{Page, held, lines_of, seen_page}
+use Rattle.picture.specs.{Page, held_back, lines_of, seen_page}
 use Rattle.picture.proofs.Framing.{always, if_ok}
 use Rattle.picture.proofs.Held.{joins_pending}
 use Rattle.picture.proofs.Pagings.{begins_alone, does_not_join, none_to_join}
@@ -25,8 +25,8 @@ pub returns-clause-lines : goal.returns-clause-lines
 returns-clause-lines c =
     if_ok c.begin_column.result (λ full is. is ∙ ap (λ l. l ++ text_of c.args.line ∷ [])
     (elim c.match-self.branch [
-      | in-Some+else-has_room_for w ↦ ap held w.self-is ∙ ap (lines_of c.args.self.now.columns.items) (sym w.in-Some.is)
-      | in_default w ↦ ap held w.self-is
+      | in-Some+else-has_room_for w ↦ ap held_back w.self-is ∙ ap (lines_of c.args.self.now.columns.items) (sym w.in-Some.is)
+      | in_default w ↦ ap held_back w.self-is
     ])) c.begin_column.ensures.lines
 
 pub returns-clause-stages : goal.returns-clause-stages
