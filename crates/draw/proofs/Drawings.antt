@@ -1,16 +1,17 @@
 -- A picture is drawn part by part.
-use Rattle.std.proofs.Common.{◌≡◌, ◌+◌, ℕ, false, suc, List, [], ◌∷◌, ◌++◌, is_some, length, Option, None, Some, ap, sym, subst, arith, true≢false}
+use Rattle.std.proofs.Common.{◌≡◌, ◌+◌, inr, refl, ℕ, false, suc, List, [], ◌∷◌, ◌++◌, is_some, length, Option, None, Some, ap, sym, subst, arith, true≢false}
 use Rattle.record.specs.plain_store.{Setup}
 use Rattle.record.specs.{Access, Entry, Mark, Past}
 use Rattle.record_accesses.specs.{WatchState, entry_with}
 use Rattle.judge.specs.read_law.{entry_by}
 use Rattle.picture.specs.columns.{OverlappedRead}
 use Rattle.picture.specs.declared.reads.Reads.{Reads as Mode}
-use Rattle.draw.specs.{Canvas, Drawing, DrawsMarks, DrawsOn, DrawsPart, Gives, HasDrawn, IsAfterMarks, Kept, Overhears, OverlapsHeard, Part, PartEntry, Recalls, AccessView, WatchesAccesses, entries_among, given_access_of, given_last, given_of, kept, lines_given, marks_back, observes, overlapped_by, reads_since, says_marks}
+use Rattle.draw.specs.{Canvas, Drawing, DrawsMarks, DrawsOn, DrawsPart, Gives, HasDrawn, IsAfterMarks, IsStoreBefore, Kept, Overhears, OverlapsHeard, Part, PartEntry, Recalls, AccessView, WatchesAccesses, entries_among, given_access_of, given_last, given_of, kept, lines_given, marks_back, observes, overlapped_by, reads_since, says_marks}
 use Rattle.draw.proofs.AccessItems.{neither, none_given, still_watches}
 use Rattle.draw.proofs.Drawn.{draws_on_both, draws_on_none}
 use Rattle.draw.proofs.Giving.{waiting_says}
 use Rattle.draw.proofs.Overhearing.{overhears_nothing}
+use Rattle.draw.proofs.StoresBefore.{before_on}
 
 -- One part.
 
@@ -19,8 +20,8 @@ pub entry_drawn : (view : AccessView) (s : Setup) (parts : List Part) (e : Entry
     Overhears view.reads s (e ∷ entries_among parts) (reads_since s parts ++ overlapped_by s (entries_among parts) e) seen.overlaps →
     DrawsOn (kept seen) (kept mid.canvas) a m (given_access_of view.reads view.limit s (entries_among parts) (entry_with p access marks)) × WatchesAccesses view.reads view.limit s (entry_with p access marks ∷ entries_among parts) mid.accesses →
     mid.canvas.overlaps ≡ seen.overlaps → mid.store ≡ d.store → mid.source ≡ d.source →
-    DrawsMarks mid.canvas d'.canvas mid.store d'.store m b mid.source d.entries p marks → d'.accesses ≡ mid.accesses → d'.entries ≡ d.entries + 1 → DrawsPart view s parts (PartEntry e) d d' a b
-entry_drawn view s parts e d mid d' seen a m b p access marks process reached are same recalls waits shown overlaps store source drew accesses entries =
+    DrawsMarks mid.canvas d'.canvas mid.store d'.store m b mid.source d.entries p marks → d'.accesses ≡ mid.accesses → d'.entries ≡ d.entries + 1 → IsStoreBefore view.window s (e ∷ entries_among parts) d'.before → DrawsPart view s parts (PartEntry e) d d' a b
+entry_drawn view s parts e d mid d' seen a m b p access marks process reached are same recalls waits shown overlaps store source drew accesses entries before =
     let past : Past = entries_among parts in
     let all : List OverlappedRead = reads_since s parts ++ overlapped_by s past e in
     let is : entry_with p access marks ≡ e = λ i. record { process = sym process i; access = sym reached i; marks = sym are i } in
@@ -37,6 +38,7 @@ entry_drawn view s parts e d mid d' seen a m b p access marks process reached ar
         waits = subst (λ (l : List OverlappedRead). Overhears view.reads s (e ∷ past) l d'.canvas.overlaps) (waiting_says s e.process (marks_back past) e.marks all) drawn.1;
         accesses = subst (λ (o : Option WatchState). WatchesAccesses view.reads view.limit s (e ∷ past) o) (sym accesses)
             (subst (λ (x : Entry). WatchesAccesses view.reads view.limit s (x ∷ past) mid.accesses) is shown.1);
+        before = before;
       },
     )
 
@@ -55,11 +57,12 @@ recalls_passed view s parts p access d none recalls =
       store = recalls.store;
       waits = still_waits view.reads s (entries_among parts) (entry_by p access [] ∷ entries_among parts) (reads_since s parts) (reads_since s (PartEntry (entry_by p access []) ∷ parts)) d.canvas.overlaps both.0 recalls.waits;
       accesses = still_watches view.reads view.limit s (entries_among parts) (entry_by p access [] ∷ entries_among parts) d.accesses both.1 recalls.accesses;
+      before = before_on view.window s (entries_among parts) (entry_by p access []) d.before (inr refl) recalls.before;
     }
 
 -- a drawing recalls the same parts whichever line of the list comes next
 pub recalls_at : (view : AccessView) (s : Setup) (parts : List Part) (d : Drawing) (source : ℕ) → Recalls view s parts d → Recalls view s parts (record d { source = source })
-recalls_at view s parts d source recalls = record { entries = recalls.entries; store = recalls.store; waits = recalls.waits; accesses = recalls.accesses }
+recalls_at view s parts d source recalls = record { entries = recalls.entries; store = recalls.store; waits = recalls.waits; accesses = recalls.accesses; before = recalls.before }
 
 -- All parts since a start.
 

@@ -1,14 +1,14 @@
 -- Markup that is written piece by piece, and what a page holds back.
-use Rattle.std.proofs.Common.{◌≡◌, ℕ, true, List, [], ◌∷◌, ◌++◌, Option, Some, None, refl, ap, sym, subst, ◌∙◌, append-nil, append_assoc}
+use Rattle.std.proofs.Common.{◌≡◌, ℕ, Bool, true, false, List, [], ◌∷◌, ◌++◌, Option, Some, None, refl, ap, sym, subst, ◌∙◌, append-nil, append_assoc}
 use Rattle.std.specs.Io.KnownBytes.{Appends}
 use Rattle.record.specs.{Mark}
 use Rattle.picture.specs.markup.{EndsAll, is_at_rest, lines_in, opens_in, tags_of}
 use Rattle.picture.proofs.markup.Lines.{lines_on, rests_on}
 use Rattle.picture.proofs.markup.Stacks.{opens_on}
-use Rattle.picture.specs.{Accesses, GivesRest, GoesOn, Item, Judges, Plan, Reads, SeenPage, Tells, ShownVerdict, band_text, bands_told, full_told, heights_told, judged_with, lines_of_band, page_of, seen_verdict, titles_if, verdict_titles}
+use Rattle.picture.specs.{Accesses, GivesRest, GoesOn, Item, Judges, Reads, SeenWindowed, Tells, ShownVerdict, Window, WindowPlan, band_text, bands_told, full_told, heights_told, judged_with, lines_if, lines_of_band, seen_verdict, shows_end, shows_line, titles_if, verdict_titles, windowed}
 use Rattle.picture.specs.columns.{OverlappedRead, RunLine, ShownAccess, given_access, text_of}
-use Rattle.draw.specs.{Canvas, Draws, DrawsBands, DrawsLines, DrawsMarks, DrawsOn, DrawsRest, Fills, Gives, GivesAccess, GivesLine, GivesRead, IsAfterMarks, IsAround, Kept, Overhears, Says, TakenStore, Writes, given, kept, kept_at_first, lines_given, marks_after, says_marks, says_of, texts_given, waiting}
-use Rattle.draw.proofs.Giving.{both_given, lines_append, marks_after_append, says_append, text_of_saying, texts_append, waiting_append}
+use Rattle.draw.specs.{Canvas, Draws, DrawsBands, DrawsLines, DrawsMarks, DrawsOn, DrawsRest, Fills, Gives, GivesAccess, GivesLine, GivesRead, IsAfterMarks, IsAround, Kept, Overhears, Says, TakenStore, Writes, given, kept, kept_at_first, lines_given, marks_after, says_marks, says_of, text_shown, texts_shown, waiting}
+use Rattle.draw.proofs.Giving.{both_given, lines_append, marks_after_append, says_append, shown_append, shows_saying, text_of_saying, waiting_append}
 use Rattle.draw.proofs.Written.{appends_both, appends_none}
 
 -- markup at rest
@@ -37,10 +37,10 @@ draws_both a b c markup then lines more first next = record {
 }
 
 -- a page takes in nothing, or some items and then others
-fills_none : (page : SeenPage) → Fills page page [] []
+fills_none : (page : SeenWindowed) → Fills page page [] []
 fills_none page = record { items = []; are = refl; goes_on = λ plan before is. (is, sym (append-nil (full_told plan before))) }
 
-fills_both : (old mid new : SeenPage) (markup then : List ℕ) (gives those : List Gives) → Fills old mid markup gives → Fills mid new then those → Fills old new (markup ++ then) (gives ++ those)
+fills_both : (old mid new : SeenWindowed) (markup then : List ℕ) (gives those : List Gives) → Fills old mid markup gives → Fills mid new then those → Fills old new (markup ++ then) (gives ++ those)
 fills_both old mid new markup then gives those first next = record {
   items = next.items ++ first.items;
   are = both_given next.items first.items gives those first.are next.are;
@@ -48,75 +48,96 @@ fills_both old mid new markup then gives those first next = record {
       let one = first.goes_on plan before is in
       let two = next.goes_on plan (first.items ++ before) one.0 in
       let same : next.items ++ (first.items ++ before) ≡ (next.items ++ first.items) ++ before = sym (append_assoc next.items first.items before) in
-      (two.0 ∙ ap (page_of plan) same, ap (full_told plan) (sym same) ∙ two.1 ∙ ap (λ l. l ++ then) one.1 ∙ append_assoc (full_told plan before) markup then);
+      (two.0 ∙ ap (windowed plan) same, ap (full_told plan) (sym same) ∙ two.1 ∙ ap (λ l. l ++ then) one.1 ∙ append_assoc (full_told plan before) markup then);
 }
 
 -- or one
-fills_one : (item : Item) (old new : SeenPage) (band : Option (List ℕ)) → GoesOn item old band new → Fills old new (band_text band) (given (item ∷ []))
+fills_one : (item : Item) (old new : SeenWindowed) (band : Option (List ℕ)) → GoesOn item old band new → Fills old new (band_text band) (given (item ∷ []))
 fills_one item old new band goes = record { items = item ∷ []; are = refl; goes_on = λ plan before at. goes plan before at }
 
 -- nothing is drawn on
 pub draws_on_none : (has : Kept) (a : Option (List ℕ)) → DrawsOn has has a a []
-draws_on_none has a = record { markup = []; drawn = []; draws = draws_none a; goes_on = sym (append-nil has.lines); fills = fills_none has.page }
+draws_on_none has a = record { markup = []; drawn = []; draws = draws_none a; window = refl; goes_on = sym (append-nil has.lines); fills = fills_none has.page }
 
 pub draws_on_both : (had has now : Kept) (a b c : Option (List ℕ)) (gives those : List Gives) → DrawsOn had has a b gives → DrawsOn has now b c those → DrawsOn had now a c (gives ++ those)
 draws_on_both had has now a b c gives those first next = record {
   markup = first.markup ++ next.markup;
   drawn = first.drawn ++ next.drawn;
   draws = draws_both a b c first.markup next.markup first.drawn next.drawn first.draws next.draws;
-  goes_on = append_assoc first.drawn next.drawn now.lines ∙ ap (λ l. first.drawn ++ l) next.goes_on
-      ∙ sym (append_assoc first.drawn has.lines (texts_given those)) ∙ ap (λ l. l ++ texts_given those) first.goes_on ∙ append_assoc had.lines (texts_given gives) (texts_given those)
-      ∙ ap (λ l. had.lines ++ l) (sym (texts_append gives those));
+  window = next.window ∙ first.window;
+  goes_on = append_assoc first.drawn next.drawn now.lines
+      ∙ ap (λ l. first.drawn ++ l) (next.goes_on ∙ ap (λ (w : Window). has.lines ++ texts_shown w those) first.window)
+      ∙ sym (append_assoc first.drawn has.lines (texts_shown had.window those))
+      ∙ ap (λ l. l ++ texts_shown had.window those) first.goes_on
+      ∙ append_assoc had.lines (texts_shown had.window gives) (texts_shown had.window those)
+      ∙ ap (λ l. had.lines ++ l) (sym (shown_append had.window gives those));
   fills = fills_both had.page has.page now.page first.markup next.markup gives those first.fills next.fills;
 }
 
+-- the text of a line, if it is in a window
+line_shown : (w : Window) (line : RunLine) → lines_if (shows_line w line) (text_of line ∷ []) ≡ texts_shown w (GivesLine line.source line.at (says_of line.saying) ∷ [])
+line_shown w line =
+    (λ i. lines_if (sym (shows_saying w line.at line.saying) i) (sym (text_of_saying line.at line.saying) i ∷ []))
+    ∙ sym (append-nil (text_shown w (GivesLine line.source line.at (says_of line.saying))))
+
 -- a line that was told, and the band that is full, if one is
-pub draws_on_line : (line : RunLine) (had has : Kept) (band : Option (List ℕ)) (a b : Option (List ℕ)) → lines_of_band band ++ has.lines ≡ had.lines ++ text_of line ∷ [] → GoesOn (Tells line) had.page band has.page →
+pub draws_on_line : (line : RunLine) (had has : Kept) (band : Option (List ℕ)) (a b : Option (List ℕ)) → has.window ≡ had.window →
+    lines_of_band band ++ has.lines ≡ had.lines ++ lines_if (shows_line had.window line) (text_of line ∷ []) → GoesOn (Tells line) had.page band has.page →
     Draws a b (band_text band) (lines_of_band band) → DrawsOn had has a b (GivesLine line.source line.at (says_of line.saying) ∷ [])
-draws_on_line line had has band a b is goes draws = record {
+draws_on_line line had has band a b window is goes draws = record {
   markup = band_text band;
   drawn = lines_of_band band;
   draws = draws;
-  goes_on = is ∙ ap (λ text. had.lines ++ text ∷ []) (sym (text_of_saying line.at line.saying));
+  window = window;
+  goes_on = is ∙ ap (λ l. had.lines ++ l) (line_shown had.window line);
   fills = fills_one (Tells line) had.page has.page band goes;
 }
 
 -- a read that was told, which is no line
-pub draws_on_read : (read : OverlappedRead) (had has : Kept) (band : Option (List ℕ)) (a b : Option (List ℕ)) → lines_of_band band ++ has.lines ≡ had.lines → GoesOn (Reads read) had.page band has.page →
+pub draws_on_read : (read : OverlappedRead) (had has : Kept) (band : Option (List ℕ)) (a b : Option (List ℕ)) → has.window ≡ had.window → lines_of_band band ++ has.lines ≡ had.lines → GoesOn (Reads read) had.page band has.page →
     Draws a b (band_text band) (lines_of_band band) → DrawsOn had has a b (GivesRead read ∷ [])
-draws_on_read read had has band a b is goes draws = record {
+draws_on_read read had has band a b window is goes draws = record {
   markup = band_text band;
   drawn = lines_of_band band;
   draws = draws;
+  window = window;
   goes_on = is ∙ sym (append-nil had.lines);
   fills = fills_one (Reads read) had.page has.page band goes;
 }
 
 -- the part of an access that an entry makes, which is no line
-pub draws_on_access : (access : ShownAccess) (had has : Kept) (band : Option (List ℕ)) (a b : Option (List ℕ)) → lines_of_band band ++ has.lines ≡ had.lines → GoesOn (Accesses access) had.page band has.page →
+pub draws_on_access : (access : ShownAccess) (had has : Kept) (band : Option (List ℕ)) (a b : Option (List ℕ)) → has.window ≡ had.window → lines_of_band band ++ has.lines ≡ had.lines → GoesOn (Accesses access) had.page band has.page →
     Draws a b (band_text band) (lines_of_band band) → DrawsOn had has a b (GivesAccess (given_access access) ∷ [])
-draws_on_access access had has band a b is goes draws = record {
+draws_on_access access had has band a b window is goes draws = record {
   markup = band_text band;
   drawn = lines_of_band band;
   draws = draws;
+  window = window;
   goes_on = is ∙ sym (append-nil had.lines);
   fills = fills_one (Accesses access) had.page has.page band goes;
 }
 
+-- no lines, be they shown or not
+no_lines_if : (shows : Bool) → lines_if shows [] ≡ []
+no_lines_if true = refl
+no_lines_if false = refl
+
 -- the bands that are left, with the verdict, if there is one
-pub draws_rest : (verdict : Option ShownVerdict) (has : Kept) (new : SeenPage) (full : Option (List ℕ)) (last : List ℕ) (a b : Option (List ℕ)) → lines_of_band full ++ lines_in last ≡ has.lines ++ titles_if verdict → GivesRest verdict has.page full last new →
-    Draws a b (band_text full ++ last) (lines_of_band full ++ lines_in last) → DrawsRest has a b (given (judged_with verdict [])) new.height
-draws_rest None has new full last a b are rests draws = record {
+pub draws_rest : (at : ℕ) (verdict : Option ShownVerdict) (has : Kept) (new : SeenWindowed) (full : Option (List ℕ)) (last : List ℕ) (a b : Option (List ℕ)) →
+    lines_of_band full ++ lines_in last ≡ has.lines ++ lines_if (shows_end has.window at) (titles_if verdict) → GivesRest at verdict has.page full last new →
+    Draws a b (band_text full ++ last) (lines_of_band full ++ lines_in last) → DrawsRest has a b (given (judged_with at verdict [])) new.page.height
+draws_rest at None has new full last a b are rests draws = record {
   markup = band_text full ++ last;
-  draws = subst (λ l. Draws a b (band_text full ++ last) l) are draws;
+  draws = subst (λ l. Draws a b (band_text full ++ last) l) (are ∙ ap (λ l. has.lines ++ l) (no_lines_if (shows_end has.window at))) draws;
   items = [];
   are = refl;
   ends = λ plan before is. let two = rests plan before is in (two.0 ∙ append_assoc (full_told plan before) (band_text full) last, two.1);
 }
-draws_rest (Some verdict) has new full last a b are rests draws = record {
+draws_rest at (Some verdict) has new full last a b are rests draws = record {
   markup = band_text full ++ last;
-  draws = subst (λ l. Draws a b (band_text full ++ last) l) (are ∙ ap (λ l. has.lines ++ l) (sym (append-nil (verdict_titles (seen_verdict verdict))))) draws;
-  items = Judges verdict ∷ [];
+  draws = subst (λ l. Draws a b (band_text full ++ last) l)
+      (are ∙ ap (λ l. has.lines ++ l) (sym (append-nil (lines_if (shows_end has.window at) (verdict_titles (seen_verdict verdict)))))) draws;
+  items = Judges at verdict ∷ [];
   are = refl;
   ends = λ plan before is. let two = rests plan before is in (two.0 ∙ append_assoc (full_told plan before) (band_text full) last, two.1);
 }
@@ -126,8 +147,12 @@ pub rest_behind : (had has : Kept) (a b c : Option (List ℕ)) (gives more : Lis
 rest_behind had has a b c gives more height on rest = record {
   markup = on.markup ++ rest.markup;
   draws = subst (λ l. Draws a c (on.markup ++ rest.markup) l)
-      (sym (append_assoc on.drawn has.lines (texts_given more)) ∙ ap (λ l. l ++ texts_given more) on.goes_on ∙ append_assoc had.lines (texts_given gives) (texts_given more) ∙ ap (λ l. had.lines ++ l) (sym (texts_append gives more)))
-      (draws_both a b c on.markup rest.markup on.drawn (has.lines ++ texts_given more) on.draws rest.draws);
+      (ap (λ (w : Window). on.drawn ++ (has.lines ++ texts_shown w more)) on.window
+      ∙ sym (append_assoc on.drawn has.lines (texts_shown had.window more))
+      ∙ ap (λ l. l ++ texts_shown had.window more) on.goes_on
+      ∙ append_assoc had.lines (texts_shown had.window gives) (texts_shown had.window more)
+      ∙ ap (λ l. had.lines ++ l) (sym (shown_append had.window gives more)))
+      (draws_both a b c on.markup rest.markup on.drawn (has.lines ++ texts_shown has.window more) on.draws rest.draws);
   items = rest.items ++ on.fills.items;
   are = both_given rest.items on.fills.items gives more on.fills.are rest.are;
   ends = λ plan before is.
@@ -138,14 +163,14 @@ rest_behind had has a b c gives more height on rest = record {
 }
 
 -- from the start on: all bands
-pub draws_bands : (plan : Plan) (has : Kept) (a b c : Option (List ℕ)) (gives ends : List Gives) (height : ℕ) → DrawsOn (kept_at_first plan) has a b gives → DrawsRest has b c ends height → DrawsBands plan a c (gives ++ ends) height
+pub draws_bands : (plan : WindowPlan) (has : Kept) (a b c : Option (List ℕ)) (gives ends : List Gives) (height : ℕ) → DrawsOn (kept_at_first plan) has a b gives → DrawsRest has b c ends height → DrawsBands plan a c (gives ++ ends) height
 draws_bands plan has a b c gives ends height on rest =
     let all = rest_behind (kept_at_first plan) has a b c gives ends height on rest in
     let two = all.ends plan [] refl in
     record {
       items = all.items ++ [];
       are = ap given (append-nil all.items) ∙ all.are;
-      draws = subst (λ m. Draws a c m (texts_given (gives ++ ends))) (sym two.0) all.draws;
+      draws = subst (λ m. Draws a c m (texts_shown plan.window (gives ++ ends))) (sym two.0) all.draws;
       heights = two.1;
     }
 
@@ -176,13 +201,13 @@ draws_marks_both had has now store stores last a b c source at p marks more firs
       subst (λ l. IsAfterMarks s l last) (sym (marks_after_append p marks more before)) two.1,
     )
 
--- a whole picture was written: no element is open at its end, and the titles of its marks are these lines
-abbrev pub IsWhole : (old new : Option (List ℕ)) → List ℕ → List Gives → Type 0
-IsWhole old new markup gives = (opens_in markup (Some []) ≡ Some []) × (lines_in markup ≡ texts_given gives) × Writes old new markup
+-- a whole picture was written: no element is open at its end, and the titles of its marks are these lines, as far as a window shows them
+abbrev pub IsWhole : Window → (old new : Option (List ℕ)) → List ℕ → List Gives → Type 0
+IsWhole w old new markup gives = (opens_in markup (Some []) ≡ Some []) × (lines_in markup ≡ texts_shown w gives) × Writes old new markup
 
 -- what stands before and behind tells nothing, and ends what it begins
-pub framed : (plan : Plan) (a b c d : Option (List ℕ)) (head ending : List ℕ) (names : List (List ℕ)) (gives : List Gives) (height : ℕ) → IsAround names head ending → Writes a b head → (bands : DrawsBands plan b c gives height) → Writes c d ending →
-    IsWhole a d ((head ++ bands_told plan bands.items) ++ ending) gives
+pub framed : (plan : WindowPlan) (a b c d : Option (List ℕ)) (head ending : List ℕ) (names : List (List ℕ)) (gives : List Gives) (height : ℕ) → IsAround names head ending → Writes a b head → (bands : DrawsBands plan b c gives height) → Writes c d ending →
+    IsWhole plan.window a d ((head ++ bands_told plan bands.items) ++ ending) gives
 framed plan a b c d head ending names gives height around first bands last =
     let markup : List ℕ = bands_told plan bands.items in
     let front = writes_both a b c head markup first bands.draws.writes in (

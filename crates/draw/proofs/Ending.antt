@@ -2,10 +2,10 @@
 use Rattle.std.proofs.Common.{◌≡◌, ℕ, false, true≢false, List, [], ◌∷◌, ◌++◌, length, map, ◌==◌, Option, Some, refl, ap, subst, sym, ◌∙◌, append-nil}
 use Rattle.bstr.specs.Text.{lines_from}
 use Rattle.record.specs.plain_store.{Setup}
-use Rattle.draw.specs.{Canvas, DrawsLast, DrawsOn, DrawsRest, DrawsUpToVerdict, GivesRead, GivesVerdict, Overhears, Says, SaysEnd, end_given, given, kept, marks_given, marks_says, says_text, shown_of, texts_given}
+use Rattle.draw.specs.{Canvas, DrawsLast, DrawsOn, DrawsRest, DrawsUpToVerdict, GivesLine, GivesRead, GivesVerdict, Overhears, Says, SaysEnd, end_given, given, kept, marks_given, marks_says, says_text, shown_of, shows_says, texts_given, texts_shown}
 use Rattle.draw.proofs.Drawn.{rest_behind}
-use Rattle.draw.proofs.Giving.{marks_append, marks_of_lines, marks_of_reads, texts_append, texts_of_lines, texts_of_reads}
-use Rattle.picture.specs.{FirstBadEntry, SeenVerdict, ShownVerdict, judged_with, seen_verdict}
+use Rattle.draw.proofs.Giving.{marks_append, marks_of_lines, marks_of_reads, shown_append, shown_of_reads, texts_append, texts_of_lines, texts_of_reads}
+use Rattle.picture.specs.{FirstBadEntry, SeenVerdict, ShownVerdict, Window, judged_with, lines_if, seen_verdict, shows_end}
 use Rattle.picture.specs.columns.{OverlappedRead}
 use Rattle.picture.specs.declared.reads.Reads.{Reads as Mode}
 use Rattle.picture.specs.shown_verdict.{bad_entry, judged_text, title_of, report_lines, verdict_lines, verdict_of}
@@ -28,14 +28,27 @@ texts_of_end mode source at reads [] last =
 texts_of_end mode source at reads (byte ∷ told) last =
     let lines : List (List ℕ) = report_lines (byte ∷ told) in
     let verdict = verdict_of source lines (says_text at last) in
-    texts_append (map GivesRead (shown_of mode reads)) (GivesVerdict verdict ∷ [])
+    texts_append (map GivesRead (shown_of mode reads)) (GivesVerdict at verdict ∷ [])
     ∙ (λ i. texts_of_reads (shown_of mode reads) i ++ (append-nil (map title_of verdict.lines) ∙ titles_of_lines (bad_entry lines) lines (says_text at last)) i)
+
+-- those in a window, of a last line that is an end
+pub shown_of_end : (w : Window) (mode : Mode) (source at : ℕ) (reads : List OverlappedRead) (told : List ℕ) (last : Says) → shows_says w at last ≡ shows_end w at →
+    texts_shown w (end_given mode source at reads told last) ≡ lines_if (shows_end w at) (map judged_text (report_lines told) ++ says_text at last ∷ [])
+shown_of_end w mode source at reads [] last is =
+    shown_append w (map GivesRead (shown_of mode reads)) (GivesLine source at last ∷ [])
+    ∙ (λ i. shown_of_reads w (shown_of mode reads) i ++ (append-nil (lines_if (shows_says w at last) (says_text at last ∷ [])) ∙ ap (λ b. lines_if b (says_text at last ∷ [])) is) i)
+    ∙ ap (λ (l : List (List ℕ)). lines_if (shows_end w at) (map judged_text l ++ says_text at last ∷ [])) (sym no_lines)
+shown_of_end w mode source at reads (byte ∷ told) last is =
+    let lines : List (List ℕ) = report_lines (byte ∷ told) in
+    let verdict = verdict_of source lines (says_text at last) in
+    shown_append w (map GivesRead (shown_of mode reads)) (GivesVerdict at verdict ∷ [])
+    ∙ (λ i. shown_of_reads w (shown_of mode reads) i ++ (append-nil (lines_if (shows_end w at) (map title_of verdict.lines)) ∙ ap (lines_if (shows_end w at)) (titles_of_lines (bad_entry lines) lines (says_text at last))) i)
 
 -- and its marks, of a last line that has none
 pub marks_of_end : (mode : Mode) (source at : ℕ) (reads : List OverlappedRead) (told : List ℕ) (last : Says) → marks_says last ≡ [] → marks_given (end_given mode source at reads told last) ≡ []
 marks_of_end mode source at reads [] last none = marks_of_lines mode source at reads (last ∷ []) ∙ append-nil (marks_says last) ∙ none
 marks_of_end mode source at reads (byte ∷ told) last none =
-    marks_append (map GivesRead (shown_of mode reads)) (GivesVerdict (verdict_of source (report_lines (byte ∷ told)) (says_text at last)) ∷ [])
+    marks_append (map GivesRead (shown_of mode reads)) (GivesVerdict at (verdict_of source (report_lines (byte ∷ told)) (says_text at last)) ∷ [])
     ∙ append-nil (marks_given (map GivesRead (shown_of mode reads))) ∙ marks_of_reads (shown_of mode reads)
 
 -- the reads that wait were drawn, and the report is not empty
@@ -48,15 +61,15 @@ judged_drawn had has a b source at [] text last verdict some same is draws = abs
 judged_drawn had has a b source at (byte ∷ told) text last verdict some same is draws = λ mode s past reads waits. (
   map GivesRead (shown_of mode reads),
   (draws mode s past reads waits).0,
-  ap (λ (v : SeenVerdict). map GivesRead (shown_of mode reads) ++ GivesVerdict v ∷ []) (is ∙ ap (verdict_of source (report_lines (byte ∷ told))) same),
+  ap (λ (v : SeenVerdict). map GivesRead (shown_of mode reads) ++ GivesVerdict at v ∷ []) (is ∙ ap (verdict_of source (report_lines (byte ∷ told))) same),
 )
 
 -- all up to a verdict was drawn, and then the rest with it
 pub last_drawn : (had has : Canvas) (a b c : Option (List ℕ)) (source at : ℕ) (told : List ℕ) (last : Says) (verdict : Option ShownVerdict) (height : ℕ) →
-    DrawsUpToVerdict had has a b source at told last verdict → DrawsRest (kept has) b c (given (judged_with verdict [])) height → DrawsLast had a c source at told last height
+    DrawsUpToVerdict had has a b source at told last verdict → DrawsRest (kept has) b c (given (judged_with at verdict [])) height → DrawsLast had a c source at told last height
 last_drawn had has a b c source at told last verdict height drawn rest = λ mode s past reads waits.
     let on = drawn mode s past reads waits in
-    subst (λ gives. DrawsRest (kept had) a c gives height) on.2 (rest_behind (kept had) (kept has) a b c on.0 (given (judged_with verdict [])) height on.1 rest)
+    subst (λ gives. DrawsRest (kept had) a c gives height) on.2 (rest_behind (kept had) (kept has) a b c on.0 (given (judged_with at verdict [])) height on.1 rest)
 
 -- the end of a record, by numbers that are these
 pub last_at : (canvas : Canvas) (a b : Option (List ℕ)) (told : List ℕ) (m height n n' t t' : ℕ) → n ≡ n' → t ≡ t' → DrawsLast canvas a b n m told (SaysEnd m t 0) height → DrawsLast canvas a b n' m told (SaysEnd m t' 0) height

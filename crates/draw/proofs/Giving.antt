@@ -1,15 +1,16 @@
 -- What a picture is told, read back: its lines, their texts and their marks, and the reads that stand before them.
-use Rattle.std.proofs.Common.{◌≡◌, ◌<◌, ℕ, ◌+◌, List, [], ◌∷◌, ◌++◌, flat_map, get_or, length, map, take, refl, ap, sym, ◌∙◌, append-nil, append_assoc}
+use Rattle.std.proofs.Common.{◌≡◌, ◌<◌, ℕ, ◌+◌, ◌&&◌, Bool, true, List, [], ◌∷◌, ◌++◌, flat_map, get_or, length, map, take, refl, ap, sym, ◌∙◌, append-nil, append_assoc}
 use Rattle.std.proofs.lemmas.Grind.{flat_map-append}
 use Rattle.std.proofs.lemmas.List.{map-append, take_more}
-use Rattle.picture.specs.{Accesses, Item, Judges, Reads, Tells, sayings, seen_verdict}
+use Rattle.picture.specs.{Accesses, Item, Judges, Reads, Tells, Window, all_entries, lines_if, sayings, seen_verdict, shows_entry, shows_said}
+use Rattle.std.proofs.Math.Dec.{leb-zero}
 use Rattle.picture.specs.columns.{OverlappedRead, Saying, given_access, marks_said, saying_text}
 use Rattle.picture.specs.columns.declared.told.Saying.TheVariants.{Marked, Refused, Tired, Shown as ShowsStore, Ended, LockMarked, LockEnded}
 use Rattle.picture.specs.declared.reads.Reads.{Reads as Mode}
 use Rattle.picture.specs.declared.reads.Reads.TheVariants.{All, Hidden, Shown}
 use Rattle.record.specs.plain_store.{Setup}
 use Rattle.record.specs.{Mark}
-use Rattle.draw.specs.{Gives, GivesAccess, GivesLine, GivesRead, GivesVerdict, Says, given, lines_given, mark_given, marks_after, marks_given, marks_says, says_marks, says_of, says_text, shown_of, text_given, texts_given, waiting}
+use Rattle.draw.specs.{Gives, GivesAccess, GivesLine, GivesRead, GivesVerdict, Says, SaysEnd, SaysLockEnd, SaysLockMark, SaysMark, SaysRefusal, SaysStore, SaysTired, given, lines_given, mark_given, marks_after, marks_given, marks_says, says_marks, says_of, says_text, shown_of, shows_says, text_given, text_shown, texts_given, texts_shown, waiting}
 
 -- one more, by what is made of each
 pub map_next : {A : Type 0} {B : Type 0} (f : A → B) (xs : List A) (k : ℕ) (d : A) → k < length xs → map f (take (k + 1) xs) ≡ map f (take k xs) ++ f (get_or xs k d) ∷ []
@@ -48,8 +49,8 @@ given_append : (more items : List Item) → given (more ++ items) ≡ given item
 given_append [] items = sym (append-nil (given items))
 given_append (Tells line ∷ more) items = ap (λ l. l ++ GivesLine line.source line.at (says_of line.saying) ∷ []) (given_append more items) ∙ append_assoc (given items) (given more) (GivesLine line.source line.at (says_of line.saying) ∷ [])
 given_append (Reads read ∷ more) items = ap (λ l. l ++ GivesRead read ∷ []) (given_append more items) ∙ append_assoc (given items) (given more) (GivesRead read ∷ [])
-given_append (Judges verdict ∷ more) items =
-    ap (λ l. l ++ GivesVerdict (seen_verdict verdict) ∷ []) (given_append more items) ∙ append_assoc (given items) (given more) (GivesVerdict (seen_verdict verdict) ∷ [])
+given_append (Judges at verdict ∷ more) items =
+    ap (λ l. l ++ GivesVerdict at (seen_verdict verdict) ∷ []) (given_append more items) ∙ append_assoc (given items) (given more) (GivesVerdict at (seen_verdict verdict) ∷ [])
 given_append (Accesses access ∷ more) items =
     ap (λ l. l ++ GivesAccess (given_access access) ∷ []) (given_append more items) ∙ append_assoc (given items) (given more) (GivesAccess (given_access access) ∷ [])
 
@@ -83,6 +84,52 @@ texts_of_lines mode source at reads (line ∷ lines) =
     each [] = refl
     each (line ∷ lines) = ap (λ l. says_text at line ∷ l) (each lines)
 
+-- The lines in a window.
+
+module _ (w : Window) where
+  pub shown_append : (gives more : List Gives) → texts_shown w (gives ++ more) ≡ texts_shown w gives ++ texts_shown w more
+  shown_append gives more = flat_map-append (text_shown w) gives more
+
+  -- a line is shown by what it says
+  pub shows_saying : (at : ℕ) (saying : Saying) → shows_says w at (says_of saying) ≡ shows_said w at saying
+  shows_saying at (Marked p mark change) = refl
+  shows_saying at (Refused p refusal) = refl
+  shows_saying at (Tired p) = refl
+  shows_saying at (ShowsStore words) = refl
+  shows_saying at (Ended events taken refused) = refl
+  shows_saying at (LockMarked p mark) = refl
+  shows_saying at (LockEnded entries) = refl
+
+  pub shown_of_reads : (reads : List OverlappedRead) → texts_shown w (map GivesRead reads) ≡ []
+  shown_of_reads [] = refl
+  shown_of_reads (read ∷ reads) = shown_of_reads reads
+
+-- where all entries are in it, all lines are
+all_entry : (n : ℕ) → shows_entry all_entries n ≡ true
+all_entry n = ap (λ (b : Bool). b && true) (leb-zero n)
+
+all_says : (at : ℕ) (says : Says) → shows_says all_entries at says ≡ true
+all_says at (SaysMark p mark change) = all_entry at
+all_says at (SaysRefusal p refusal) = all_entry at
+all_says at (SaysTired p) = all_entry at
+all_says at (SaysStore words) = all_entry at
+all_says at (SaysEnd events taken refused) = refl
+all_says at (SaysLockMark p mark) = all_entry at
+all_says at (SaysLockEnd entries) = refl
+
+one_shown : (give : Gives) → text_shown all_entries give ≡ text_given give
+one_shown (GivesLine source at says) = ap (λ b. lines_if b (says_text at says ∷ [])) (all_says at says)
+one_shown (GivesRead read) = refl
+one_shown (GivesAccess access) = refl
+one_shown (GivesVerdict at verdict) = refl
+
+pub shown_all : (gives : List Gives) → texts_shown all_entries gives ≡ texts_given gives
+shown_all [] = refl
+shown_all (give ∷ gives) = λ i. one_shown give i ++ shown_all gives i
+
+pub shown_in : (w : Window) (gives : List Gives) → w ≡ all_entries → texts_shown w gives ≡ texts_given gives
+shown_in w gives all = ap (λ (w : Window). texts_shown w gives) all ∙ shown_all gives
+
 -- The marks.
 
 pub marks_append : (gives more : List Gives) → marks_given (gives ++ more) ≡ marks_given gives ++ marks_given more
@@ -104,7 +151,7 @@ marks_of_items (Tells line ∷ before) =
     ∙ (λ i. marks_of_items before i ++ (ap (λ l. l ++ []) (marks_of_saying line.saying)) i)
     ∙ sym (flat_map-append marks_said (sayings before) (line.saying ∷ []))
 marks_of_items (Reads read ∷ before) = marks_append (given before) (GivesRead read ∷ []) ∙ append-nil (marks_given (given before)) ∙ marks_of_items before
-marks_of_items (Judges verdict ∷ before) = marks_append (given before) (GivesVerdict (seen_verdict verdict) ∷ []) ∙ append-nil (marks_given (given before)) ∙ marks_of_items before
+marks_of_items (Judges at verdict ∷ before) = marks_append (given before) (GivesVerdict at (seen_verdict verdict) ∷ []) ∙ append-nil (marks_given (given before)) ∙ marks_of_items before
 marks_of_items (Accesses access ∷ before) = marks_append (given before) (GivesAccess (given_access access) ∷ []) ∙ append-nil (marks_given (given before)) ∙ marks_of_items before
 
 pub marks_of_reads : (reads : List OverlappedRead) → marks_given (map GivesRead reads) ≡ []

@@ -197,12 +197,12 @@ entering_first are s good events event e is h lines say = inside_first are s goo
     then = ap (λ o. elim o as (λ _. Past) [ None ↦ past_of s events | Some x ↦ x ∷ past_of s events ]) is
 
 -- By the items of a picture.
-items_tell : (processes : ℕ) (items : List Item) → state_after processes items ≡ state_of_lines processes (sayings items)
+items_tell : (processes : ℕ) (items : List Item) → state_after (at_first processes) items ≡ state_of_lines processes (sayings items)
 items_tell processes [] = refl
 items_tell processes (Tells line ∷ before) = ap (λ state. state_told state line.saying) (items_tell processes before) ∙ sym (fold-append state_told (at_first processes) (sayings before) (line.saying ∷ []))
 items_tell processes (Reads read ∷ before) = items_tell processes before
 items_tell processes (Accesses access ∷ before) = items_tell processes before
-items_tell processes (Judges verdict ∷ before) = items_tell processes before
+items_tell processes (Judges at verdict ∷ before) = items_tell processes before
 
 pub drawn_first : StagesAreTheRecords → WhoIsInsideIsDrawnFirst
 drawn_first are s good events items say p pN = subst (λ (state : State). stage_among state.stages p ≡ Inside → IsFirstInLine state p) (sym (items_tell s.processes items)) (inside_first are s good events (sayings items) say p pN)

@@ -77,7 +77,7 @@ module _ {H : Type 0} (HasHeard : H → Setup → List Entry → List ℕ → Ty
       let v = u.onwards in
       let stands = all_shown j t v.before v.entries first now b shows u.shown in
       let few : length v.entries ≤ taken = v.few in
-      let count = drawn_count t.reads t.form t.entries.drawing t.entries.stored.items v.before (reverse v.entries) first now stands.draws in
+      let count = drawn_count t.options t.form t.entries.drawing t.entries.stored.items v.before (reverse v.entries) first now stands.draws in
       omega (arith, few, count, length-reverse v.entries)
 
   -- before the first line, where no bytes have come yet
@@ -253,8 +253,8 @@ module _ {H : Type 0} (HasHeard : H → Setup → List Entry → List ℕ → Ty
   -- what is shown, and what the judge tells
   judged_bands : (Tells : Setup → List Entry → List ℕ → List ℕ → ℕ → Type 0) (shows : Bool) (j : Option H) (t : Sheet) (before : Option Progress) (entries : List Entry) (numbers : List ℕ) (first now after : Option (List ℕ)) (p : Progress) (drawn : DrawnEntry) (told : List ℕ) (status : ℕ) →
       before ≡ Some p → HearsAt HasHeard j before entries numbers → IsShown Keeps finds_good shows j t before entries first now → Tells p.head.setup entries numbers told status →
-      ((p : Progress) (past : Past) (first : Option (List ℕ)) → t.reader ≡ Some p → Stands t (Some p) past first now → (drawn.setup ≡ p.head.setup) × EndsAsked t.reads t.form p.head.setup past told drawn.shows drawn.height first after) →
-      IsJudged Keeps Tells status (DrawsBandsOf t.reads t.form drawn first after) p.head.setup entries numbers
+      ((p : Progress) (past : Past) (first : Option (List ℕ)) → t.reader ≡ Some p → Stands t (Some p) past first now → (drawn.setup ≡ p.head.setup) × EndsAsked t.options t.form p.head.setup past told drawn.shows drawn.opening.items drawn.height first after) →
+      IsJudged Keeps Tells status (DrawsBandsOf t.options t.form drawn first after) p.head.setup entries numbers
   judged_bands Tells true j t before entries numbers first now after p drawn told status is heard shown tells ends =
       let both = ends p (reverse entries) first (shown.1.reader ∙ is) (subst (λ (o : Option Progress). Stands t o (reverse entries) first now) is shown.1) in
       record {
@@ -272,7 +272,7 @@ module _ {H : Type 0} (HasHeard : H → Setup → List Entry → List ℕ → Ty
       let two : Some last ≡ Some p = sym shown.read ∙ is in
       let same : last ≡ p = cc in
       let setup : q.head.setup ≡ p.head.setup = shown.setup ∙ ap (λ (p : Progress). p.head.setup) same in
-      subst (λ (s : Setup). IsJudged Keeps Tells status (DrawsBandsOf t.reads t.form drawn first after) s entries numbers) setup (record {
+      subst (λ (s : Setup). IsJudged Keeps Tells status (DrawsBandsOf t.options t.form drawn first after) s entries numbers) setup (record {
         told = told;
         tells = subst (λ (s : Setup). Tells s entries numbers told status) (sym setup) tells;
         shown = entries';
@@ -282,16 +282,16 @@ module _ {H : Type 0} (HasHeard : H → Setup → List Entry → List ℕ → Ty
 
   -- all that a text says was read
   pub read_judged : (to_come : Option (List ℕ)) (taken : ℕ) (reader : Option Progress) (j : Option H) (t : Sheet) (first now : Option (List ℕ)) (u : HasRead HasHeard Keeps finds_good to_come taken reader j t first now) (Tells : Setup → List Entry → List ℕ → List ℕ → ℕ → Type 0) (told : Telling) (drawn : DrawnEntry) (after : Option (List ℕ)) → TellsOfLines Tells (Some told) u.before u.entries u.numbers →
-      ((p : Progress) (past : Past) (first : Option (List ℕ)) → t.reader ≡ Some p → Stands t (Some p) past first now → (drawn.setup ≡ p.head.setup) × EndsAsked t.reads t.form p.head.setup past told.text.items drawn.shows drawn.height first after) →
-      IfSome to_come (IsOfRecord (IsJudged Keeps Tells told.status (DrawsBandsOf t.reads t.form drawn first after)))
+      ((p : Progress) (past : Past) (first : Option (List ℕ)) → t.reader ≡ Some p → Stands t (Some p) past first now → (drawn.setup ≡ p.head.setup) × EndsAsked t.options t.form p.head.setup past told.text.items drawn.shows drawn.opening.items drawn.height first after) →
+      IfSome to_come (IsOfRecord (IsJudged Keeps Tells told.status (DrawsBandsOf t.options t.form drawn first after)))
   read_judged to_come taken reader j t first now u Tells told drawn after is ends =
       let p : Progress = is.0 in
       let judged = judged_bands Tells u.shows j t u.before u.entries u.numbers first now after p drawn told.text.items told.status is.1 u.stands.heard u.shown is.2 ends in
-      if_some to_come (SaysAll (Some p) u.entries u.numbers taken) (IsOfRecord (IsJudged Keeps Tells told.status (DrawsBandsOf t.reads t.form drawn first after)))
+      if_some to_come (SaysAll (Some p) u.entries u.numbers taken) (IsOfRecord (IsJudged Keeps Tells told.status (DrawsBandsOf t.options t.form drawn first after)))
       (λ text says. record {
         said = record { setup = p.head.setup; entries = u.entries };
         says = says.0;
-        holds = subst (λ (l : List ℕ). IsJudged Keeps Tells told.status (DrawsBandsOf t.reads t.form drawn first after) p.head.setup u.entries l) says.1 judged;
+        holds = subst (λ (l : List ℕ). IsJudged Keeps Tells told.status (DrawsBandsOf t.options t.form drawn first after) p.head.setup u.entries l) says.1 judged;
       }) (subst (λ (o : Option Progress). IfSome to_come (SaysAll o u.entries u.numbers taken)) is.1 u.says)
 
 -- a fault of the input

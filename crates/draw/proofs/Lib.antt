@@ -3,6 +3,7 @@ mod Changing
 pub mod Shown
 -- The one-thread store after marks
 pub mod TakenStores
+pub mod StoresBefore
 -- The reads that writes overlap
 pub mod Overhearing
 -- What is drawn, and written piece by piece

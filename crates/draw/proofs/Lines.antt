@@ -5,7 +5,7 @@ use Rattle.std.specs.Option.{option_to_list}
 use Rattle.record.specs.plain_store.{Setup}
 use Rattle.scenario.specs.files.{words_of, words_read}
 use Rattle.picture.specs.{Form}
-use Rattle.picture.specs.declared.reads.Reads.{Reads as Mode}
+use Rattle.picture.specs.declared.reads.PictureOptions.{PictureOptions}
 use Rattle.record.specs.{Access, Entry, Past}
 use Rattle.judge.specs.record_file.{Progress, cleared, entry_in, entry_words, is_entry, line_read, record_grammar, step_entry}
 use Rattle.judge.specs.record_file.scenario.{Progress as Head, spaced}
@@ -19,7 +19,7 @@ pub head_stays : (b : Bool) (p next : Progress) → p.ended ≡ true → Left b 
 head_stays false p next ended left = left.1 ended
 head_stays true p next ended left = (left.1, left.2)
 
-module _ (asked : Mode) (form : Form) (old : Option (List ℕ)) where
+module _ (asked : PictureOptions) (form : Form) (old : Option (List ℕ)) where
   -- a picture is of the setup that was read
   drawn_at : (s t : Setup) (d : RecordDrawing) (past : Past) (new : Option (List ℕ)) → s ≡ t → AreDrawn asked form s past d old new → AreDrawn asked form t past d old new
   drawn_at s t d past new same drawn = subst (λ s. AreDrawn asked form s past d old new) same drawn
@@ -73,7 +73,7 @@ module _ (line : List ℕ) (before now : Option Progress) (old t : Sheet) (past 
   read_at : words_read record_grammar (words_of line) before ≡ Ok now
   read_at = ap (λ (o : Option Progress). words_read record_grammar (words_of line) o) (sym stands.reader) ∙ read
 
-  ends_well : t.reader ≡ cleared now → DrawsAt t.reads t.form t.entries (cleared now) (entry_in now ++ past) first after → GoesOn (line_read line before) t past first after
+  ends_well : t.reader ≡ cleared now → DrawsAt t.options t.form t.entries (cleared now) (entry_in now ++ past) first after → GoesOn (line_read line before) t past first after
   ends_well reader drawn = record {
     now = now;
     says = short_read line before short ∙ read_at;
@@ -81,32 +81,32 @@ module _ (line : List ℕ) (before now : Option Progress) (old t : Sheet) (past 
   }
 
   -- it says no entry
-  pub ends_quiet : t.reader ≡ cleared now → t.reads ≡ old.reads → t.form ≡ old.form → t.entries ≡ old.entries → after ≡ taken → entry_in now ≡ [] → GoesOn (line_read line before) t past first after
-  ends_quiet reader reads form same kept none =
-      ends_well reader (drawn_still t.reads t.form first (words_of line) before now t.entries.drawing t.entries.stored.items past after read_at stands.clear none
-      (subst (λ (m : Mode). DrawsAt m t.form t.entries before past first after) (sym reads) (subst (λ (f : Form). DrawsAt old.reads f t.entries before past first after) (sym form)
-      (subst (λ (e : RecordEntries). DrawsAt old.reads old.form e before past first after) (sym same) (subst (λ (w : Option (List ℕ)). DrawsAt old.reads old.form old.entries before past first w) (sym kept) stands.draws)))))
+  pub ends_quiet : t.reader ≡ cleared now → t.options ≡ old.options → t.form ≡ old.form → t.entries ≡ old.entries → after ≡ taken → entry_in now ≡ [] → GoesOn (line_read line before) t past first after
+  ends_quiet reader options form same kept none =
+      ends_well reader (drawn_still t.options t.form first (words_of line) before now t.entries.drawing t.entries.stored.items past after read_at stands.clear none
+      (subst (λ (m : PictureOptions). DrawsAt m t.form t.entries before past first after) (sym options) (subst (λ (f : Form). DrawsAt old.options f t.entries before past first after) (sym form)
+      (subst (λ (e : RecordEntries). DrawsAt old.options old.form e before past first after) (sym same) (subst (λ (w : Option (List ℕ)). DrawsAt old.options old.form old.entries before past first w) (sym kept) stands.draws)))))
 
 -- it says one, which was stored or drawn
 pub ends_drawn : (line : List ℕ) (before : Option Progress) (now : Progress) (e : Entry) (old t : Sheet) (past : Past) (first taken after : Option (List ℕ)) → length line ≤ 128 → Stands old before past first taken → words_read record_grammar (words_of line) old.reader ≡ Ok (Some now) → now.entry ≡ Some e →
-    t.reader ≡ cleared (Some now) → t.reads ≡ old.reads → t.form ≡ old.form →
-    ((past : Past) (first : Option (List ℕ)) → DrawsPast old.reads old.form old.entries now.head.setup past first taken → DrawsPast old.reads old.form t.entries now.head.setup (e ∷ past) first after) → GoesOn (line_read line before) t past first after
-ends_drawn line before now e old t past first taken after short stands read says reader reads form draws =
+    t.reader ≡ cleared (Some now) → t.options ≡ old.options → t.form ≡ old.form →
+    ((past : Past) (first : Option (List ℕ)) → DrawsPast old.options old.form old.entries now.head.setup past first taken → DrawsPast old.options old.form t.entries now.head.setup (e ∷ past) first after) → GoesOn (line_read line before) t past first after
+ends_drawn line before now e old t past first taken after short stands read says reader options form draws =
     ends_well line before (Some now) old t past first taken after short stands read reader
-    (subst (λ (m : Mode). DrawsAt m t.form t.entries (cleared (Some now)) (entry_in (Some now) ++ past) first after) (sym reads) (subst (λ (f : Form). DrawsAt old.reads f t.entries (cleared (Some now)) (entry_in (Some now) ++ past) first after) (sym form)
-    (drawn_more old.reads old.form first (words_of line) before now e old.entries.drawing t.entries.drawing old.entries.stored.items t.entries.stored.items past taken after (read_at line before (Some now) old t past first taken after short stands read) stands.clear says (draws past first) stands.draws)))
+    (subst (λ (m : PictureOptions). DrawsAt m t.form t.entries (cleared (Some now)) (entry_in (Some now) ++ past) first after) (sym options) (subst (λ (f : Form). DrawsAt old.options f t.entries (cleared (Some now)) (entry_in (Some now) ++ past) first after) (sym form)
+    (drawn_more old.options old.form first (words_of line) before now e old.entries.drawing t.entries.drawing old.entries.stored.items t.entries.stored.items past taken after (read_at line before (Some now) old t past first taken after short stands read) stands.clear says (draws past first) stands.draws)))
 
 -- it is as it is printed for a Step, which was drawn behind an entry that was drawn
 pub ends_stepped : (line : List ℕ) (old t : Sheet) (d d' : RecordDrawing) (process : ℕ) (access : Access) (before : Option Progress) (past : Past) (first now after : Option (List ℕ)) → length line ≤ 128 → line ≡ spaced (entry_words (step_entry process access)) → is_entry (step_entry process access) ≡ true → old.entries.drawing ≡ Some d →
-    t.reader ≡ old.reader → t.reads ≡ old.reads → t.form ≡ old.form → t.entries.drawing ≡ Some d' →
-    ((s : Setup) → AreDrawn old.reads old.form s past d first now → AreDrawn old.reads old.form s (step_entry process access ∷ past) d' first after) → Stands old before past first now → GoesOn (line_read line before) t past first after
-ends_stepped line old t d d' process access before past first now after short printed sound some reader reads form drawing draws stands =
-    by before stands.clear (subst (λ (o : Option RecordDrawing). AreReadBy o old.entries.stored.items old.reads old.form before past first now) some stands.draws) (reader ∙ stands.reader)
+    t.reader ≡ old.reader → t.options ≡ old.options → t.form ≡ old.form → t.entries.drawing ≡ Some d' →
+    ((s : Setup) → AreDrawn old.options old.form s past d first now → AreDrawn old.options old.form s (step_entry process access ∷ past) d' first after) → Stands old before past first now → GoesOn (line_read line before) t past first after
+ends_stepped line old t d d' process access before past first now after short printed sound some reader options form drawing draws stands =
+    by before stands.clear (subst (λ (o : Option RecordDrawing). AreReadBy o old.entries.stored.items old.options old.form before past first now) some stands.draws) (reader ∙ stands.reader)
   where
     e : Entry
     e = step_entry process access
 
-    by : (b : Option Progress) → cleared b ≡ b → AreReadBy (Some d) old.entries.stored.items old.reads old.form b past first now → t.reader ≡ b → GoesOn (line_read line b) t past first after
+    by : (b : Option Progress) → cleared b ≡ b → AreReadBy (Some d) old.entries.stored.items old.options old.form b past first now → t.reader ≡ b → GoesOn (line_read line b) t past first after
     by None clear drawn same = absurd drawn
     by (Some p) clear drawn same = record {
       now = Some (record p { ended = true; entry = Some e });
@@ -114,8 +114,8 @@ ends_stepped line old t d d' process access before past first now after short pr
       stands = record {
         reader = same ∙ sym clear ∙ ap (λ (b : Bool). Some (record p { ended = b; entry = None })) drawn.0;
         clear = refl;
-        draws = subst (λ (m : Mode). DrawsAt m t.form t.entries (Some (record p { ended = true; entry = None })) (e ∷ past) first after) (sym reads) (subst (λ (f : Form). DrawsAt old.reads f t.entries (Some (record p { ended = true; entry = None })) (e ∷ past) first after) (sym form)
-            (subst (λ (o : Option RecordDrawing). AreReadBy o t.entries.stored.items old.reads old.form (Some (record p { ended = true; entry = None })) (e ∷ past) first after) (sym drawing) (refl, draws p.head.setup drawn.1)));
+        draws = subst (λ (m : PictureOptions). DrawsAt m t.form t.entries (Some (record p { ended = true; entry = None })) (e ∷ past) first after) (sym options) (subst (λ (f : Form). DrawsAt old.options f t.entries (Some (record p { ended = true; entry = None })) (e ∷ past) first after) (sym form)
+            (subst (λ (o : Option RecordDrawing). AreReadBy o t.entries.stored.items old.options old.form (Some (record p { ended = true; entry = None })) (e ∷ past) first after) (sym drawing) (refl, draws p.head.setup drawn.1)));
       };
     }
 

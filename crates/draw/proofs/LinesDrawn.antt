@@ -1,12 +1,13 @@
 -- A run is drawn line by line.
 use Rattle.std.proofs.Common.{◌≡◌, ℕ, suc, ◌+◌, ◌-◌, List, [], ◌∷◌, ◌++◌, length, Option, None, refl, ap, sym, subst, ◌∙◌, append-nil, append_assoc, arith}
 use Rattle.record.specs.plain_store.{Setup}
+use Rattle.record.specs.{Past}
 use Rattle.scenario.specs.{Line}
-use Rattle.picture.specs.{Plan}
+use Rattle.picture.specs.{WindowPlan}
 use Rattle.course.specs.{CourseState, Follows, Happening, Run, Summary, past_after, run_after, run_at_start, runs, summary_of, text_of}
 use Rattle.course.specs.Writing.{Counts}
 use Rattle.course.proofs.Onwards.{Onward}
-use Rattle.draw.specs.{Advances, DrawsBands, DrawsLast, DrawsLine, DrawsOn, Gives, HasDrawn, Kept, Recalls, RunDrawing, AccessView, entries_among, first_line, given_at_end, given_by, given_from, given_last, kept, kept_at_first, lines_given, parts_of, reads_since, says_end, tally}
+use Rattle.draw.specs.{Advances, DrawsBands, DrawsLast, DrawsLine, DrawsOn, Gives, HasDrawn, HasOpening, Kept, Recalls, RunDrawing, AccessView, entries_among, first_line, given_at_end, given_by, given_from, given_last, kept, kept_at_first, lines_given, parts_of, reads_since, says_end, store_before, store_words, tally}
 use Rattle.draw.proofs.Drawings.{recalls_at}
 use Rattle.draw.proofs.Drawn.{draws_bands, draws_on_both, draws_on_none}
 use Rattle.draw.proofs.RunTold.{entries_of_run}
@@ -15,7 +16,7 @@ use Rattle.draw.proofs.RunTold.{entries_of_run}
 abbrev pub at_next : RunDrawing → RunDrawing
 at_next run = record run { drawing = record run.drawing { source = run.drawing.source + 1 } }
 
-module _ (plan : Plan) (view : AccessView) (s : Setup) (lines : List Line) where
+module _ (plan : WindowPlan) (view : AccessView) (s : Setup) (lines : List Line) where
   -- from the start of a run on, between two lines
   pub record Drawn (rest : List Line) (course : CourseState) (run : RunDrawing) (old new : Option (List ℕ)) : Type 0 where
     pub gives : List Gives
@@ -85,3 +86,11 @@ module _ (plan : Plan) (view : AccessView) (s : Setup) (lines : List Line) where
       let given : d.gives ≡ given_by view s (first_line s) lines run_at_start = sym (append-nil d.gives) ∙ d.are in
       subst (λ l. DrawsBands plan a c l height) {x = d.gives ++ ended} (λ i. given i ++ is i)
       (draws_bands plan (kept run.drawing.canvas) a b c d.gives ended height d.draws (ends view.reads s (entries_among (parts_of s here)) (reads_since s (parts_of s here)) d.recalls.waits))
+
+  -- the store before the window
+  pub drawn_opening : (course : CourseState) (run : RunDrawing) (opening : List ℕ) (a b : Option (List ℕ)) → Drawn [] course run a b → HasOpening (at_next run).drawing opening →
+      opening ≡ store_words (store_before view.window s (past_after s (runs s lines run_at_start).happened))
+  drawn_opening course run opening a b d opens =
+      let here : List Happening = d.onward.now.happened in
+      let same : here ≡ (runs s lines run_at_start).happened = ap (λ (r : Run). r.happened) d.onward.whole in
+      opens view s (parts_of s here) (recalls_at view s (parts_of s here) run.drawing (run.drawing.source + 1) d.recalls) ∙ ap (λ (past : Past). store_words (store_before view.window s past)) (entries_of_run s here ∙ ap (past_after s) same)

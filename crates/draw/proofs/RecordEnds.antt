@@ -6,11 +6,11 @@ use Rattle.scenario.specs.files.{Fault, FaultKind, Given, GoesToNext, IsTooLong,
 use Rattle.scenario.specs.files.declared.faults.Fault.TheVariants as fault
 use Rattle.scenario.specs.files.declared.faults.FaultKind.TheVariants.{NotFirst, TooLong}
 use Rattle.picture.specs.{Form}
-use Rattle.picture.specs.declared.reads.Reads.{Reads as Mode}
+use Rattle.picture.specs.declared.reads.PictureOptions.{PictureOptions}
 use Rattle.record.specs.{Entry, Past}
 use Rattle.judge.specs.record_file.{Progress, cleared, entry_in, line_read, record_of, rest_read}
 use Rattle.draw.specs.{failed_write}
-use Rattle.draw.specs.{AreReadBy, DrawnEntry, DrawsAllBands, EndsAsked, GoesOn, IsDrawFault, LineStops, RecordDrawing, Sheet, Stands, count_by, entries_of, full_view}
+use Rattle.draw.specs.{AreReadBy, DrawnEntry, DrawsAllBands, EndsAsked, GoesOn, IsDrawFault, LineStops, RecordDrawing, Sheet, Stands, count_by, entries_of, long_view}
 use Rattle.judge.proofs.Ends.{at_end, line_fault, line_then, of_input, told_on}
 use Rattle.judge.proofs.Lines.{few_in, long_read}
 use Rattle.judge.proofs.Trials.{unless_then}
@@ -32,14 +32,14 @@ pub record Onwards (to_come rest : Option (List ℕ)) (taken : ℕ) (t : Sheet) 
   pub goes_on : Told to_come rest (GoesOnTo before (reverse past) taken)
 
 -- as many entries were stored or drawn as were said
-pub drawn_count : (asked : Mode) (form : Form) (d : Option RecordDrawing) (stored : List Entry) (before : Option Progress) (past : Past) (old new : Option (List ℕ)) → AreReadBy d stored asked form before past old new → count_by d stored ≡ length past
+pub drawn_count : (asked : PictureOptions) (form : Form) (d : Option RecordDrawing) (stored : List Entry) (before : Option Progress) (past : Past) (old new : Option (List ℕ)) → AreReadBy d stored asked form before past old new → count_by d stored ≡ length past
 drawn_count asked form None stored before past old new drawn = ap length drawn.are ∙ length-reverse past
 drawn_count asked form (Some d) stored None past old new drawn = absurd drawn
-drawn_count asked form (Some d) stored (Some p) past old new drawn = drawn_as_many (full_view asked) form p.head.setup past d old new drawn.1.drawn
+drawn_count asked form (Some d) stored (Some p) past old new drawn = drawn_as_many (long_view asked) form p.head.setup past d old new drawn.1.drawn
 
 pub onwards_few : (to_come rest : Option (List ℕ)) (taken : ℕ) (t : Sheet) (old new : Option (List ℕ)) → Onwards to_come rest taken t old new → entries_of t.entries ≤ taken
 onwards_few to_come rest taken t old new u =
-    let few : length u.past ≤ taken = u.few in let count = drawn_count t.reads t.form t.entries.drawing t.entries.stored.items u.before u.past old new u.stands.draws in omega (arith, few, count)
+    let few : length u.past ≤ taken = u.few in let count = drawn_count t.options t.form t.entries.drawing t.entries.stored.items u.before u.past old new u.stands.draws in omega (arith, few, count)
 
 -- before the first line, where no bytes have come yet
 pub onwards_start : (to_come : Option (List ℕ)) (ahead : Given) (taken : ℕ) (t : Sheet) (old : Option (List ℕ)) → ahead.bytes ≡ [] → ahead.ended ≡ false → taken ≡ 0 → Stands t None [] old old → Onwards to_come (coming ahead to_come) taken t old old
@@ -96,16 +96,16 @@ onwards_none to_come mid taken t old new u none end =
 
 -- the picture of the whole
 pub onwards_drawn : (to_come mid : Option (List ℕ)) (taken : ℕ) (t : Sheet) (old new then : Option (List ℕ)) (u : Onwards to_come mid taken t old new) (p : Progress) (drawn : DrawnEntry) → t.reader ≡ Some p → IsAtEnd mid →
-    ((p : Progress) (past : Past) (first : Option (List ℕ)) → t.reader ≡ Some p → Stands t (Some p) past first new → (drawn.setup ≡ p.head.setup) × EndsAsked t.reads t.form p.head.setup past [] drawn.shows drawn.height first then) →
-    IfSome to_come (DrawsAllBands t.reads t.form drawn old then)
+    ((p : Progress) (past : Past) (first : Option (List ℕ)) → t.reader ≡ Some p → Stands t (Some p) past first new → (drawn.setup ≡ p.head.setup) × EndsAsked t.options t.form p.head.setup past [] drawn.shows drawn.opening.items drawn.height first then) →
+    IfSome to_come (DrawsAllBands t.options t.form drawn old then)
 onwards_drawn to_come mid taken t old new then u p drawn some end ends =
-    of_input to_come mid (GoesOnTo u.before (reverse u.past) taken) (λ y. y ≡ []) (DrawsAllBands t.reads t.form drawn old then) (λ x y before is. record {
+    of_input to_come mid (GoesOnTo u.before (reverse u.past) taken) (λ y. y ≡ []) (DrawsAllBands t.options t.form drawn old then) (λ x y before is. record {
       said = record { setup = p.head.setup; entries = reverse u.past };
       says = sym before ∙ ap (λ (l : List ℕ). rest_read (taken + 1) l u.before (reverse u.past)) is ∙ ap (λ b. rest_read (taken + 1) [] b (reverse u.past)) (sym u.stands.reader ∙ some);
-      holds = record { setup = both.0; ends = subst (λ (past : Past). EndsAsked t.reads t.form p.head.setup past [] drawn.shows drawn.height old then) (sym (reverse-reverse u.past)) both.1 };
+      holds = record { setup = both.0; ends = subst (λ (past : Past). EndsAsked t.options t.form p.head.setup past [] drawn.shows drawn.opening.items drawn.height old then) (sym (reverse-reverse u.past)) both.1 };
     }) u.goes_on (at_end mid end)
   where
-    both : (drawn.setup ≡ p.head.setup) × EndsAsked t.reads t.form p.head.setup u.past [] drawn.shows drawn.height old then
+    both : (drawn.setup ≡ p.head.setup) × EndsAsked t.options t.form p.head.setup u.past [] drawn.shows drawn.opening.items drawn.height old then
     both = ends p u.past old some (subst (λ (o : Option Progress). Stands t o u.past old new) (sym u.stands.reader ∙ some) u.stands)
 
 -- what was read, where something was

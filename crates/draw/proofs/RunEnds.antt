@@ -9,7 +9,7 @@ use Rattle.scenario.proofs.CutTexts.{scenario_tells_at_limit}
 use Rattle.scenario.specs.{Script, scenario_of}
 use Rattle.course.specs.{ended, replay_text, replayed}
 use Rattle.picture.specs.{Form}
-use Rattle.picture.specs.declared.reads.Reads.{Reads as Mode}
+use Rattle.picture.specs.declared.reads.PictureOptions.{PictureOptions}
 use Rattle.draw.specs.{IsWriteFault, failed_write}
 use Rattle.draw.specs.{DrawsAll, DrewRun}
 
@@ -35,12 +35,12 @@ failures_by (Err Read) m n good bad = bad
 failures_by (Err (Line f)) m n good bad = bad
 
 -- a fault of a line
-pub drew_line : (reads : Mode) (form : Form) (result : Result (Unit {0}) Fault) (fault : LineFault) (old new : Streams) → IsErrAnd result (λ told. told ≡ Line fault) → Ran replay_text result old new → DrewRun reads form result old new
-drew_line reads form (Ok done) fault old new is ran = absurd is
-drew_line reads form (Err (Line f)) fault old new is ran = ran
-drew_line reads form (Err Read) fault old new is ran = ran
-drew_line reads form (Err Write) fault old new is ran = absurd (cc)
-drew_line reads form (Err Memory) fault old new is ran = tt
+pub drew_line : (options : PictureOptions) (form : Form) (result : Result (Unit {0}) Fault) (fault : LineFault) (old new : Streams) → IsErrAnd result (λ told. told ≡ Line fault) → Ran replay_text result old new → DrewRun options form result old new
+drew_line options form (Ok done) fault old new is ran = absurd is
+drew_line options form (Err (Line f)) fault old new is ran = ran
+drew_line options form (Err Read) fault old new is ran = ran
+drew_line options form (Err Write) fault old new is ran = absurd (cc)
+drew_line options form (Err Memory) fault old new is ran = tt
 
 -- what is read and is a scenario is the whole input
 all_read : (input bytes : List ℕ) (new : Option (List ℕ)) (said : Script) → ReadsInput (Some input) new bytes → scenario_of bytes ≡ Ok said → bytes ≡ input
@@ -59,13 +59,13 @@ script_told (Some input) new bytes said P read good holds =
     (said, is, ap (λ r. r >>= λ s. Ok (replayed s)) is, subst (λ file. P file said) whole holds)
 
 -- the end, once the input is read and is a scenario's
-pub drew_all : {A : Type 0} (reads : Mode) (form : Form) (result : Result A Fault) (bytes : List ℕ) (said : Script) (old new : Streams) → ReadsInput old.to_come new.to_come bytes → scenario_of bytes ≡ Ok said →
-    OnOk result (DrawsAll reads form bytes said old.taken new.taken) → IfErr result IsWriteFault → new.write_failures ≡ old.write_failures + failed_write result → DrewRun reads form (ended result) old new
-drew_all reads form (Ok answer) bytes said old new read good draws fault failures = (
-  script_told old.to_come new.to_come bytes said (λ file said. DrawsAll reads form file said old.taken new.taken) read good draws,
+pub drew_all : {A : Type 0} (options : PictureOptions) (form : Form) (result : Result A Fault) (bytes : List ℕ) (said : Script) (old new : Streams) → ReadsInput old.to_come new.to_come bytes → scenario_of bytes ≡ Ok said →
+    OnOk result (DrawsAll options form bytes said old.taken new.taken) → IfErr result IsWriteFault → new.write_failures ≡ old.write_failures + failed_write result → DrewRun options form (ended result) old new
+drew_all options form (Ok answer) bytes said old new read good draws fault failures = (
+  script_told old.to_come new.to_come bytes said (λ file said. DrawsAll options form file said old.taken new.taken) read good draws,
   read_to_end scenario_of replayed scenario_tells_at_limit old.to_come new.to_come bytes said read good,
 )
-drew_all reads form (Err Write) bytes said old new read good draws fault failures = omega (arith, failures)
-drew_all reads form (Err Memory) bytes said old new read good draws fault failures = tt
-drew_all reads form (Err Read) bytes said old new read good draws fault failures = absurd fault
-drew_all reads form (Err (Line f)) bytes said old new read good draws fault failures = absurd fault
+drew_all options form (Err Write) bytes said old new read good draws fault failures = omega (arith, failures)
+drew_all options form (Err Memory) bytes said old new read good draws fault failures = tt
+drew_all options form (Err Read) bytes said old new read good draws fault failures = absurd fault
+drew_all options form (Err (Line f)) bytes said old new read good draws fault failures = absurd fault

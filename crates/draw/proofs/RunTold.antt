@@ -107,8 +107,8 @@ texts_of_items [] = refl
 texts_of_items (Tells line ∷ before) =
     (λ i. texts_of_items before i ++ sym (text_of_saying line.at line.saying) i ∷ []) ∙ sym (texts_append (given before) (GivesLine line.source line.at (says_of line.saying) ∷ []))
 texts_of_items (Reads read ∷ before) = texts_of_items before ∙ sym (append-nil (texts_given (given before))) ∙ sym (texts_append (given before) (GivesRead read ∷ []))
-texts_of_items (Judges verdict ∷ before) =
-    (λ i. texts_of_items before i ++ sym (append-nil (verdict_titles (seen_verdict verdict))) i) ∙ sym (texts_append (given before) (GivesVerdict (seen_verdict verdict) ∷ []))
+texts_of_items (Judges at verdict ∷ before) =
+    (λ i. texts_of_items before i ++ sym (append-nil (verdict_titles (seen_verdict verdict))) i) ∙ sym (texts_append (given before) (GivesVerdict at (seen_verdict verdict) ∷ []))
 texts_of_items (Accesses access ∷ before) = texts_of_items before ∙ sym (append-nil (texts_given (given before))) ∙ sym (texts_append (given before) (GivesAccess (given_access access) ∷ []))
 
 pub lines_of_run : (view : AccessView) (said : Script) (items : List Item) → given items ≡ run_given view said → ended_lines (lines_told items) ≡ replayed said

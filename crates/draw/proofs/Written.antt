@@ -22,6 +22,10 @@ pub ok_then : {A E : Type 0} (r : Result A E) {P Q : Type 0} → (P → Q) → O
 ok_then (Ok done) then is = then is
 ok_then (Err e) then is = tt
 
+pub ok_then_both : {A E : Type 0} (r : Result A E) {P Q R : Type 0} → (P → Q → R) → OnOk r P → OnOk r Q → OnOk r R
+ok_then_both (Ok done) then p q = then p q
+ok_then_both (Err e) then p q = tt
+
 pub ok_then_all : {A E : Type 0} (r : Result A E) {P Q R S : Type 0} → (P → Q → R → S) → OnOk r P → OnOk r Q → OnOk r R → OnOk r S
 ok_then_all (Ok done) then p q s = then p q s
 ok_then_all (Err e) then p q s = tt
@@ -43,6 +47,10 @@ if_ok_then (Err e) then is = tt
 pub if_ok_both : {A E : Type 0} (r : Result A E) {P Q R : A → Type 0} → ((x : A) → P x → Q x → R x) → IfOk r P → IfOk r Q → IfOk r R
 if_ok_both (Ok x) then p q = then x p q
 if_ok_both (Err e) then p q = tt
+
+pub if_ok_all : {A E : Type 0} (r : Result A E) {P Q R S : A → Type 0} → ((x : A) → P x → Q x → R x → S x) → IfOk r P → IfOk r Q → IfOk r R → IfOk r S
+if_ok_all (Ok x) then p q s = then x p q s
+if_ok_all (Err e) then p q s = tt
 
 pub if_err_then : {A E : Type 0} (r : Result A E) {P Q : E → Type 0} → ((e : E) → P e → Q e) → IfErr r P → IfErr r Q
 if_err_then (Ok x) then is = tt

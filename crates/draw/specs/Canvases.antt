@@ -3,26 +3,32 @@ use Rattle.std.specs.Prelude.{◌≡◌, ℕ, true, List, [], ◌++◌, Option}
 use Rattle.std.specs.Io.KnownBytes.{Appends}
 use Rattle.record.specs.plain_store.{Setup, opening_store}
 use Rattle.record.specs.{Mark, Past}
-use Rattle.picture.specs.{Form, Item, Plan, SeenPage, bands_told, full_told, heights_told, held, judged_with, page_of, seen_page}
+use Rattle.picture.specs.{Form, Item, SeenWindowed, Window, WindowPlan, bands_told, full_told, heights_told, held, judged_with, seen_windowed, windowed}
 use Rattle.picture.specs.columns.{OverlappedRead}
 use Rattle.picture.specs.{ShownVerdict}
 use Rattle.picture.specs.declared.reads.Reads.{Reads as Mode}
 use Rattle.picture.specs.declared.subjects.Subject.TheVariants.{Run, Trace}
 use Rattle.picture.specs.markup.{EndsAll, is_at_rest, lines_in, tags_of}
-use Rattle.draw.specs.Items.{Gives, Says, end_given, given, lines_given, marks_after, says_marks, texts_given, waiting}
+use Rattle.draw.specs.Items.{Gives, Says, end_given, given, lines_given, marks_after, says_marks, texts_shown, waiting}
 use Rattle.draw.specs.Overlaps.{Overhears}
 use Rattle.draw.specs.StoreChanges.{words_by}
 use Rattle.draw.specs.TakenStores.{IsAfterMarks}
 use Rattle.draw.specs.declared.canvas.Canvas.{Canvas}
 use Rattle.draw.specs.declared.taken_store.TakenStore.{TakenStore}
 
--- what is known of a picture from the start
-abbrev pub plan_of : Form → Setup → Plan
-plan_of form s = record { form = form; subject = Run; processes = s.processes; opening = words_by (opening_store s).pairs }
+-- what is known from the start of a picture that shows a window
+abbrev pub plan_of : Form → Window → Setup → WindowPlan
+plan_of form w s = record {
+  form = form;
+  subject = Run;
+  processes = s.processes;
+  opening = words_by (opening_store s).pairs;
+  window = w;
+}
 
 -- and of the picture of a trace, which has no store
-abbrev pub trace_plan : Form → ℕ → Plan
-trace_plan form processes = record { form = form; subject = Trace; processes = processes; opening = [] }
+abbrev pub trace_plan : Form → ℕ → Window → WindowPlan
+trace_plan form processes w = record { form = form; subject = Trace; processes = processes; opening = []; window = w }
 
 -- This markup was written. However it goes on, what is read of it stays as it is.
 pub record Writes (old new : Option (List ℕ)) (markup : List ℕ) : Type 0 where
@@ -35,45 +41,49 @@ pub record Draws (old new : Option (List ℕ)) (markup : List ℕ) (lines : List
   pub read_back : lines_in markup ≡ lines
   pub writes : Writes old new markup
 
--- a page under way: the lines that it holds back, and all that it keeps
+-- a page under way: its window, the lines that it holds back, and all that it keeps
 pub record Kept : Type 0 where
+  pub window : Window
   pub lines : List (List ℕ)
-  pub page : SeenPage
+  pub page : SeenWindowed
 
 abbrev pub kept : Canvas → Kept
-kept canvas = record { lines = held canvas.page; page = seen_page canvas.page }
+kept canvas = record { window = canvas.page.window; lines = held canvas.page; page = seen_windowed canvas.page }
 
 -- before the first item
-abbrev pub kept_at_first : Plan → Kept
-kept_at_first plan = record { lines = []; page = page_of plan [] }
+abbrev pub kept_at_first : WindowPlan → Kept
+kept_at_first plan = record { window = plan.window; lines = []; page = windowed plan [] }
 
 -- a page took in items that are these, and this markup is the bands that are full by them
-pub record Fills (old new : SeenPage) (markup : List ℕ) (gives : List Gives) : Type 0 where
+pub record Fills (old new : SeenWindowed) (markup : List ℕ) (gives : List Gives) : Type 0 where
   pub items : List Item
   pub are : given items ≡ gives
-  pub goes_on : (plan : Plan) (before : List Item) → old ≡ page_of plan before → (new ≡ page_of plan (items ++ before)) × (full_told plan (items ++ before) ≡ full_told plan before ++ markup)
+  pub goes_on : (plan : WindowPlan) (before : List Item) → old ≡ windowed plan before →
+      (new ≡ windowed plan (items ++ before)) × (full_told plan (items ++ before) ≡ full_told plan before ++ markup)
 
--- markup was written, where some lines were held back before, and some are now
+-- Markup was written, where some lines were held back before, and some are now. Only the lines in the window are drawn.
 pub record DrawsOn (had has : Kept) (old new : Option (List ℕ)) (gives : List Gives) : Type 0 where
   pub markup : List ℕ
   pub drawn : List (List ℕ)
   pub draws : Draws old new markup drawn
-  pub goes_on : drawn ++ has.lines ≡ had.lines ++ texts_given gives
+  pub window : has.window ≡ had.window
+  pub goes_on : drawn ++ has.lines ≡ had.lines ++ texts_shown had.window gives
   pub fills : Fills had.page has.page markup gives
 
 -- what was held back was written, and the last items
 pub record DrawsRest (had : Kept) (old new : Option (List ℕ)) (gives : List Gives) (height : ℕ) : Type 0 where
   pub markup : List ℕ
-  pub draws : Draws old new markup (had.lines ++ texts_given gives)
+  pub draws : Draws old new markup (had.lines ++ texts_shown had.window gives)
   pub items : List Item
   pub are : given items ≡ gives
-  pub ends : (plan : Plan) (before : List Item) → had.page ≡ page_of plan before → (bands_told plan (items ++ before) ≡ full_told plan before ++ markup) × (height ≡ heights_told plan (items ++ before))
+  pub ends : (plan : WindowPlan) (before : List Item) → had.page ≡ windowed plan before →
+      (bands_told plan (items ++ before) ≡ full_told plan before ++ markup) × (height ≡ heights_told plan (items ++ before))
 
 -- all bands were written, whose heights come to so much
-pub record DrawsBands (plan : Plan) (old new : Option (List ℕ)) (gives : List Gives) (height : ℕ) : Type 0 where
+pub record DrawsBands (plan : WindowPlan) (old new : Option (List ℕ)) (gives : List Gives) (height : ℕ) : Type 0 where
   pub items : List Item
   pub are : given items ≡ gives
-  pub draws : Draws old new (bands_told plan items) (texts_given gives)
+  pub draws : Draws old new (bands_told plan items) (texts_shown plan.window gives)
   pub heights : height ≡ heights_told plan items
 
 -- lines made by one line of the list were drawn, and before them the reads that waited; none waits behind a line
@@ -91,7 +101,7 @@ DrawsMarks had has store stores old new source at p marks =
 abbrev pub DrawsUpToVerdict : Canvas → Canvas → Option (List ℕ) → Option (List ℕ) → (source at : ℕ) → List ℕ → Says → Option ShownVerdict → Type 0
 DrawsUpToVerdict had has old new source at told last verdict =
     (mode : Mode) (s : Setup) (past : Past) (reads : List OverlappedRead) → Overhears mode s past reads had.overlaps →
-    (gives : List Gives) × DrawsOn (kept had) (kept has) old new gives × (gives ++ given (judged_with verdict []) ≡ end_given mode source at reads told last)
+    (gives : List Gives) × DrawsOn (kept had) (kept has) old new gives × (gives ++ given (judged_with at verdict []) ≡ end_given mode source at reads told last)
 
 -- The end of the picture was drawn, and all that was held back.
 abbrev pub DrawsLast : Canvas → Option (List ℕ) → Option (List ℕ) → (source at : ℕ) → List ℕ → Says → ℕ → Type 0

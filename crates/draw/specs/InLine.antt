@@ -31,4 +31,5 @@ WhoIsInsideIsFirst = (s : Setup) → checked s ≡ Ok tt → (events : List Even
 -- So it is first in the line from which a picture draws its bars and what stands in them, once such lines are among its items.
 abbrev pub WhoIsInsideIsDrawnFirst : Type 0
 WhoIsInsideIsDrawnFirst = (s : Setup) → checked s ≡ Ok tt → (events : List Event) (items : List Item) → flat_map marks_said (sayings items) ≡ marks_in (past_of s events) →
-    (p : ℕ) → p < s.processes → stage_among (state_after s.processes items).stages p ≡ Inside → IsFirstInLine (state_after s.processes items) p
+    (p : ℕ) → p < s.processes → stage_among (state_after (at_first s.processes) items).stages p ≡ Inside →
+    IsFirstInLine (state_after (at_first s.processes) items) p

@@ -1,8 +1,8 @@
 -- What a picture is told, item by item, as values: its lines, the reads that writes overlapped, and accesses.
-use Rattle.std.specs.Prelude.{ℕ, zero, suc, List, [], ◌∷◌, ◌++◌, flat_map, length, map, string_bytes, Option, None, Some, option_map}
+use Rattle.std.specs.Prelude.{ℕ, zero, suc, Bool, List, [], ◌∷◌, ◌++◌, flat_map, length, map, string_bytes, Option, None, Some, option_map}
 use Rattle.record.specs.plain_store.{Setup}
 use Rattle.record.specs.{Entry, Mark, Past, Refusal}
-use Rattle.picture.specs.{Accesses, Item, Judges, Reads, SeenVerdict, Tells, seen_verdict, verdict_titles}
+use Rattle.picture.specs.{Accesses, Item, Judges, Reads, SeenVerdict, Tells, Window, lines_if, seen_verdict, shows_after, shows_end, shows_entry, verdict_titles}
 use Rattle.picture.specs.columns.{GivenAccess, OverlappedRead, Saying, given_access, like, lock_ended_text, lock_marked_text}
 use Rattle.picture.specs.columns.trace.{LockMark}
 use Rattle.picture.specs.shown_verdict.{report_lines, verdict_of}
@@ -31,7 +31,7 @@ pub data Gives : Type 0 where
   GivesLine : ℕ → ℕ → Says → Gives  -- the line of the list that makes it, how many events were accepted before it, and what it says
   GivesRead : OverlappedRead → Gives  -- a read that a write overlapped
   GivesAccess : GivenAccess → Gives  -- the part of an access that an entry makes
-  GivesVerdict : SeenVerdict → Gives  -- the verdict of a judge, with the last line
+  GivesVerdict : ℕ → SeenVerdict → Gives  -- how many events were accepted before it, and the verdict of a judge, with the last line
 
 abbrev pub says_of : Saying → Says
 says_of (Marked p mark change) = SaysMark p mark (option_map changed change)
@@ -48,7 +48,7 @@ given [] = []
 given (Tells line ∷ before) = given before ++ GivesLine line.source line.at (says_of line.saying) ∷ []
 given (Reads read ∷ before) = given before ++ GivesRead read ∷ []
 given (Accesses access ∷ before) = given before ++ GivesAccess (given_access access) ∷ []
-given (Judges verdict ∷ before) = given before ++ GivesVerdict (seen_verdict verdict) ∷ []
+given (Judges at verdict ∷ before) = given before ++ GivesVerdict at (seen_verdict verdict) ∷ []
 
 -- the text of a line, without its end
 abbrev pub says_text : ℕ → Says → List ℕ
@@ -65,10 +65,30 @@ abbrev pub text_given : Gives → List (List ℕ)
 text_given (GivesLine source at says) = says_text at says ∷ []
 text_given (GivesRead read) = []
 text_given (GivesAccess access) = []
-text_given (GivesVerdict verdict) = verdict_titles verdict
+text_given (GivesVerdict at verdict) = verdict_titles verdict
 
 abbrev pub texts_given : List Gives → List (List ℕ)
 texts_given = flat_map text_given
+
+-- whether a line is in a window that comes after `at` entries and says this
+abbrev pub shows_says : Window → ℕ → Says → Bool
+shows_says w at (SaysMark p mark change) = shows_entry w at
+shows_says w at (SaysRefusal p refusal) = shows_after w at
+shows_says w at (SaysTired p) = shows_after w at
+shows_says w at (SaysStore words) = shows_after w at
+shows_says w at (SaysEnd events taken refused) = shows_end w at
+shows_says w at (SaysLockMark p mark) = shows_entry w at
+shows_says w at (SaysLockEnd entries) = shows_end w at
+
+-- the lines in a window of what is given, without their ends
+abbrev pub text_shown : Window → Gives → List (List ℕ)
+text_shown w (GivesLine source at says) = lines_if (shows_says w at says) (says_text at says ∷ [])
+text_shown w (GivesRead read) = []
+text_shown w (GivesAccess access) = []
+text_shown w (GivesVerdict at verdict) = lines_if (shows_end w at) (verdict_titles verdict)
+
+abbrev pub texts_shown : Window → List Gives → List (List ℕ)
+texts_shown w = flat_map (text_shown w)
 
 -- the marks of what is given, each with its process; of a trace, those that its marks are drawn like
 abbrev pub marks_says : Says → List (ℕ × Mark)
@@ -80,7 +100,7 @@ abbrev pub mark_given : Gives → List (ℕ × Mark)
 mark_given (GivesLine source at says) = marks_says says
 mark_given (GivesRead read) = []
 mark_given (GivesAccess access) = []
-mark_given (GivesVerdict verdict) = []
+mark_given (GivesVerdict at verdict) = []
 
 abbrev pub marks_given : List Gives → List (ℕ × Mark)
 marks_given = flat_map mark_given
@@ -99,7 +119,7 @@ lines_given mode source at reads (line ∷ lines) = map GivesRead (shown_of mode
 abbrev pub end_given : Mode → ℕ → ℕ → List OverlappedRead → List ℕ → Says → List Gives
 end_given mode source at reads [] last = lines_given mode source at reads (last ∷ [])
 end_given mode source at reads (byte ∷ told) last =
-    map GivesRead (shown_of mode reads) ++ GivesVerdict (verdict_of source (report_lines (byte ∷ told)) (says_text at last)) ∷ []
+    map GivesRead (shown_of mode reads) ++ GivesVerdict at (verdict_of source (report_lines (byte ∷ told)) (says_text at last)) ∷ []
 
 -- Accesses.
 

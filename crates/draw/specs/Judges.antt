@@ -8,12 +8,12 @@ use Rattle.judge.specs.read_law.declared.verdicts.Verdict.TheVariants.{Good}
 use Rattle.judge.specs.read_law.{law_text}
 use Rattle.judge.specs.{AreAnyLockReasons, AreReasons, TellsReasons}
 use Rattle.picture.specs.{Form}
-use Rattle.picture.specs.declared.reads.Reads.{Reads as Mode}
+use Rattle.picture.specs.declared.reads.PictureOptions.{PictureOptions}
 use Rattle.draw.specs.Sheets.{DrewJudged}
 use Rattle.draw.specs.declared.records.engines.JudgedBy.{JudgedBy}
 use Rattle.draw.specs.declared.records.engines.JudgedBy.TheVariants.{ThisLock, AnyLock}
 
 -- How drawing a record ends that is judged by this judge: each has laws that entries keep, and tells a verdict with its reasons.
-abbrev pub DrewJudgedBy : JudgedBy → Mode → Form → Result ℕ Fault → Streams → Streams → Type 0
+abbrev pub DrewJudgedBy : JudgedBy → PictureOptions → Form → Result ℕ Fault → Streams → Streams → Type 0
 DrewJudgedBy ThisLock = DrewJudged (λ s entries. IsVerdict s entries Good) (TellsReasons law_text IsVerdict AreReasons)
 DrewJudgedBy AnyLock = DrewJudged (λ s entries. IsAnyLockVerdict s entries Good) (TellsReasons any_lock_law IsAnyLockVerdict AreAnyLockReasons)

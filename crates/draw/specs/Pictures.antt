@@ -1,14 +1,16 @@
 -- What a run's picture is told, and what is written of it.
 use Rattle.std.specs.Prelude.{ℕ, List, [], ◌∷◌, ◌++◌, flat_map}
-use Rattle.record.specs.plain_store.{opening_store}
 use Rattle.scenario.specs.{Script}
-use Rattle.picture.specs.{Accesses, Form, Item, Judges, Reads, Tells, bands_told, page_back, page_front, picture_back, picture_front, seen_verdict, verdict_titles}
+use Rattle.picture.specs.{Accesses, Form, Item, Judges, Reads, Tells, Window, bands_told, page_back, page_front, picture_back, picture_front, seen_verdict, verdict_titles}
 use Rattle.picture.specs.columns.run_lines.{with_end}
 use Rattle.picture.specs.columns.{text_of}
 use Rattle.picture.specs.declared.page.Form.TheVariants as form
-use Rattle.picture.specs.declared.reads.Reads.{Reads as Mode}
+use Rattle.picture.specs.declared.reads.PictureOptions.{PictureOptions}
+use Rattle.picture.specs.declared.subjects.Subject.TheVariants as subject
 use Rattle.draw.specs.Canvases.{plan_of}
 use Rattle.draw.specs.StoreChanges.{store_words}
+use Rattle.draw.specs.StoresBefore.{store_before}
+use Rattle.course.specs.{happenings, past_after}
 
 -- the lines among items, of which the newest stands first; they stand in their order
 abbrev pub lines_told : List Item → List (List ℕ)
@@ -16,12 +18,21 @@ lines_told [] = []
 lines_told (Tells line ∷ before) = lines_told before ++ text_of line ∷ []
 lines_told (Reads read ∷ before) = lines_told before
 lines_told (Accesses access ∷ before) = lines_told before
-lines_told (Judges verdict ∷ before) = lines_told before ++ verdict_titles (seen_verdict verdict)
+lines_told (Judges at verdict ∷ before) = lines_told before ++ verdict_titles (seen_verdict verdict)
 
--- a page, which lists the lines of its file, and one picture whose bands' heights come to so much
-abbrev pub picture_of : Mode → Form → List ℕ → Script → ℕ → List Item → List ℕ
-picture_of reads form.Page file said height items = (page_front said.setup file reads ++ bands_told (plan_of form.Page said.setup) items) ++ page_back (store_words (opening_store said.setup))
-picture_of reads (form.Picture top) file said height items = (picture_front said.setup height reads ++ bands_told (plan_of (form.Picture top) said.setup) items) ++ picture_back height reads
+-- the words of the store of a run before a window
+abbrev pub opening_of : Window → Script → List ℕ
+opening_of w said = store_words (store_before w said.setup (past_after said.setup (happenings said)))
+
+-- a page, which lists the lines of its file, and one picture whose bands' heights come to so much; either shows the items in its window, and the page's slider begins with the store before it
+abbrev pub picture_of : PictureOptions → Form → List ℕ → Script → ℕ → List Item → List ℕ
+picture_of options form.Page file said height items =
+    (page_front subject.Run said.setup file options.reads ++ bands_told (plan_of form.Page options.window said.setup) items)
+    ++ page_back (opening_of options.window said)
+picture_of options (form.Picture top) file said height items =
+    (picture_front subject.Run said.setup height options.reads
+    ++ bands_told (plan_of (form.Picture top) options.window said.setup) items)
+    ++ picture_back height options.reads
 
 -- lines, each with its end
 abbrev pub ended_lines : List (List ℕ) → List ℕ

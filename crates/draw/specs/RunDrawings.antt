@@ -8,50 +8,63 @@ use Rattle.scenario.specs.files.{Fault}
 use Rattle.scenario.specs.files.declared.faults.Fault.TheVariants as fault
 use Rattle.scenario.specs.{Line, Script, scenario_of}
 use Rattle.picture.specs.markup.{lines_in, opens_in}
-use Rattle.picture.specs.{Form, Item, heights_told, sayings}
+use Rattle.picture.specs.{Form, Item, all_entries, heights_told, sayings}
 use Rattle.picture.specs.columns.{marks_in, marks_said}
+use Rattle.picture.specs.declared.page.Form.TheVariants as form
+use Rattle.picture.specs.declared.reads.PictureOptions.{PictureOptions}
 use Rattle.picture.specs.declared.reads.Reads.{Reads as Mode}
 use Rattle.course.specs.{CourseState, Follows, Happening, Run, Summary, Told, entry_made, happenings, newest_words, past_after, replay_text, replayed, run_after}
 use Rattle.course.specs.declared.told.Told.TheVariants as told
 use Rattle.course.specs.Writing.{Counts}
 use Rattle.draw.specs.Canvases.{DrawsBands, Kept, Writes, kept, plan_of}
 use Rattle.draw.specs.Drawings.{DrawsPart, HasDrawn, Recalls}
-use Rattle.draw.specs.Items.{Part, PartEntry, PartLine, SaysRefusal, SaysStore, SaysTired, entries_among, given}
+use Rattle.draw.specs.Items.{Part, PartEntry, PartLine, SaysRefusal, SaysStore, SaysTired, entries_among, given, texts_shown}
 use Rattle.draw.specs.Overlaps.{TellsEnd}
-use Rattle.draw.specs.Pictures.{ended_lines, lines_told, picture_of}
+use Rattle.draw.specs.Around.{EndsPage}
+use Rattle.draw.specs.Pictures.{ended_lines, lines_told, opening_of, picture_of}
 use Rattle.draw.specs.RunItems.{parts_of, run_given}
 use Rattle.draw.specs.Views.{full_view}
 use Rattle.draw.specs.declared.runs.drawing.RunDrawing.{RunDrawing}
 use Rattle.draw.specs.declared.views.AccessView.{AccessView}
 
--- Markup is the picture of the run of a file, and nothing else: that of items which are what the run gives, one by one. So their lines are the text of the run, in order, and say the marks of its record. The height of one picture is that of such a picture.
-pub record IsRunPicture (reads : Mode) (form : Form) (file : List ℕ) (said : Script) (markup : List ℕ) : Type 0 where
+-- Markup is the picture of a window of the run of a file, and nothing else: that of items which are what the run gives, one by one. So the lines of all items are the text of the run, in order, and say the marks of its record. The height of one picture is that of such a picture.
+pub record IsRunPicture (options : PictureOptions) (form : Form) (file : List ℕ) (said : Script) (markup : List ℕ) : Type 0 where
   pub items : List Item
-  pub are : given items ≡ run_given (full_view reads) said
+  pub are : given items ≡ run_given (full_view options) said
   pub lines : ended_lines (lines_told items) ≡ replayed said
   pub marks : flat_map marks_said (sayings items) ≡ marks_in (past_after said.setup (happenings said))
   pub first : List Item
-  pub same_items : given first ≡ run_given (full_view reads) said
+  pub same_items : given first ≡ run_given (full_view options) said
   pub same_lines : ended_lines (lines_told first) ≡ replayed said
   pub same_marks : flat_map marks_said (sayings first) ≡ marks_in (past_after said.setup (happenings said))
-  pub is : markup ≡ picture_of reads form file said (heights_told (plan_of form said.setup) first) items
+  pub is : markup ≡ picture_of options form file said (heights_told (plan_of form options.window said.setup) first) items
 
--- A whole picture was written: it is the picture of the run of a file, and nothing else; its tags fit, and no element is open at its end; and the titles of its marks, read back, are the lines of the run.
-pub record DrawsAll (reads : Mode) (form : Form) (file : List ℕ) (said : Script) (old new : Option (List ℕ)) : Type 0 where
+-- A whole picture was written: it is the picture of a window of the run of a file, and nothing else; its tags fit, and no element is open at its end; and the titles of its marks, read back, are the lines of the run in the window. If the window is all entries, these are all lines of the run.
+pub record DrawsAll (options : PictureOptions) (form : Form) (file : List ℕ) (said : Script) (old new : Option (List ℕ)) : Type 0 where
   pub markup : List ℕ
-  pub page : IsRunPicture reads form file said markup
+  pub page : IsRunPicture options form file said markup
   pub elements : opens_in markup (Some []) ≡ Some []
-  pub read_back : ended_lines (lines_in markup) ≡ replayed said
+  pub read_back : lines_in markup ≡ texts_shown options.window (run_given (full_view options) said)
+  pub all_read_back : options.window ≡ all_entries → ended_lines (lines_in markup) ≡ replayed said
   pub writes : Writes old new markup
 
 -- the bands of a run were written between a head and an end
-pub record DrawsFramed (reads : Mode) (form : Form) (head ending : List ℕ) (said : Script) (old new : Option (List ℕ)) : Type 0 where
+pub record DrawsFramed (options : PictureOptions) (form : Form) (head ending : List ℕ) (said : Script) (old new : Option (List ℕ)) : Type 0 where
   pub begun : Option (List ℕ)
   pub drawn : Option (List ℕ)
   pub height : ℕ
   pub first : Writes old begun head
-  pub bands : DrawsBands (plan_of form said.setup) begun drawn (run_given (full_view reads) said) height
+  pub bands : DrawsBands (plan_of form options.window said.setup) begun drawn (run_given (full_view options) said) height
   pub last : Writes drawn new ending
+
+-- the page of a run was written, with this start
+pub record DrawsPage (options : PictureOptions) (head : List ℕ) (said : Script) (old new : Option (List ℕ)) : Type 0 where
+  pub begun : Option (List ℕ)
+  pub drawn : Option (List ℕ)
+  pub height : ℕ
+  pub first : Writes old begun head
+  pub bands : DrawsBands (plan_of form.Page options.window said.setup) begun drawn (run_given (full_view options) said) height
+  pub last : EndsPage (opening_of options.window said) drawn new
 
 -- The numbers that a drawing has counted so far. The commands taken are counted at the end.
 abbrev pub tally : RunDrawing → Summary
@@ -96,10 +109,12 @@ DrawsLine line old new drawing drawings taken then =
     (view : AccessView) (run : Run) → Follows old run → Counts old.world.setup run.happened (tally drawing) → Recalls view old.world.setup (parts_of old.world.setup run.happened) drawing.drawing →
     Advances view old.world.setup run (run_after old.world.setup line run) new drawing drawings taken then
 
--- How `draw` ends: where it ends well, what was written is a picture of the whole run; after a fault of the input nothing was written.
-abbrev pub DrewRun : Mode → Form → Result (Unit {0}) Fault → Streams → Streams → Type 0
-DrewRun reads form (Ok done) old new = IfSome old.to_come (λ input. (said : Script) × (scenario_of input ≡ Ok said) × (replay_text input ≡ Ok (replayed said)) × DrawsAll reads form input said old.taken new.taken) × IsAtEnd new.to_come
-DrewRun reads form (Err (fault.Line f)) old new = Ran replay_text (Err (fault.Line f)) old new
-DrewRun reads form (Err fault.Read) old new = Ran replay_text (Err fault.Read) old new
-DrewRun reads form (Err fault.Write) old new = old.write_failures < new.write_failures
-DrewRun reads form (Err fault.Memory) old new = Unit {0}
+-- How `draw` ends: where it ends well, what was written is a picture of a window of the whole run; after a fault of the input nothing was written.
+abbrev pub DrewRun : PictureOptions → Form → Result (Unit {0}) Fault → Streams → Streams → Type 0
+DrewRun options form (Ok done) old new =
+    IfSome old.to_come (λ input. (said : Script) × (scenario_of input ≡ Ok said) × (replay_text input ≡ Ok (replayed said)) × DrawsAll options form input said old.taken new.taken)
+    × IsAtEnd new.to_come
+DrewRun options form (Err (fault.Line f)) old new = Ran replay_text (Err (fault.Line f)) old new
+DrewRun options form (Err fault.Read) old new = Ran replay_text (Err fault.Read) old new
+DrewRun options form (Err fault.Write) old new = old.write_failures < new.write_failures
+DrewRun options form (Err fault.Memory) old new = Unit {0}

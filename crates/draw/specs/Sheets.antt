@@ -4,23 +4,26 @@ use Rattle.std.specs.Io.KnownBytes.{IsAtEnd, Keeps}
 use Rattle.scenario.specs.files.Engines.{Streams}
 use Rattle.scenario.specs.files.{Fault, FaultKind, UnlessMemory}
 use Rattle.scenario.specs.files.declared.faults.Fault.TheVariants as fault
-use Rattle.record.specs.plain_store.{Setup, opening_store}
+use Rattle.record.specs.plain_store.{Setup}
 use Rattle.record.specs.{Entry, Past}
 use Rattle.judge.specs.record_file.{Progress, Said, cleared, entry_in, head_words, record_of}
 use Rattle.judge.specs.record_file.scenario.{printed_line}
 use Rattle.judge.specs.{IsOfRecord}
-use Rattle.picture.specs.{Form, Item, bands_told, heights_told, page_back, page_front, page_names, picture_back, picture_front, sayings}
+use Rattle.picture.specs.{Form, Item, all_entries, bands_told, heights_told, page_back, page_front, page_names, picture_back, picture_front, sayings}
 use Rattle.picture.specs.columns.{marks_in, marks_said}
 use Rattle.picture.specs.declared.page.Form.TheVariants as form
+use Rattle.picture.specs.declared.reads.PictureOptions.{PictureOptions}
 use Rattle.picture.specs.declared.reads.Reads.{Reads as Mode}
 use Rattle.picture.specs.markup.{lines_in, opens_in}
+use Rattle.picture.specs.declared.subjects.Subject.TheVariants as subject
 use Rattle.draw.specs.Drawings.{HasDrawn}
 use Rattle.draw.specs.Overlaps.{Watches}
 use Rattle.draw.specs.RecordItems.{entry_parts, record_end, record_gives, record_lines, source_of}
 use Rattle.draw.specs.Canvases.{DrawsBands, Writes, kept_at_first, plan_of}
-use Rattle.draw.specs.Items.{entries_among, given, given_all}
+use Rattle.draw.specs.Items.{entries_among, given, given_all, texts_shown}
 use Rattle.draw.specs.StoreChanges.{store_words}
-use Rattle.draw.specs.Views.{IsDecided, full_view, most_stored, record_view}
+use Rattle.draw.specs.StoresBefore.{store_before}
+use Rattle.draw.specs.Views.{IsDecided, long_view, most_stored, record_view}
 use Rattle.draw.specs.declared.records.drawing.RecordDrawing.{RecordDrawing}
 use Rattle.draw.specs.declared.records.sheet.DrawnEntry.{DrawnEntry}
 use Rattle.draw.specs.declared.records.sheet.Sheet.{Sheet}
@@ -31,33 +34,38 @@ use Rattle.draw.specs.declared.views.AccessView.{AccessView}
 abbrev pub listed : Setup → List ℕ
 listed s = flat_map printed_line (head_words s) ++ codes "(entries)\n"
 
--- A record's picture, as bytes: what items are told, between a front and a back.
-abbrev pub picture_of : Mode → Form → Setup → List Item → List ℕ
-picture_of reads form.Page s items = (page_front s (listed s) reads ++ bands_told (plan_of form.Page s) items) ++ page_back (store_words (opening_store s))
-picture_of reads (form.Picture top) s items =
-    (picture_front s (heights_told (plan_of (form.Picture top) s) items) reads ++ bands_told (plan_of (form.Picture top) s) items) ++ picture_back (heights_told (plan_of (form.Picture top) s) items) reads
+-- A record's picture, as bytes: the items in its window, between a front and a back. The slider of a page begins with the store before the window.
+abbrev pub picture_of : AccessView → Form → Setup → Past → List Item → List ℕ
+picture_of view form.Page s past items =
+    (page_front subject.Record s (listed s) view.reads ++ bands_told (plan_of form.Page view.window s) items)
+    ++ page_back (store_words (store_before view.window s past))
+picture_of view (form.Picture top) s past items =
+    (picture_front subject.Record s (heights_told (plan_of (form.Picture top) view.window s) items) view.reads
+    ++ bands_told (plan_of (form.Picture top) view.window s) items)
+    ++ picture_back (heights_told (plan_of (form.Picture top) view.window s) items) view.reads
 
--- Markup is the picture of a record of which a judge tells this, or nothing, if there is none; and nothing else: that of items which are what the record gives, one by one. So they say its marks.
+-- Markup is the picture of a window of a record of which a judge tells this, or nothing, if there is none; and nothing else: that of items which are what the record gives, one by one. So all items say its marks.
 pub record IsRecordPicture (view : AccessView) (form : Form) (said : Said) (told markup : List ℕ) : Type 0 where
   pub items : List Item
   pub are : given items ≡ record_gives view said told
   pub marks : flat_map marks_said (sayings items) ≡ marks_in (reverse said.entries)
-  pub is : markup ≡ picture_of view.reads form said.setup items
+  pub is : markup ≡ picture_of view form said.setup (reverse said.entries) items
 
--- A whole picture was written: it is that of a record of which a judge tells this, and nothing else; its tags fit, and no element is open at its end; and the titles of its marks, read back, are the marks of the record, in their order, what the judge tells, line by line, and a last line.
+-- A whole picture was written: it is that of a window of a record of which a judge tells this, and nothing else; its tags fit, and no element is open at its end; and the titles of its marks, read back, are the lines in the window. If the window is all entries, these are the marks of the record, in their order, what the judge tells, line by line, and a last line.
 pub record DrawsSaid (view : AccessView) (form : Form) (said : Said) (told : List ℕ) (old new : Option (List ℕ)) : Type 0 where
   pub markup : List ℕ
   pub picture : IsRecordPicture view form said told markup
   pub elements : opens_in markup (Some []) ≡ Some []
-  pub read_back : lines_in markup ≡ record_lines said told
+  pub read_back : lines_in markup ≡ texts_shown view.window (record_gives view said told)
+  pub all_read_back : view.window ≡ all_entries → lines_in markup ≡ record_lines said told
   pub writes : Writes old new markup
 
 -- What it shows is decided by what is asked for and by the number of entries that are shown.
-abbrev pub DrawsAsked : Mode → Form → Said → List ℕ → Option (List ℕ) → Option (List ℕ) → Type 0
+abbrev pub DrawsAsked : PictureOptions → Form → Said → List ℕ → Option (List ℕ) → Option (List ℕ) → Type 0
 DrawsAsked asked form said = DrawsSaid (record_view asked (length said.entries)) form said
 
 -- That of the record that a text says, of which no judge tells.
-abbrev pub DrawsRecord : Mode → Form → List ℕ → Option (List ℕ) → Option (List ℕ) → Type 0
+abbrev pub DrawsRecord : PictureOptions → Form → List ℕ → Option (List ℕ) → Option (List ℕ) → Type 0
 DrawsRecord asked form text old new = IsOfRecord (λ s entries numbers. DrawsAsked asked form (record { setup = s; entries = entries }) [] old new) text
 
 -- These entries of a record are shown: all, which keep all laws; or those up to the first that breaks one.
@@ -74,13 +82,13 @@ pub record IsJudged (Keeps : Setup → List Entry → Type 0) (Tells : Setup →
   pub is : P (record { setup = s; entries = shown }) told
 
 -- The picture of the record that a text says, up to the first entry that breaks a law, and of what a judge tells of that record.
-abbrev pub DrawsJudged : (Setup → List Entry → Type 0) → (Setup → List Entry → List ℕ → List ℕ → ℕ → Type 0) → Mode → Form → ℕ → List ℕ → Option (List ℕ) → Option (List ℕ) → Type 0
+abbrev pub DrawsJudged : (Setup → List Entry → Type 0) → (Setup → List Entry → List ℕ → List ℕ → ℕ → Type 0) → PictureOptions → Form → ℕ → List ℕ → Option (List ℕ) → Option (List ℕ) → Type 0
 DrawsJudged Keeps Tells asked form status text old new = IsOfRecord (IsJudged Keeps Tells status (λ said told. DrawsAsked asked form said told old new)) text
 
 -- what a page has before its bands was written; one picture has it later, once its height is known
 pub record HeadsPage (reads : Mode) (s : Setup) (old new : Option (List ℕ)) : Type 0 where
   pub head : List ℕ
-  pub is : head ≡ page_front s (listed s) reads
+  pub is : head ≡ page_front subject.Record s (listed s) reads
   pub lines : lines_in head ≡ []
   pub opens : opens_in head (Some []) ≡ Some page_names
   pub writes : Writes old new head
@@ -95,41 +103,41 @@ pub record IsDrawn (view : AccessView) (form : Form) (s : Setup) (past : Past) (
   pub watches : Watches view.reads s (entries_among (entry_parts past)) d.watch.watch
   pub mid : Option (List ℕ)
   pub heads : Heads view.reads form s old mid
-  pub drawn : HasDrawn view s [] (kept_at_first (plan_of form s)) mid (entry_parts past) d.drawing new
+  pub drawn : HasDrawn view s [] (kept_at_first (plan_of form view.window s)) mid (entry_parts past) d.drawing new
 
 -- they are stored, as long as the picture may be short, and nothing was written
-pub record AreStored (asked : Mode) (past : Past) (stored : List Entry) (old new : Option (List ℕ)) : Type 0 where
+pub record AreStored (asked : PictureOptions) (past : Past) (stored : List Entry) (old new : Option (List ℕ)) : Type 0 where
   pub few : length past ≤ most_stored asked
   pub are : stored ≡ reverse past
   pub unwritten : new ≡ old
 
--- or it is decided that what is asked for is shown, and they are drawn so
-pub record AreDrawn (asked : Mode) (form : Form) (s : Setup) (past : Past) (d : RecordDrawing) (old new : Option (List ℕ)) : Type 0 where
+-- or it is decided that what the picture of a long record shows is shown, and they are drawn so
+pub record AreDrawn (asked : PictureOptions) (form : Form) (s : Setup) (past : Past) (d : RecordDrawing) (old new : Option (List ℕ)) : Type 0 where
   pub decided : IsDecided asked (length past)
-  pub drawn : IsDrawn (full_view asked) form s past d old new
+  pub drawn : IsDrawn (long_view asked) form s past d old new
 
 -- the same by what there is
-abbrev pub AreShownBy : Option RecordDrawing → List Entry → Mode → Form → Setup → Past → Option (List ℕ) → Option (List ℕ) → Type 0
+abbrev pub AreShownBy : Option RecordDrawing → List Entry → PictureOptions → Form → Setup → Past → Option (List ℕ) → Option (List ℕ) → Type 0
 AreShownBy None stored asked form s past old new = AreStored asked past stored old new
 AreShownBy (Some d) stored asked form s past old new = AreDrawn asked form s past d old new
 
-abbrev pub DrawsPast : Mode → Form → RecordEntries → Setup → Past → Option (List ℕ) → Option (List ℕ) → Type 0
+abbrev pub DrawsPast : PictureOptions → Form → RecordEntries → Setup → Past → Option (List ℕ) → Option (List ℕ) → Type 0
 DrawsPast asked form e s past old new = AreShownBy e.drawing e.stored.items asked form s past old new
 
 -- the same by what was read: behind an entry the setup stays
-abbrev pub AreReadBy : Option RecordDrawing → List Entry → Mode → Form → Option Progress → Past → Option (List ℕ) → Option (List ℕ) → Type 0
+abbrev pub AreReadBy : Option RecordDrawing → List Entry → PictureOptions → Form → Option Progress → Past → Option (List ℕ) → Option (List ℕ) → Type 0
 AreReadBy None stored asked form before past old new = AreStored asked past stored old new
 AreReadBy (Some d) stored asked form None past old new = ⊥
 AreReadBy (Some d) stored asked form (Some p) past old new = (p.ended ≡ true) × AreDrawn asked form p.head.setup past d old new
 
-abbrev pub DrawsAt : Mode → Form → RecordEntries → Option Progress → Past → Option (List ℕ) → Option (List ℕ) → Type 0
+abbrev pub DrawsAt : PictureOptions → Form → RecordEntries → Option Progress → Past → Option (List ℕ) → Option (List ℕ) → Type 0
 DrawsAt asked form e before past old new = AreReadBy e.drawing e.stored.items asked form before past old new
 
 -- this was read, these entries were said, the newest first, each was taken, and they were drawn
 pub record Stands (t : Sheet) (before : Option Progress) (past : Past) (old new : Option (List ℕ)) : Type 0 where
   pub reader : t.reader ≡ before
   pub clear : cleared before ≡ before
-  pub draws : DrawsAt t.reads t.form t.entries before past old new
+  pub draws : DrawsAt t.options t.form t.entries before past old new
 
 -- what a line says was read, and drawn if it is an entry
 pub record GoesOn (line : Result (Option Progress) FaultKind) (t : Sheet) (past : Past) (old new : Option (List ℕ)) : Type 0 where
@@ -156,21 +164,22 @@ entries_of e = count_by e.drawing e.stored.items
 pub record EndsAt (view : AccessView) (form : Form) (s : Setup) (past : Past) (told : List ℕ) (height : ℕ) (old new : Option (List ℕ)) : Type 0 where
   pub mid : Option (List ℕ)
   pub heads : Heads view.reads form s old mid
-  pub bands : DrawsBands (plan_of form s) mid new (given_all view s (source_of s) (entry_parts past) ++ record_end view s (source_of s) past told) height
+  pub bands : DrawsBands (plan_of form view.window s) mid new (given_all view s (source_of s) (entry_parts past) ++ record_end view s (source_of s) past told) height
 
--- the same of what is shown by what is asked for
-pub record EndsAsked (asked : Mode) (form : Form) (s : Setup) (past : Past) (told : List ℕ) (shows : Mode) (height : ℕ) (old new : Option (List ℕ)) : Type 0 where
+-- the same of what is shown by what is asked for, with the words of the store before the window
+pub record EndsAsked (asked : PictureOptions) (form : Form) (s : Setup) (past : Past) (told : List ℕ) (shows : Mode) (opening : List ℕ) (height : ℕ) (old new : Option (List ℕ)) : Type 0 where
   pub shows_it : shows ≡ (record_view asked (length past)).reads
+  pub opens : opening ≡ store_words (store_before (record_view asked (length past)).window s past)
   pub ends : EndsAt (record_view asked (length past)) form s past told height old new
 
 -- the same of a record
-pub record DrawsBandsOf (asked : Mode) (form : Form) (drawn : DrawnEntry) (old new : Option (List ℕ)) (said : Said) (told : List ℕ) : Type 0 where
+pub record DrawsBandsOf (asked : PictureOptions) (form : Form) (drawn : DrawnEntry) (old new : Option (List ℕ)) (said : Said) (told : List ℕ) : Type 0 where
   pub setup : drawn.setup ≡ said.setup
-  pub ends : EndsAsked asked form said.setup (reverse said.entries) told drawn.shows drawn.height old new
+  pub ends : EndsAsked asked form said.setup (reverse said.entries) told drawn.shows drawn.opening.items drawn.height old new
 
 -- of the record that a text says, of which no judge tells
-abbrev pub DrawsAllBands : Mode → Form → DrawnEntry → Option (List ℕ) → Option (List ℕ) → List ℕ → Type 0
-DrawsAllBands reads form drawn old new = IsOfRecord (λ s entries numbers. DrawsBandsOf reads form drawn old new (record { setup = s; entries = entries }) [])
+abbrev pub DrawsAllBands : PictureOptions → Form → DrawnEntry → Option (List ℕ) → Option (List ℕ) → List ℕ → Type 0
+DrawsAllBands asked form drawn old new = IsOfRecord (λ s entries numbers. DrawsBandsOf asked form drawn old new (record { setup = s; entries = entries }) [])
 
 -- why drawing ends early: a fault of what the input says, a call that failed, or want of memory
 abbrev pub IsDrawFault : Fault → Option (List ℕ) → Type 0
@@ -192,12 +201,12 @@ DrewAs draws form (Err fault.Read) old new = (old.read_failures < new.read_failu
 DrewAs draws form (Err fault.Write) old new = old.write_failures < new.write_failures
 DrewAs draws form (Err fault.Memory) old new = Unit {0}
 
-abbrev pub DrewRecord : Mode → Form → Result (Unit {0}) Fault → Streams → Streams → Type 0
-DrewRecord reads form = DrewAs (λ done. DrawsRecord reads form) form
+abbrev pub DrewRecord : PictureOptions → Form → Result (Unit {0}) Fault → Streams → Streams → Type 0
+DrewRecord asked form = DrewAs (λ done. DrawsRecord asked form) form
 
 -- The same of a record that is judged, with the status that the judge answers.
-abbrev pub DrewJudged : (Setup → List Entry → Type 0) → (Setup → List Entry → List ℕ → List ℕ → ℕ → Type 0) → Mode → Form → Result ℕ Fault → Streams → Streams → Type 0
-DrewJudged Keeps Tells reads form = DrewAs (DrawsJudged Keeps Tells reads form) form
+abbrev pub DrewJudged : (Setup → List Entry → Type 0) → (Setup → List Entry → List ℕ → List ℕ → ℕ → Type 0) → PictureOptions → Form → Result ℕ Fault → Streams → Streams → Type 0
+DrewJudged Keeps Tells asked form = DrewAs (DrawsJudged Keeps Tells asked form) form
 
 -- where bytes are held, a write that fails wants memory
 abbrev pub without_write : Fault → Fault

@@ -1,5 +1,5 @@
-//! The canvas of a picture: a page that writes each band as soon as the band is full, and the overlapped reads that it
-//! shows.
+//! The canvas of a picture: a page that shows a window and writes each band as soon as the band is full, and the overlapped
+//! reads that it shows.
 ghost use Rattle.std.specs.Prelude.{◌≡◌, ◌+◌, ◌-◌, ◌^◌, ◌<◌, List, [], ◌∷◌, ◌++◌, is_some, length, map, IfErr, IfOk, None, OnOk, Ok};
 ghost use Rattle.record.specs.plain_store.{checked};
 ghost use Rattle.record.specs.plain_store.declared.setups.Setup.{Setup as Given};
@@ -19,8 +19,8 @@ use crate::store_changes::words_by_pairs;
 use crate::taken_store::TakenStore;
 use crate::writing::{write_band, write_last};
 use picture::{
-    Form, OverlappedRead, Page, Reads, RunLine, Saying, ShownAccess, ShownVerdict, Subject,
-    verdict_of,
+    Form, OverlappedRead, Reads, RunLine, Saying, ShownAccess, ShownVerdict, Subject, Window,
+    WindowedPage, verdict_of,
 };
 use record::{Access, Mark};
 use record_accesses::RecordAccessWatch;
@@ -32,13 +32,13 @@ use std::alloc::{AllocError, Global};
 #[derive(Drop)]
 pub struct Canvas {
     alloc: Global,
-    page: Page,
+    page: WindowedPage,
     /// The overlapped reads, if they are shown.
     overlaps: Option<OverlapsHeard>,
 }
 
 impl Canvas {
-    /// Creates a canvas without lines, where `store` is the opening store.
+    /// Creates a canvas without lines that shows a window, where `store` is the opening store.
     ///
     /// # Errors
     ///
@@ -49,20 +49,22 @@ impl Canvas {
         store: &TakenStore,
         form: Form,
         reads: Reads,
+        window: Window,
     ) -> Result<Canvas, AllocError>
         requires { checked setup.now ≡ Ok tt }
         ensures kept { IsAfterMarks setup.now [] store.now →
-            IfOk result (λ canvas. kept canvas ≡ kept_at_first (plan_of form setup.now)) }
+            IfOk result (λ canvas. kept canvas ≡ kept_at_first (plan_of form window setup.now)) }
         ensures hears { IfOk result (λ canvas. Overhears reads setup.now [] [] canvas.overlaps) }
     {
         let overlaps = OverlapsHeard::new(alloc, setup, reads)?;
         let opening = words_by_pairs(alloc, &store.store)?;
-        let page = Page::new(
+        let page = WindowedPage::new(
             alloc,
             form,
             Subject::Run,
             setup.processes,
             opening.as_slice(),
+            window,
         )?;
         Ok(Canvas {
             alloc,
@@ -71,16 +73,23 @@ impl Canvas {
         })
     }
 
-    /// Creates a canvas without lines for a trace of `processes`, which has no store, and whose reads are not shown.
+    /// Creates a canvas without lines for a trace of `processes`, of which it shows a window. A trace has no store, and its reads
+    /// are not shown.
     ///
     /// # Errors
     ///
     /// Returns [`AllocError`] if memory is lacking.
-    pub fn of_trace(alloc: Global, form: Form, processes: u8) -> Result<Canvas, AllocError>
-        ensures kept { IfOk result (λ canvas. kept canvas ≡ kept_at_first (trace_plan form processes)) }
+    pub fn of_trace(
+        alloc: Global,
+        form: Form,
+        processes: u8,
+        window: Window,
+    ) -> Result<Canvas, AllocError>
+        ensures kept { IfOk result
+            (λ canvas. kept canvas ≡ kept_at_first (trace_plan form processes window)) }
         ensures hears { IfOk result (λ canvas. canvas.overlaps ≡ None) }
     {
-        let page = Page::new(alloc, form, Subject::Trace, processes, b"")?;
+        let page = WindowedPage::new(alloc, form, Subject::Trace, processes, b"", window)?;
         Ok(Canvas {
             alloc,
             page,
@@ -266,6 +275,7 @@ impl Canvas {
 
     /// Draws the end of the picture, writes what is held back, and returns the heights of all bands, with 16 more for each. If
     /// `told` has lines of a judge, the picture ends with the verdict that has them and `line`, and otherwise with `line` alone.
+    /// The end is shown if no entry comes after the window.
     ///
     /// # Errors
     ///
@@ -277,8 +287,9 @@ impl Canvas {
         ensures fault { IfErr result IsWriteFault }
         ensures failures { W.failures output.new ≡ W.failures output.old + failed_write result }
     {
+        let at = line.at;
         let verdict = self.draw_up_to_verdict(line, told, output)?;
-        let (full, last) = self.page.end(verdict)?;
+        let (full, last) = self.page.end(verdict, at)?;
         write_last(&full, &last, output)?;
         Ok(self.page.height())
     }

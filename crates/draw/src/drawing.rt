@@ -6,13 +6,14 @@ ghost use Rattle.record.specs.{Entry, Mark as Marked, Past};
 ghost use Rattle.record_accesses.specs.{drops, entry_with};
 ghost use Rattle.judge.specs.read_law.{entry_by};
 ghost use Rattle.draw.specs.Canvases.{DrawsLast, DrawsLines, DrawsOn, kept, kept_at_first, plan_of};
-ghost use Rattle.draw.specs.Drawings.{DrawsPart, Recalls, WatchesAccesses, observes as is_observing};
+ghost use Rattle.draw.specs.Drawings.{DrawsPart, HasOpening, Recalls, WatchesAccesses, observes as is_observing};
 ghost use Rattle.draw.specs.Items.{Part, PartEntry, PartLine, entries_among, given_access_of, says_of};
 ghost use Rattle.draw.specs.Overlaps.{TellsEnd};
 ghost use Rattle.draw.specs.Writing.{IsWriteFault, failed_write};
 ghost use Rattle.draw.specs.declared.views.AccessView.{AccessView as Seen};
 
 use crate::canvas::Canvas;
+use crate::store_before::StoreBefore;
 use crate::taken_store::TakenStore;
 use crate::views::AccessView;
 use picture::{Form, Reads, RunLine, Saying};
@@ -25,10 +26,12 @@ use std::alloc::{AllocError, Global};
 /// The picture of a run or of a record so far.
 #[derive(Drop)]
 pub(crate) struct Drawing {
+    alloc: Global,
     canvas: Canvas,
     /// The observer of accesses, if all accesses are shown.
     accesses: Option<RecordAccessWatch>,
     pub store: TakenStore,
+    before: StoreBefore,
     /// The number of entries.
     pub entries: u64,
     /// The line of the page's list that makes what is drawn next.
@@ -61,16 +64,20 @@ impl Drawing {
     ) -> Result<Drawing, AllocError>
         requires { checked setup.now ≡ Ok tt }
         ensures recalls { IfOk result (Recalls view setup.now []) }
-        ensures first { IfOk result (λ d. kept d.canvas ≡ kept_at_first (plan_of form setup.now)) }
+        ensures first { IfOk result
+            (λ d. kept d.canvas ≡ kept_at_first (plan_of form view.window setup.now)) }
         ensures source { IfOk result (λ d. d.source ≡ source) }
     {
         let store = TakenStore::new(alloc, setup)?;
-        let canvas = Canvas::new(alloc, setup, &store, form, view.reads)?;
+        let canvas = Canvas::new(alloc, setup, &store, form, view.reads, view.window)?;
         let accesses = watch_of(alloc, setup, view)?;
+        let before = StoreBefore::new(alloc, view.window.from);
         Ok(Drawing {
+            alloc,
             canvas,
             accesses,
             store,
+            before,
             entries: 0,
             source,
         })
@@ -120,6 +127,7 @@ impl Drawing {
     {
         let _nested: NestedTypes = None;
         let at = self.entries;
+        self.before.keep(self.alloc, at, &self.store)?;
         self.canvas.hear(at, access, overlapped)?;
         self.draw_access(process, &access, drops_open_read(marks), output)?;
         self.canvas
@@ -182,6 +190,7 @@ impl Drawing {
             (entry_with process access.now marks ∷ past) self.new.accesses) }
         ensures overlaps { self.new.canvas.overlaps ≡ self.old.canvas.overlaps }
         ensures store { self.new.store ≡ self.old.store }
+        ensures before { self.new.before ≡ self.old.before }
         ensures entries { self.new.entries ≡ self.old.entries }
         ensures source { self.new.source ≡ self.old.source }
         ensures fault { IfErr result IsWriteFault }
@@ -247,6 +256,17 @@ impl Drawing {
     {
         let line = self.line(saying);
         self.canvas.end(line, told, output)
+    }
+
+    /// Returns the words of the store before the window, once all entries are drawn.
+    ///
+    /// # Errors
+    ///
+    /// Returns [`AllocError`] if memory is lacking.
+    pub fn opening(&self) -> Result<Vec<u8>, AllocError>
+        ensures { IfOk result (λ words. HasOpening self.now words.items) }
+    {
+        self.before.words(self.alloc, &self.store)
     }
 
     /// Returns the next line.

@@ -7,9 +7,12 @@
 //! read back, are the text of `replay`. A record may be good or bad, and of any lock. If a judge observes it, its picture ends
 //! with the first entry that breaks a law and with the judge's reasons.
 //!
+//! A picture may show a window: the entries from one number to another. The whole file is read all the same. A window of at
+//! most 400 entries of a record shows all accesses.
+//!
 //! ```rust
-//! Engine::Draw => exit_status(draw(alloc, reads, input, output, onlooker)),
-//! Engine::DrawSvg => exit_status(draw_svg(alloc, reads, input, output, onlooker)),
+//! Engine::Draw => exit_status(draw(alloc, options, input, output, onlooker)),
+//! Engine::DrawSvg => exit_status(draw_svg(alloc, options, input, output, onlooker)),
 //! ```
 #![tactic(auto)]
 
@@ -20,6 +23,7 @@ mod overlaps;
 mod read_watch;
 mod records;
 mod runs;
+mod store_before;
 mod store_changes;
 mod surroundings;
 mod taken_store;
@@ -30,11 +34,12 @@ pub use canvas::Canvas;
 pub use laws_of_pictures::{
     chain_is_the_history, changes_are_the_historys, one_is_inside, who_enters_is_first_in_line,
 };
-pub use picture::Reads;
+pub use picture::{PictureOptions, Reads, Window};
 pub use records::engines::{
     JudgedBy, draw_judged_record, draw_judged_record_svg, draw_record, draw_record_svg,
 };
 pub use records::held::{Held, held_fault};
 pub use runs::engines::{draw, draw_svg};
 pub use scenario::progress;
+pub use views::{is_short, waves_of_few};
 pub use writing::write_markup;

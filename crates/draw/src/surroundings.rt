@@ -1,48 +1,47 @@
 //! The markup before and after the bands of one picture, and after those of a page.
-ghost use Rattle.std.specs.Prelude.{◌≡◌, [], IfOk, Ok, Some};
-ghost use Rattle.record.specs.plain_store.{checked, opening_store};
-ghost use Rattle.picture.specs.{page_back, page_names, picture_back, picture_front, picture_names};
-ghost use Rattle.picture.specs.markup.{lines_in, opens_in};
-ghost use Rattle.draw.specs.Around.{IsAround};
-ghost use Rattle.draw.specs.StoreChanges.{store_words as words_of_store};
+ghost use Rattle.std.specs.Prelude.{◌≡◌, ◌+◌, ◌-◌, ◌^◌, ◌<◌, IfErr, IfOk, OnOk};
+ghost use Rattle.picture.specs.{picture_back, picture_front, picture_names};
+ghost use Rattle.draw.specs.Around.{EndsPage, IsAround};
+ghost use Rattle.draw.specs.Writing.{IsWriteFault, failed_write};
 
-use crate::store_changes::store_words;
-use picture::{Markup, Reads, page_end, picture_end, picture_head};
-use record_accesses::plain_store::{PlainStore, Setup, opened};
+use crate::writing::write_markup;
+use picture::{Markup, Reads, Subject, page_end, picture_end, picture_head};
+use record_accesses::plain_store::Setup;
+use scenario::{Fault, Sink};
 use std::alloc::{AllocError, Global};
 
-/// Returns the markup before and after the bands of one picture; `height` is the sum of their heights.
+/// Returns the markup before and after the bands of one picture of a run or a record; `height` is the sum of their heights.
 ///
 /// # Errors
 ///
 /// Returns [`AllocError`] if memory is lacking.
 pub fn around_picture(
     alloc: Global,
+    subject: Subject,
     setup: &Setup,
     height: u64,
     reads: Reads,
 ) -> Result<(Markup, Markup), AllocError>
-    ensures front { IfOk result (λ around. around.0 ≡ picture_front setup.now height reads) }
+    ensures front { IfOk result (λ around. around.0 ≡ picture_front subject setup.now height reads) }
     ensures back { IfOk result (λ around. around.1 ≡ picture_back height reads) }
     ensures elements { IfOk result (λ around. IsAround picture_names around.0 around.1) }
 {
-    let head = picture_head(alloc, setup, height, reads)?;
+    let head = picture_head(alloc, subject, setup, height, reads)?;
     let end = picture_end(alloc, height, reads)?;
     Ok((head, end))
 }
 
-/// Returns the markup after the bands of a page: a slider, which shows the opening store at first.
+/// Writes the markup after the bands of a page: a slider, which shows the store before the window at first.
 ///
 /// # Errors
 ///
-/// Returns [`AllocError`] if memory is lacking.
-pub fn end_of_page(alloc: Global, setup: &Setup) -> Result<Markup, AllocError>
-    requires { checked setup.now ≡ Ok tt }
-    ensures back { IfOk result (λ markup. markup ≡ page_back (words_of_store (opening_store setup.now))) }
-    ensures lines { IfOk result (λ markup. lines_in markup ≡ []) }
-    ensures elements { IfOk result (λ markup. opens_in markup (Some page_names) ≡ Some []) }
+/// Returns [`Fault::Write`] if a call of the sink fails, and [`Fault::Memory`] if memory is lacking.
+pub fn write_page_end<W: Sink>(alloc: Global, opening: &[u8], output: &mut W) -> Result<(), Fault>
+    requires { W.failures output.old < 2 ^ 64 - 1 }
+    ensures ends { OnOk result (EndsPage opening.now (W.taken output.old) (W.taken output.new)) }
+    ensures fault { IfErr result IsWriteFault }
+    ensures failures { W.failures output.new ≡ W.failures output.old + failed_write result }
 {
-    let store = opened(PlainStore::new(alloc, setup.slots, setup.callers()), setup)?;
-    let opening = store_words(alloc, &store)?;
-    page_end(alloc, opening.as_slice())
+    let end = page_end(alloc, opening)?;
+    write_markup(&end, output)
 }

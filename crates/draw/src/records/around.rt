@@ -2,6 +2,7 @@
 ghost use Rattle.std.specs.Prelude.{◌≡◌, ◌+◌, ◌-◌, ◌^◌, ◌<◌, [], IfErr, IfOk, Ok, OnOk, Some};
 ghost use Rattle.record.specs.plain_store.{checked};
 ghost use Rattle.picture.specs.{page_front, page_names};
+ghost use Rattle.picture.specs.declared.subjects.Subject.TheVariants as subject;
 ghost use Rattle.picture.specs.markup.{lines_in, opens_in};
 ghost use Rattle.draw.specs.Sheets.{Heads, IsDrawn, listed};
 ghost use Rattle.draw.specs.Writing.{IsWriteFault, failed_write};
@@ -10,18 +11,18 @@ use crate::records::drawing::RecordDrawing;
 use crate::views::AccessView;
 use crate::writing::write_markup;
 use judge::print_setup;
-use picture::{Form, Markup, Reads, page_head};
+use picture::{Form, Markup, PictureOptions, Reads, Subject, page_head};
 use record_accesses::plain_store::Setup;
 use scenario::{Fault, Sink};
 use std::alloc::{AllocError, Global};
 
-/// The form of the picture of a record, and the accesses that are asked for.
+/// The form of the picture of a record, and the accesses and the window that are asked for.
 #[derive(Clone, Copy)]
 pub(crate) struct Around {
     pub alloc: Global,
     pub form: Form,
-    /// All accesses are shown if the record is short. Otherwise this is shown.
-    pub asked: Reads,
+    /// All accesses are shown if the record or the window is short. Otherwise this is shown.
+    pub asked: PictureOptions,
 }
 
 impl Around {
@@ -66,12 +67,18 @@ impl Around {
 
     /// Returns the start of a page.
     fn head(self, setup: &Setup, shows: Reads) -> Result<Markup, AllocError>
-        ensures draws { IfOk result (λ markup. markup ≡ page_front setup.now (listed setup.now) shows) }
+        ensures draws { IfOk result (λ markup. markup ≡ page_front subject.Record setup.now (listed setup.now) shows) }
         ensures lines { IfOk result (λ markup. lines_in markup ≡ []) }
         ensures elements { IfOk result (λ markup. opens_in markup (Some []) ≡ Some page_names) }
     {
         let printed = listed_lines(self.alloc, setup)?;
-        page_head(self.alloc, setup, printed.as_slice(), shows)
+        page_head(
+            self.alloc,
+            Subject::Record,
+            setup,
+            printed.as_slice(),
+            shows,
+        )
     }
 }
 

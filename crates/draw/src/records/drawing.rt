@@ -9,6 +9,7 @@ ghost use Rattle.draw.specs.Items.{Part, SaysEnd, entries_among};
 ghost use Rattle.draw.specs.Overlaps.{TellsEnd, Watches};
 ghost use Rattle.draw.specs.RecordDrawings.{DrawsEntry, RecordRecalls};
 ghost use Rattle.draw.specs.RecordItems.{source_of};
+ghost use Rattle.draw.specs.Drawings.{HasOpening};
 ghost use Rattle.draw.specs.Writing.{IsWriteFault, failed_write};
 ghost use Rattle.draw.specs.declared.views.AccessView.{AccessView as Seen};
 
@@ -19,7 +20,7 @@ use picture::{Form, Saying};
 use record::{Access, Entry};
 use record_accesses::plain_store::{NestedTypes, Setup};
 use scenario::{Fault, Sink};
-use std::alloc::Global;
+use std::alloc::{AllocError, Global};
 
 /// The picture of a record so far.
 #[derive(Drop)]
@@ -46,7 +47,8 @@ impl RecordDrawing {
     ) -> Result<RecordDrawing, Fault>
         requires { checked setup.now ≡ Ok tt }
         ensures recalls { IfOk result (RecordRecalls view setup.now []) }
-        ensures first { IfOk result (λ d. kept d.drawing.canvas ≡ kept_at_first (plan_of form setup.now)) }
+        ensures first { IfOk result
+            (λ d. kept d.drawing.canvas ≡ kept_at_first (plan_of form view.window setup.now)) }
         ensures source { IfOk result (λ d. d.drawing.source ≡ source_of setup.now) }
         ensures fault { IfErr result IsWriteFault }
         ensures failures { failed_write result ≡ 0 }
@@ -142,5 +144,16 @@ impl RecordDrawing {
             refused: 0,
         };
         self.drawing.end(saying, told, output)
+    }
+
+    /// Returns the words of the store before the window, once all entries are drawn.
+    ///
+    /// # Errors
+    ///
+    /// Returns [`AllocError`] if memory is lacking.
+    pub fn opening(&self) -> Result<Vec<u8>, AllocError>
+        ensures { IfOk result (λ words. HasOpening self.now.drawing words.items) }
+    {
+        self.drawing.opening()
     }
 }

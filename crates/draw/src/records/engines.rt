@@ -6,7 +6,7 @@ ghost use Rattle.scenario.specs.files.{failed_reading, streams};
 ghost use Rattle.picture.specs.declared.page.Form.TheVariants as form_variants;
 ghost use Rattle.judge.specs.{IsOfRecord};
 ghost use Rattle.judge.specs.Trials.{Stands as HearerStands};
-ghost use Rattle.picture.specs.declared.reads.Reads.{Reads as Mode};
+ghost use Rattle.picture.specs.declared.reads.PictureOptions.{PictureOptions as Options};
 ghost use Rattle.draw.specs.Writing.{IsWriteFault, failed_write};
 ghost use Rattle.record.specs.{Entry as Noted};
 ghost use Rattle.judge.specs.record_file.{Progress, Said};
@@ -16,11 +16,11 @@ ghost use Rattle.draw.specs.Sheets.{DrawsAllBands, DrawsAsked, DrawsBandsOf, Dre
 
 use crate::records::held::{Held, held_fault};
 use crate::records::sheet::{DrawnEntry, Sheet};
-use crate::surroundings::{around_picture, end_of_page};
+use crate::surroundings::{around_picture, write_page_end};
 use crate::writing::write_markup;
 use judge::source_lines::Lines;
 use judge::{Explaining, Judge, Judging, Telling, ThisLockJudge, Trial};
-use picture::{FIRST_BAND, Form, Reads};
+use picture::{FIRST_BAND, Form, PictureOptions, Subject};
 use scenario::{Fault, FaultKind, Sink, Source, write_all};
 use std::alloc::{AllocError, Global};
 
@@ -34,14 +34,15 @@ pub enum JudgedBy {
 /// Reads a record file line by line, and writes the page of the record: a picture in bands, each of which is written when it
 /// is full. So it stores a line, a block and a band, however long the file is, and at most 400 entries.
 ///
-/// If at most 400 entries are shown, the page shows all accesses, with the waves of the first sixteen bits that are written.
-/// Otherwise it shows what `reads` asks for. [`Reads::All`] asks for all accesses with all waves, also of a short record. If
-/// it does not, nothing is written before the number of entries decides.
+/// If the record has at most 400 entries, or the window shows at most 400, the page shows all accesses, with the waves of the
+/// first sixteen bits that are written. Otherwise it shows what `options` asks for. `Reads::All` asks for all accesses with all
+/// waves, also of a short record. Nothing is written before it is decided which accesses are shown.
 ///
-/// If it succeeds, the output is the page of the items that the record gives, and nothing else. These items are a line for
-/// each mark of the entries, with what its command changes in the one-thread store, and the accesses or the overlapped reads,
-/// if they are shown. The titles of the marks, read back, are the marks of the record in their order, and a last line. The tags
-/// match, and no element is open at the end. The record may be good or bad.
+/// If it succeeds, the output is the page of a window of the items that the record gives, and nothing else. These items are a
+/// line for each mark of the entries, with what its command changes in the one-thread store, and the accesses or the overlapped
+/// reads, if they are shown. The titles of the marks, read back, are the lines in the window. If the window is all entries, they
+/// are the marks of the record in their order, and a last line. The tags match, and no element is open at the end. The record
+/// may be good or bad.
 ///
 /// # Errors
 ///
@@ -49,17 +50,17 @@ pub enum JudgedBy {
 /// Returns [`Fault::Read`] and [`Fault::Write`] if a call of a stream fails, and [`Fault::Memory`] if memory is lacking.
 pub fn draw_record<R: Source, W: Sink>(
     alloc: Global,
-    reads: Reads,
+    options: PictureOptions,
     input: &mut R,
     output: &mut W,
 ) -> Result<(), Fault>
     requires reads { R.failures input.old < 2 ^ 64 - 1 }
     requires writes { W.failures output.old < 2 ^ 64 - 1 }
-    ensures { DrewRecord reads form_variants.Page result
+    ensures { DrewRecord options form_variants.Page result
         (streams ⟦<R as Source>⟧ ⟦<W as Sink>⟧ input.old output.old)
         (streams ⟦<R as Source>⟧ ⟦<W as Sink>⟧ input.new output.new) }
 {
-    let drawn = draw_bands(alloc, Form::Page, reads, input, output)?;
+    let drawn = draw_bands(alloc, Form::Page, options, input, output)?;
     end_page(alloc, &drawn, output)
 }
 
@@ -73,52 +74,52 @@ pub fn draw_record<R: Source, W: Sink>(
 pub fn draw_judged_record<R: Source, W: Sink>(
     alloc: Global,
     by: JudgedBy,
-    reads: Reads,
+    options: PictureOptions,
     input: &mut R,
     output: &mut W,
 ) -> Result<u8, Fault>
     requires reads { R.failures input.old < 2 ^ 64 - 1 }
     requires writes { W.failures output.old < 2 ^ 64 - 1 }
-    ensures { DrewJudgedBy by reads form_variants.Page result
+    ensures { DrewJudgedBy by options form_variants.Page result
         (streams ⟦<R as Source>⟧ ⟦<W as Sink>⟧ input.old output.old)
         (streams ⟦<R as Source>⟧ ⟦<W as Sink>⟧ input.new output.new) }
 {
     match by {
         JudgedBy::ThisLock => judged_page::<Explaining<ThisLockJudge>, R, W>(
-            alloc, reads, input, output,
+            alloc, options, input, output,
         ),
-        JudgedBy::AnyLock => judged_page::<Explaining<Judge>, R, W>(alloc, reads, input, output),
+        JudgedBy::AnyLock => judged_page::<Explaining<Judge>, R, W>(alloc, options, input, output),
     }
 }
 
 /// Does the work of [`draw_judged_record`] by any judge.
 fn judged_page<H: Judging, R: Source, W: Sink>(
     alloc: Global,
-    reads: Reads,
+    options: PictureOptions,
     input: &mut R,
     output: &mut W,
 ) -> Result<u8, Fault>
     requires reads { R.failures input.old < 2 ^ 64 - 1 }
     requires writes { W.failures output.old < 2 ^ 64 - 1 }
-    ensures { DrewJudged H.Keeps H.Tells reads form_variants.Page result
+    ensures { DrewJudged H.Keeps H.Tells options form_variants.Page result
         (streams ⟦<R as Source>⟧ ⟦<W as Sink>⟧ input.old output.old)
         (streams ⟦<R as Source>⟧ ⟦<W as Sink>⟧ input.new output.new) }
 {
-    let (drawn, status) = judge_bands::<H, R, W>(alloc, Form::Page, reads, input, output)?;
+    let (drawn, status) = judge_bands::<H, R, W>(alloc, Form::Page, options, input, output)?;
     end_page(alloc, &drawn, output)?;
     Ok(status)
 }
 
 /// Writes the end of a page.
 fn end_page<W: Sink>(alloc: Global, drawn: &DrawnEntry, output: &mut W) -> Result<(), Fault>
-    requires good { checked drawn.now.setup ≡ Ok tt }
-    requires writes { W.failures output.old < 2 ^ 64 - 1 }
-    ensures ok { OnOk result ((reads : Mode) (said : Said) (told : List ℕ) (first : Option (List ℕ)) → DrawsBandsOf reads form_variants.Page drawn.now first (W.taken output.old) said told → DrawsAsked reads form_variants.Page said told first (W.taken output.new)) }
+    requires { W.failures output.old < 2 ^ 64 - 1 }
+    ensures ok { OnOk result ((options : Options) (said : Said) (told : List ℕ) (first : Option (List ℕ)) →
+        DrawsBandsOf options form_variants.Page drawn.now first (W.taken output.old) said told →
+        DrawsAsked options form_variants.Page said told first (W.taken output.new)) }
     ensures fault { IfErr result IsWriteFault }
     ensures failures { W.failures output.new ≡ W.failures output.old + failed_write result }
 {
-    let end = end_of_page(alloc, &drawn.setup)?;
-    write_markup(&end, output)
+    write_page_end(alloc, drawn.opening.as_slice(), output)
 }
 
 /// Reads a record file line by line, and writes one picture of the record, with the items of its page. The bands are stored
@@ -130,18 +131,18 @@ fn end_page<W: Sink>(alloc: Global, drawn: &DrawnEntry, output: &mut W) -> Resul
 /// failed.
 pub fn draw_record_svg<R: Source, W: Sink>(
     alloc: Global,
-    reads: Reads,
+    options: PictureOptions,
     input: &mut R,
     output: &mut W,
 ) -> Result<(), Fault>
     requires reads { R.failures input.old < 2 ^ 64 - 1 }
     requires writes { W.failures output.old < 2 ^ 64 - 1 }
-    ensures { DrewRecord reads (form_variants.Picture 34) result
+    ensures { DrewRecord options (form_variants.Picture 34) result
         (streams ⟦<R as Source>⟧ ⟦<W as Sink>⟧ input.old output.old)
         (streams ⟦<R as Source>⟧ ⟦<W as Sink>⟧ input.new output.new) }
 {
     let mut bands = Held::new(alloc);
-    match draw_bands(alloc, Form::Picture(FIRST_BAND), reads, input, &mut bands) {
+    match draw_bands(alloc, Form::Picture(FIRST_BAND), options, input, &mut bands) {
         Ok(drawn) => write_picture(alloc, &drawn, bands.bytes(), output),
         Err(fault) => Err(held_fault(fault)),
     }
@@ -156,40 +157,42 @@ pub fn draw_record_svg<R: Source, W: Sink>(
 pub fn draw_judged_record_svg<R: Source, W: Sink>(
     alloc: Global,
     by: JudgedBy,
-    reads: Reads,
+    options: PictureOptions,
     input: &mut R,
     output: &mut W,
 ) -> Result<u8, Fault>
     requires reads { R.failures input.old < 2 ^ 64 - 1 }
     requires writes { W.failures output.old < 2 ^ 64 - 1 }
-    ensures { DrewJudgedBy by reads (form_variants.Picture 34) result
+    ensures { DrewJudgedBy by options (form_variants.Picture 34) result
         (streams ⟦<R as Source>⟧ ⟦<W as Sink>⟧ input.old output.old)
         (streams ⟦<R as Source>⟧ ⟦<W as Sink>⟧ input.new output.new) }
 {
     match by {
         JudgedBy::ThisLock => judged_picture::<Explaining<ThisLockJudge>, R, W>(
-            alloc, reads, input, output,
+            alloc, options, input, output,
         ),
-        JudgedBy::AnyLock => judged_picture::<Explaining<Judge>, R, W>(alloc, reads, input, output),
+        JudgedBy::AnyLock => judged_picture::<Explaining<Judge>, R, W>(
+            alloc, options, input, output,
+        ),
     }
 }
 
 /// Does the work of [`draw_judged_record_svg`] by any judge.
 fn judged_picture<H: Judging, R: Source, W: Sink>(
     alloc: Global,
-    reads: Reads,
+    options: PictureOptions,
     input: &mut R,
     output: &mut W,
 ) -> Result<u8, Fault>
     requires reads { R.failures input.old < 2 ^ 64 - 1 }
     requires writes { W.failures output.old < 2 ^ 64 - 1 }
-    ensures { DrewJudged H.Keeps H.Tells reads (form_variants.Picture 34) result
+    ensures { DrewJudged H.Keeps H.Tells options (form_variants.Picture 34) result
         (streams ⟦<R as Source>⟧ ⟦<W as Sink>⟧ input.old output.old)
         (streams ⟦<R as Source>⟧ ⟦<W as Sink>⟧ input.new output.new) }
 {
     let mut bands = Held::new(alloc);
     let form = Form::Picture(FIRST_BAND);
-    match judge_bands::<H, R, Held>(alloc, form, reads, input, &mut bands) {
+    match judge_bands::<H, R, Held>(alloc, form, options, input, &mut bands) {
         Ok((drawn, status)) => {
             write_picture(alloc, &drawn, bands.bytes(), output)?;
             Ok(status)
@@ -206,11 +209,17 @@ fn write_picture<W: Sink>(
     output: &mut W,
 ) -> Result<(), Fault>
     requires { W.failures output.old < 2 ^ 64 - 1 }
-    ensures ok { OnOk result ((reads : Mode) (said : Said) (told : List ℕ) → DrawsBandsOf reads (form_variants.Picture 34) drawn.now (Some []) (Some bands.now) said told → DrawsAsked reads (form_variants.Picture 34) said told (W.taken output.old) (W.taken output.new)) }
+    ensures ok { OnOk result ((options : Options) (said : Said) (told : List ℕ) → DrawsBandsOf options (form_variants.Picture 34) drawn.now (Some []) (Some bands.now) said told → DrawsAsked options (form_variants.Picture 34) said told (W.taken output.old) (W.taken output.new)) }
     ensures fault { IfErr result IsWriteFault }
     ensures failures { W.failures output.new ≡ W.failures output.old + failed_write result }
 {
-    let (head, end) = around_picture(alloc, &drawn.setup, drawn.height, drawn.shows)?;
+    let (head, end) = around_picture(
+        alloc,
+        Subject::Record,
+        &drawn.setup,
+        drawn.height,
+        drawn.shows,
+    )?;
     write_markup(&head, output)?;
     write_all(output, bands)?;
     write_markup(&end, output)
@@ -220,13 +229,13 @@ fn write_picture<W: Sink>(
 fn draw_bands<R: Source, W: Sink>(
     alloc: Global,
     form: Form,
-    reads: Reads,
+    options: PictureOptions,
     input: &mut R,
     output: &mut W,
 ) -> Result<DrawnEntry, Fault>
     requires reads { R.failures input.old < 2 ^ 64 - 1 }
     requires writes { W.failures output.old < 2 ^ 64 - 1 }
-    ensures drawn { IfOk result (λ drawn. IfSome (R.to_come input.old) (DrawsAllBands reads form drawn (W.taken output.old) (W.taken output.new))) }
+    ensures drawn { IfOk result (λ drawn. IfSome (R.to_come input.old) (DrawsAllBands options form drawn (W.taken output.old) (W.taken output.new))) }
     ensures good { IfOk result (λ drawn. checked drawn.setup ≡ Ok tt) }
     ensures end { IfOk result (λ _. IsAtEnd (R.to_come input.new)) }
     ensures fault { IfErr result (λ fault. IsDrawFault fault (R.to_come input.old)) }
@@ -234,7 +243,7 @@ fn draw_bands<R: Source, W: Sink>(
     ensures write_failures { W.failures output.new ≡ W.failures output.old + failed_write result }
 {
     let mut lines = Lines::new(alloc);
-    let mut sheet = Sheet::new(alloc, form, reads);
+    let mut sheet = Sheet::new(alloc, form, options);
     draw_lines(&mut lines, &mut sheet, input, output)
 }
 
@@ -252,7 +261,7 @@ fn draw_lines<R: Source, W: Sink>(
     requires stands { (taken : Option (List ℕ)) → Stands sheet.old None [] taken taken }
     requires reads { R.failures input.old < 2 ^ 64 - 1 }
     requires writes { W.failures output.old < 2 ^ 64 - 1 }
-    ensures drawn { IfOk result (λ drawn. IfSome (R.to_come input.old) (DrawsAllBands sheet.old.reads sheet.old.form drawn (W.taken output.old) (W.taken output.new))) }
+    ensures drawn { IfOk result (λ drawn. IfSome (R.to_come input.old) (DrawsAllBands sheet.old.options sheet.old.form drawn (W.taken output.old) (W.taken output.new))) }
     ensures good { IfOk result (λ drawn. checked drawn.setup ≡ Ok tt) }
     ensures end { IfOk result (λ _. IsAtEnd (R.to_come input.new)) }
     ensures fault { IfErr result (λ fault. IsDrawFault fault (R.to_come input.old)) }
@@ -273,13 +282,13 @@ fn draw_lines<R: Source, W: Sink>(
 fn judge_bands<H: Judging, R: Source, W: Sink>(
     alloc: Global,
     form: Form,
-    reads: Reads,
+    options: PictureOptions,
     input: &mut R,
     output: &mut W,
 ) -> Result<(DrawnEntry, u8), Fault>
     requires reads { R.failures input.old < 2 ^ 64 - 1 }
     requires writes { W.failures output.old < 2 ^ 64 - 1 }
-    ensures drawn { IfOk result (λ answer. IfSome (R.to_come input.old) (IsOfRecord (IsJudged H.Keeps H.Tells answer.1 (DrawsBandsOf reads form answer.0 (W.taken output.old) (W.taken output.new))))) }
+    ensures drawn { IfOk result (λ answer. IfSome (R.to_come input.old) (IsOfRecord (IsJudged H.Keeps H.Tells answer.1 (DrawsBandsOf options form answer.0 (W.taken output.old) (W.taken output.new))))) }
     ensures good { IfOk result (λ answer. checked answer.0.setup ≡ Ok tt) }
     ensures end { IfOk result (λ _. IsAtEnd (R.to_come input.new)) }
     ensures fault { IfErr result (λ fault. IsDrawFault fault (R.to_come input.old)) }
@@ -287,7 +296,7 @@ fn judge_bands<H: Judging, R: Source, W: Sink>(
     ensures write_failures { W.failures output.new ≡ W.failures output.old + failed_write result }
 {
     let mut lines = Lines::new(alloc);
-    let mut sheet = Sheet::new(alloc, form, reads);
+    let mut sheet = Sheet::new(alloc, form, options);
     judge_sheet::<H, R, W>(alloc, &mut lines, &mut sheet, input, output)
 }
 
@@ -305,7 +314,7 @@ fn judge_sheet<H: Judging, R: Source, W: Sink>(
     requires stands { (taken : Option (List ℕ)) → Stands sheet.old None [] taken taken }
     requires reads { R.failures input.old < 2 ^ 64 - 1 }
     requires writes { W.failures output.old < 2 ^ 64 - 1 }
-    ensures drawn { IfOk result (λ answer. IfSome (R.to_come input.old) (IsOfRecord (IsJudged H.Keeps H.Tells answer.1 (DrawsBandsOf sheet.old.reads sheet.old.form answer.0 (W.taken output.old) (W.taken output.new))))) }
+    ensures drawn { IfOk result (λ answer. IfSome (R.to_come input.old) (IsOfRecord (IsJudged H.Keeps H.Tells answer.1 (DrawsBandsOf sheet.old.options sheet.old.form answer.0 (W.taken output.old) (W.taken output.new))))) }
     ensures good { IfOk result (λ answer. checked answer.0.setup ≡ Ok tt) }
     ensures end { IfOk result (λ _. IsAtEnd (R.to_come input.new)) }
     ensures fault { IfErr result (λ fault. IsDrawFault fault (R.to_come input.old)) }
@@ -334,7 +343,7 @@ fn judge_lines<H: Judging, R: Source, W: Sink>(
     requires writes { W.failures output.old < 2 ^ 64 - 1 }
     ensures read { OnOk result (HasRead H.HasHeard H.Keeps H.finds_good (R.to_come input.old) lines.new.taken trial.new.reader trial.new.hearer sheet.new (W.taken output.old) (W.taken output.new)) }
     ensures form { OnOk result (sheet.new.form ≡ sheet.old.form) }
-    ensures reads { OnOk result (sheet.new.reads ≡ sheet.old.reads) }
+    ensures options { OnOk result (sheet.new.options ≡ sheet.old.options) }
     ensures end { OnOk result (IsAtEnd (R.to_come input.new)) }
     ensures fault { IfErr result (λ fault. IsDrawFault fault (R.to_come input.old)) }
     ensures read_failures { R.failures input.new ≡ R.failures input.old + failed_reading result }
@@ -365,7 +374,7 @@ fn end_judged<H: Judging, W: Sink>(
     output: &mut W,
 ) -> Result<(DrawnEntry, u8), Fault>
     requires { W.failures output.old < 2 ^ 64 - 1 }
-    ensures drawn { IfOk result (λ answer. (to_come first : Option (List ℕ)) → HasRead H.HasHeard H.Keeps H.finds_good to_come lines.now.taken trial.reader trial.hearer sheet.old first (W.taken output.old) → IfSome to_come (IsOfRecord (IsJudged H.Keeps H.Tells answer.1 (DrawsBandsOf sheet.old.reads sheet.old.form answer.0 first (W.taken output.new))))) }
+    ensures drawn { IfOk result (λ answer. (to_come first : Option (List ℕ)) → HasRead H.HasHeard H.Keeps H.finds_good to_come lines.now.taken trial.reader trial.hearer sheet.old first (W.taken output.old) → IfSome to_come (IsOfRecord (IsJudged H.Keeps H.Tells answer.1 (DrawsBandsOf sheet.old.options sheet.old.form answer.0 first (W.taken output.new))))) }
     ensures good { IfOk result (λ answer. checked answer.0.setup ≡ Ok tt) }
     ensures fault { IfErr result (λ fault. (to_come first : Option (List ℕ)) → HasRead H.HasHeard H.Keeps H.finds_good to_come lines.now.taken trial.reader trial.hearer sheet.old first (W.taken output.old) → IsDrawFault fault to_come) }
     ensures reads { failed_reading result ≡ 0 }

@@ -9,7 +9,7 @@ ghost use Rattle.draw.specs.Sheets.{EndsAsked, GoesOn, LineStops, Stands, entrie
 use crate::records::around::Around;
 use crate::records::stored::RecordEntries;
 use judge::{RecordReader, read_any_line, read_step};
-use picture::{Form, Reads};
+use picture::{Form, PictureOptions, Reads};
 use record_accesses::plain_store::{NestedTypes, Setup};
 use scenario::{Fault, FaultKind, LineFault, Sink};
 use std::alloc::Global;
@@ -19,31 +19,33 @@ use std::alloc::Global;
 pub(crate) struct Sheet {
     alloc: Global,
     form: Form,
-    /// The accesses that are asked for.
-    reads: Reads,
+    /// The accesses and the window that are asked for.
+    options: PictureOptions,
     reader: Option<RecordReader>,
     entries: RecordEntries,
 }
 
-/// The record's setup, which accesses its picture shows, and the heights of the bands that were drawn.
+/// The record's setup, which accesses its picture shows, the words of the store before its window, and the heights of the bands
+/// that were drawn.
 #[derive(Drop)]
 pub(crate) struct DrawnEntry {
     pub setup: Setup,
     pub shows: Reads,
+    pub opening: Vec<u8>,
     pub height: u64,
 }
 
 impl Sheet {
     /// Creates a sheet of which nothing is read.
-    pub fn new(alloc: Global, form: Form, reads: Reads) -> Sheet
+    pub fn new(alloc: Global, form: Form, options: PictureOptions) -> Sheet
         ensures form { result.form ≡ form }
-        ensures reads { result.reads ≡ reads }
+        ensures options { result.options ≡ options }
         ensures stands { (taken : Option (List ℕ)) → Stands result None [] taken taken }
     {
         Sheet {
             alloc,
             form,
-            reads,
+            options,
             reader: None,
             entries: RecordEntries::new(alloc),
         }
@@ -62,7 +64,7 @@ impl Sheet {
         requires few { entries_of self.old.entries < 2 ^ 64 - 1 }
         requires writes { W.failures output.old < 2 ^ 64 - 1 }
         ensures form { self.new.form ≡ self.old.form }
-        ensures reads { self.new.reads ≡ self.old.reads }
+        ensures options { self.new.options ≡ self.old.options }
         ensures ok { OnOk result ((before : Option Progress) (past : Past) (first : Option (List ℕ)) → Stands self.old before past first (W.taken output.old) → GoesOn (line_read line.now before) self.new past first (W.taken output.new)) }
         ensures fault { IfErr result (λ fault. LineStops fault number (λ kind. (before : Option Progress) → self.old.reader ≡ before → line_read line.now before ≡ Err kind)) }
         ensures failures { W.failures output.new ≡ W.failures output.old + failed_write result }
@@ -85,7 +87,7 @@ impl Sheet {
         requires few { entries_of self.old.entries < 2 ^ 64 - 1 }
         requires writes { W.failures output.old < 2 ^ 64 - 1 }
         ensures form { self.new.form ≡ self.old.form }
-        ensures reads { self.new.reads ≡ self.old.reads }
+        ensures options { self.new.options ≡ self.old.options }
         ensures ok { OnOk result ((before : Option Progress) (past : Past) (first : Option (List ℕ)) → Stands self.old before past first (W.taken output.old) → GoesOn (line_read line.now before) self.new past first (W.taken output.new)) }
         ensures fault { IfErr result (λ fault. LineStops fault number (λ kind. (before : Option Progress) → self.old.reader ≡ before → line_read line.now before ≡ Err kind)) }
         ensures failures { W.failures output.new ≡ W.failures output.old + failed_write result }
@@ -118,7 +120,7 @@ impl Sheet {
         requires few { entries_of self.old.entries < 2 ^ 64 - 1 }
         requires writes { W.failures output.old < 2 ^ 64 - 1 }
         ensures form { self.new.form ≡ self.old.form }
-        ensures reads { self.new.reads ≡ self.old.reads }
+        ensures options { self.new.options ≡ self.old.options }
         ensures heard { IfOk result (λ heard. heard ≡ true → (before : Option Progress) (past : Past) (first : Option (List ℕ)) → Stands self.old before past first (W.taken output.old) → GoesOn (line_read line.now before) self.new past first (W.taken output.new)) }
         ensures same { IfOk result (λ heard. heard ≡ false → self.new ≡ self.old) }
         ensures unwritten { IfOk result (λ heard. heard ≡ false → output.new ≡ output.old) }
@@ -143,7 +145,7 @@ impl Sheet {
         requires few { entries_of self.old.entries < 2 ^ 64 - 1 }
         requires writes { W.failures output.old < 2 ^ 64 - 1 }
         ensures form { self.new.form ≡ self.old.form }
-        ensures reads { self.new.reads ≡ self.old.reads }
+        ensures options { self.new.options ≡ self.old.options }
         ensures ok { OnOk result ((before : Option Progress) (past : Past) (first : Option (List ℕ)) → Stands self.old before past first (W.taken output.old) → GoesOn (line_read line.now before) self.new past first (W.taken output.new)) }
         ensures fault { IfErr result (λ fault. LineStops fault number (λ kind. (before : Option Progress) → self.old.reader ≡ before → line_read line.now before ≡ Err kind)) }
         ensures failures { W.failures output.new ≡ W.failures output.old + failed_write result }
@@ -158,7 +160,7 @@ impl Sheet {
                 let around = Around {
                     alloc: self.alloc,
                     form: self.form,
-                    asked: self.reads,
+                    asked: self.options,
                 };
                 self.entries.take(around, reader.setup(), entry, output)?;
                 reader.forget_entry();
@@ -176,7 +178,7 @@ impl Sheet {
     pub fn end<W: Sink>(&mut self, told: &[u8], output: &mut W) -> Result<Option<DrawnEntry>, Fault>
         requires { W.failures output.old < 2 ^ 64 - 1 }
         ensures none { IfOk result (λ drawn. drawn ≡ None → self.old.reader ≡ None) }
-        ensures ok { IfOk result (λ drawn. IfSome drawn (λ d. (p : Progress) (past : Past) (first : Option (List ℕ)) → self.old.reader ≡ Some p → Stands self.old (Some p) past first (W.taken output.old) → (d.setup ≡ p.head.setup) × EndsAsked self.old.reads self.old.form p.head.setup past told.now d.shows d.height first (W.taken output.new))) }
+        ensures ok { IfOk result (λ drawn. IfSome drawn (λ d. (p : Progress) (past : Past) (first : Option (List ℕ)) → self.old.reader ≡ Some p → Stands self.old (Some p) past first (W.taken output.old) → (d.setup ≡ p.head.setup) × EndsAsked self.old.options self.old.form p.head.setup past told.now d.shows d.opening.items d.height first (W.taken output.new))) }
         ensures some { IfOk result (λ drawn. IfSome drawn (λ _. IsSome self.old.reader)) }
         ensures good { IfOk result (λ drawn. IfSome drawn (λ d. checked d.setup ≡ Ok tt)) }
         ensures fault { IfErr result IsWriteFault }
@@ -189,13 +191,14 @@ impl Sheet {
         let around = Around {
             alloc: self.alloc,
             form: self.form,
-            asked: self.reads,
+            asked: self.options,
         };
         let bands = self.entries.end(around, reader.setup(), told, output)?;
         Ok(Some(DrawnEntry {
             setup: *reader.setup(),
             shows: bands.shows,
             height: bands.height,
+            opening: bands.opening,
         }))
     }
 }

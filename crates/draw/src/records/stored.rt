@@ -3,17 +3,18 @@ ghost use Rattle.std.specs.Prelude.{◌≡◌, ◌+◌, ◌-◌, ◌^◌, ◌<�
 ghost use Rattle.record.specs.plain_store.{checked};
 ghost use Rattle.record.specs.{Past};
 ghost use Rattle.draw.specs.Canvases.{DrawsLast};
+ghost use Rattle.draw.specs.Drawings.{HasOpening};
 ghost use Rattle.draw.specs.Items.{SaysEnd};
 ghost use Rattle.draw.specs.RecordItems.{source_of};
 ghost use Rattle.draw.specs.Sheets.{AreStored, DrawsPast, EndsAsked, IsDrawn, entries_of};
-ghost use Rattle.draw.specs.Views.{most_stored};
+ghost use Rattle.draw.specs.Views.{most_asked, most_stored};
 ghost use Rattle.draw.specs.Writing.{IsWriteFault, failed_write};
 
 use crate::records::around::Around;
 use crate::records::drawing::RecordDrawing;
-use crate::views::AccessView;
+use crate::views::{AccessView, is_short};
 use judge::{entry_of_parts, parts};
-use picture::Reads;
+use picture::{PictureOptions, Reads};
 use record::Entry;
 use record_accesses::plain_store::{NestedTypes, Setup};
 use scenario::{Fault, Sink};
@@ -25,14 +26,15 @@ use std::alloc::{AllocError, Global};
 pub(crate) struct RecordEntries {
     /// All entries so far, unless they are drawn.
     stored: Vec<Entry>,
-    /// The picture of all entries so far, once it is decided that it shows what is asked for.
+    /// The picture of all entries so far, once it is decided that it shows what that of a long record shows.
     pub drawing: Option<RecordDrawing>,
 }
 
-/// Which accesses a picture shows, and the heights of its bands.
-#[derive(Clone, Copy)]
+/// Which accesses a picture shows, the words of the store before its window, and the heights of its bands.
+#[derive(Drop)]
 pub(crate) struct RecordBands {
     pub shows: Reads,
+    pub opening: Vec<u8>,
     pub height: u64,
 }
 
@@ -102,7 +104,7 @@ impl RecordEntries {
             store(around.alloc, entry, &mut self.stored)?;
             return Ok(());
         }
-        let view = AccessView::full(around.asked);
+        let view = AccessView::long(around.asked);
         let mut drawing = draw_stored(around, setup, view, &self.stored, output)?;
         drawing.draw_entry(entry, output)?;
         self.stored = Vec::new(around.alloc);
@@ -127,13 +129,16 @@ impl RecordEntries {
         requires writes { W.failures output.old < 2 ^ 64 - 1 }
         ensures drawn { IfOk result (λ bands. (past : Past) (first : Option (List ℕ)) →
             DrawsPast around.asked around.form self.old setup.now past first (W.taken output.old) →
-            EndsAsked around.asked around.form setup.now past told.now bands.shows bands.height
-            first (W.taken output.new)) }
+            EndsAsked around.asked around.form setup.now past told.now
+            bands.shows bands.opening.items bands.height first (W.taken output.new)) }
         ensures fault { IfErr result IsWriteFault }
         ensures failures { W.failures output.new ≡ W.failures output.old + failed_write result }
     {
         match &mut self.drawing {
-            Some(drawing) => end_drawn(drawing, setup, around.asked, told, output),
+            Some(drawing) => {
+                let view = AccessView::long(around.asked);
+                end_drawn(drawing, setup, view.reads, told, output)
+            }
             None => {
                 let view = AccessView::short(around.asked);
                 let mut drawing = draw_stored(around, setup, view, &self.stored, output)?;
@@ -157,11 +162,17 @@ fn end_drawn<W: Sink>(
         drawing.old.drawing.entries told.now
         (SaysEnd drawing.old.drawing.entries drawing.old.drawing.store.taken 0) bands.height) }
     ensures shows { IfOk result (λ bands. bands.shows ≡ shows) }
+    ensures opening { IfOk result (λ bands. HasOpening drawing.old.drawing bands.opening.items) }
     ensures fault { IfErr result IsWriteFault }
     ensures failures { W.failures output.new ≡ W.failures output.old + failed_write result }
 {
+    let opening = drawing.opening()?;
     let height = drawing.end(setup, told, output)?;
-    Ok(RecordBands { shows, height })
+    Ok(RecordBands {
+        shows,
+        opening,
+        height,
+    })
 }
 
 /// Draws entries in their order, after the start of a page.
@@ -187,9 +198,20 @@ fn draw_stored<W: Sink>(
     Ok(drawing)
 }
 
-/// Returns the most entries that are stored until it is decided what is shown: none if all accesses are asked for.
-fn most(asked: Reads) -> usize
-    ensures { result ≡ most_stored asked }
+/// Returns the most entries that are stored until it is decided what is shown: none if all accesses are asked for or the
+/// window is short.
+fn most(options: PictureOptions) -> usize
+    ensures { result ≡ most_stored options }
+{
+    if is_short(options.window) {
+        return 0;
+    }
+    most_of(options.reads)
+}
+
+/// Returns the most entries that are stored if the window is not short.
+fn most_of(asked: Reads) -> usize
+    ensures { result ≡ most_asked asked }
 {
     match asked {
         Reads::All => 0,

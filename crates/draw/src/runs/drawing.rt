@@ -1,14 +1,15 @@
 //! The run of a scenario as it is drawn.
 ghost use Rattle.std.specs.Prelude.{◌≡◌, ◌+◌, ◌-◌, ◌^◌, ◌<◌, [], ◌∷◌, length, IfErr, IfOk, Ok, OnOk};
 ghost use Rattle.record.specs.plain_store.{checked};
-ghost use Rattle.picture.specs.{Plan};
+ghost use Rattle.picture.specs.{WindowPlan};
 ghost use Rattle.draw.specs.Canvases.{DrawsBands, DrawsLast, kept, kept_at_first, plan_of};
-ghost use Rattle.draw.specs.Drawings.{Recalls};
+ghost use Rattle.draw.specs.Drawings.{HasOpening, Recalls};
 ghost use Rattle.draw.specs.Writing.{IsWriteFault, failed_write};
 ghost use Rattle.scenario.specs.{script};
 ghost use Rattle.course.specs.{Follows, counted, happenings, run_at_start, summary_of};
 ghost use Rattle.draw.specs.RunDrawings.{DrawsTold, tally};
 ghost use Rattle.draw.specs.RunItems.{run_given, says_end};
+ghost use Rattle.draw.specs.Pictures.{opening_of};
 ghost use Rattle.draw.specs.Views.{full_view};
 ghost use Rattle.draw.specs.declared.views.AccessView.{AccessView as Seen};
 
@@ -18,7 +19,7 @@ use crate::drawing::{Drawing, lines_of_setup};
 use crate::views::AccessView;
 use course::{Course, Summary, Told, newest_words};
 use listening::draw_line;
-use picture::{Form, Reads, Saying};
+use picture::{Form, PictureOptions, Saying};
 use record_accesses::plain_store::{NestedTypes, Setup};
 use scenario::progress::{LinePlace, Onlooker};
 use scenario::{Fault, Scenario, Sink};
@@ -33,7 +34,15 @@ pub(crate) struct RunDrawing {
     refused: u64,
 }
 
-/// Draws the bands of a scenario's run, and returns the numbers of the run and the heights of the bands.
+/// A run that is drawn: its numbers, the words of the store before its window, and the heights of its bands.
+#[derive(Drop)]
+pub(crate) struct DrawnRun {
+    pub summary: Summary,
+    pub opening: Vec<u8>,
+    pub height: u64,
+}
+
+/// Draws the bands of a scenario's run, and returns what was drawn.
 ///
 /// # Errors
 ///
@@ -42,17 +51,22 @@ pub(crate) fn draw_bands<W: Sink, L: Onlooker>(
     alloc: Global,
     scenario: &Scenario,
     form: Form,
-    reads: Reads,
+    options: PictureOptions,
     output: &mut W,
     onlooker: &mut L,
-) -> Result<(Summary, u64), Fault>
+) -> Result<DrawnRun, Fault>
     requires { W.failures output.old < 2 ^ 64 - 1 }
-    ensures ok { IfOk result (λ answer. DrawsBands (plan_of form scenario.now.setup) (W.taken output.old) (W.taken output.new) (run_given (full_view reads) (script scenario.now)) answer.1) }
-    ensures summary { IfOk result (λ answer. answer.0 ≡ summary_of scenario.now.setup (happenings (script scenario.now))) }
+    ensures ok { IfOk result (λ drawn. DrawsBands (plan_of form options.window scenario.now.setup)
+        (W.taken output.old) (W.taken output.new)
+        (run_given (full_view options) (script scenario.now)) drawn.height) }
+    ensures summary { IfOk result (λ drawn. drawn.summary
+        ≡ summary_of scenario.now.setup (happenings (script scenario.now))) }
+    ensures opening { IfOk result (λ drawn. drawn.opening.items
+        ≡ opening_of options.window (script scenario.now)) }
     ensures fault { IfErr result IsWriteFault }
     ensures failures { W.failures output.new ≡ W.failures output.old + failed_write result }
 {
-    let mut run = RunDrawing::new(alloc, &scenario.setup, form, reads)?;
+    let mut run = RunDrawing::new(alloc, &scenario.setup, form, options)?;
     let mut course = Course::new(alloc, &scenario.setup)?;
     draw_lines(scenario, &mut course, &mut run, output, onlooker)
 }
@@ -65,20 +79,25 @@ fn draw_lines<W: Sink, L: Onlooker>(
     run: &mut RunDrawing,
     output: &mut W,
     onlooker: &mut L,
-) -> Result<(Summary, u64), Fault>
+) -> Result<DrawnRun, Fault>
     requires setup { course.old.world.setup ≡ scenario.now.setup }
     requires follows { Follows course.old run_at_start }
     requires tally { tally run.old ≡ record { events = 0; taken = 0; refused = 0 } }
     requires source { run.old.drawing.source ≡ length scenario.now.setup.opening + 5 }
     requires writes { W.failures output.old < 2 ^ 64 - 1 }
-    ensures ok { IfOk result (λ answer. (plan : Plan) (view : Seen)
+    ensures ok { IfOk result (λ drawn. (plan : WindowPlan) (view : Seen)
         → kept run.old.drawing.canvas ≡ kept_at_first plan
         → Recalls view scenario.now.setup [] run.old.drawing
-        → DrawsBands plan (W.taken output.old) (W.taken output.new) (run_given view (script scenario.now)) answer.1) }
-    ensures summary { IfOk result (λ answer. (plan : Plan) (view : Seen)
+        → DrawsBands plan (W.taken output.old) (W.taken output.new)
+        (run_given view (script scenario.now)) drawn.height) }
+    ensures summary { IfOk result (λ drawn. (plan : WindowPlan) (view : Seen)
         → kept run.old.drawing.canvas ≡ kept_at_first plan
         → Recalls view scenario.now.setup [] run.old.drawing
-        → answer.0 ≡ summary_of scenario.now.setup (happenings (script scenario.now))) }
+        → drawn.summary ≡ summary_of scenario.now.setup (happenings (script scenario.now))) }
+    ensures opening { IfOk result (λ drawn. (plan : WindowPlan) (view : Seen)
+        → kept run.old.drawing.canvas ≡ kept_at_first plan
+        → Recalls view scenario.now.setup [] run.old.drawing
+        → drawn.opening.items ≡ opening_of view.window (script scenario.now)) }
     ensures fault { IfErr result IsWriteFault }
     ensures failures { W.failures output.new ≡ W.failures output.old + failed_write result }
 {
@@ -93,17 +112,22 @@ fn draw_lines<W: Sink, L: Onlooker>(
 }
 
 impl RunDrawing {
-    fn new(alloc: Global, setup: &Setup, form: Form, reads: Reads) -> Result<RunDrawing, Fault>
+    fn new(
+        alloc: Global,
+        setup: &Setup,
+        form: Form,
+        options: PictureOptions,
+    ) -> Result<RunDrawing, Fault>
         requires { checked setup.now ≡ Ok tt }
         ensures tally { IfOk result (λ run. tally run ≡ record { events = 0; taken = 0; refused = 0 }) }
-        ensures first { IfOk result (λ run. kept run.drawing.canvas ≡ kept_at_first (plan_of form setup.now)) }
+        ensures first { IfOk result (λ run. kept run.drawing.canvas ≡ kept_at_first (plan_of form options.window setup.now)) }
         ensures source { IfOk result (λ run. run.drawing.source ≡ length setup.now.opening + 5) }
-        ensures recalls { IfOk result (λ run. Recalls (full_view reads) setup.now [] run.drawing) }
+        ensures recalls { IfOk result (λ run. Recalls (full_view options) setup.now [] run.drawing) }
         ensures fault { IfErr result IsWriteFault }
         ensures failures { failed_write result ≡ 0 }
     {
         let source = lines_of_setup(setup);
-        let view = AccessView::full(reads);
+        let view = AccessView::full(options);
         let drawing = Drawing::new(alloc, setup, form, view, source)?;
         Ok(RunDrawing {
             alloc,
@@ -152,15 +176,19 @@ impl RunDrawing {
         }
     }
 
-    /// Draws the last line, writes what is held back, and returns the run's numbers and the heights of the bands.
-    fn end<W: Sink>(&mut self, taken: u64, output: &mut W) -> Result<(Summary, u64), Fault>
+    /// Draws the last line, writes what is held back, and returns what was drawn.
+    fn end<W: Sink>(&mut self, taken: u64, output: &mut W) -> Result<DrawnRun, Fault>
         requires { W.failures output.old < 2 ^ 64 - 1 }
-        ensures drawn { IfOk result (λ answer. DrawsLast self.old.drawing.canvas
-            (W.taken output.old) (W.taken output.new) self.old.drawing.source self.old.drawing.entries [] (says_end answer.0) answer.1) }
-        ensures summary { IfOk result (λ answer. answer.0 ≡ record (tally self.old) { taken = taken }) }
+        ensures drawn { IfOk result (λ drawn. DrawsLast self.old.drawing.canvas
+            (W.taken output.old) (W.taken output.new) self.old.drawing.source
+            self.old.drawing.entries [] (says_end drawn.summary) drawn.height) }
+        ensures summary { IfOk result
+            (λ drawn. drawn.summary ≡ record (tally self.old) { taken = taken }) }
+        ensures opening { IfOk result (λ drawn. HasOpening self.old.drawing drawn.opening.items) }
         ensures fault { IfErr result IsWriteFault }
         ensures failures { W.failures output.new ≡ W.failures output.old + failed_write result }
     {
+        let opening = self.drawing.opening()?;
         let events = self.drawing.entries;
         let refused = self.refused;
         let saying = Saying::Ended {
@@ -174,6 +202,10 @@ impl RunDrawing {
             taken,
             refused,
         };
-        Ok((summary, height))
+        Ok(DrawnRun {
+            summary,
+            opening,
+            height,
+        })
     }
 }

@@ -1,7 +1,6 @@
 //! The commands `draw` and `draw-svg` for scenarios.
 ghost use Rattle.std.specs.Prelude.{◌≡◌, ◌+◌, ◌-◌, ◌^◌, ◌<◌, [], IfErr, IfOk, Ok, OnOk, Some};
 ghost use Rattle.record.specs.plain_store.{checked, opening_store};
-ghost use Rattle.draw.specs.StoreChanges.{store_words as store_words_of};
 ghost use Rattle.draw.specs.Writing.{IsWriteFault, failed_write};
 ghost use Rattle.picture.specs.{page_back, page_names};
 ghost use Rattle.picture.specs.markup.{lines_in, opens_in};
@@ -9,24 +8,25 @@ ghost use Rattle.scenario.specs.files.{ReadsFront, streams};
 ghost use Rattle.scenario.specs.{script};
 ghost use Rattle.course.specs.{IsSummaryOf, ended, happenings, summary_of};
 ghost use Rattle.picture.specs.declared.page.Form.TheVariants as form_variants;
-ghost use Rattle.draw.specs.RunDrawings.{DrawsAll, DrawsFramed, DrewRun};
+ghost use Rattle.draw.specs.RunDrawings.{DrawsAll, DrawsFramed, DrawsPage, DrewRun};
 
 use crate::runs::drawing::draw_bands;
 use crate::runs::nowhere::Nowhere;
-use crate::surroundings::{around_picture, end_of_page};
+use crate::surroundings::{around_picture, write_page_end};
 use crate::writing::write_markup;
 use course::Summary;
-use picture::{FIRST_BAND, Form, Markup, Reads, page_head};
+use picture::{FIRST_BAND, Form, Markup, PictureOptions, Subject, page_head};
 use scenario::progress::{Again, Onlooker};
 use scenario::{Fault, Scenario, Sink, Source, read_input, read_scenario};
 use std::alloc::Global;
 
 /// Reads a scenario file, and writes the page of its run: a picture in bands, each of which is written when it is full.
 ///
-/// If it succeeds, the output is the page of the items that the run gives, and nothing else. These items are the lines of
-/// the run, each with the line of the scenario that makes it and with what its command changed, and the overlapped reads or
-/// all accesses with all waves, if `reads` asks for them. The page lists the lines of the file as they are. The titles of the
-/// marks, read back, are the lines that `replay` writes for the file. The tags match, and no element is open at the end.
+/// If it succeeds, the output is the page of a window of the items that the run gives, and nothing else. These items are the
+/// lines of the run, each with the line of the scenario that makes it and with what its command changed, and the overlapped
+/// reads or all accesses with all waves, if `options` asks for them. The page lists the lines of the file as they are. The
+/// titles of the marks, read back, are the lines in the window. If the window is all entries, they are the lines that `replay`
+/// writes for the file. The tags match, and no element is open at the end.
 ///
 /// # Errors
 ///
@@ -34,54 +34,69 @@ use std::alloc::Global;
 /// fails, and [`Fault::Memory`] if memory is lacking.
 pub fn draw<R: Source, W: Sink, L: Onlooker>(
     alloc: Global,
-    reads: Reads,
+    options: PictureOptions,
     input: &mut R,
     output: &mut W,
     onlooker: &mut L,
 ) -> Result<Summary, Fault>
     requires reads { R.failures input.old < 2 ^ 64 - 1 }
     requires writes { W.failures output.old < 2 ^ 64 - 1 }
-    ensures drew { DrewRun reads form_variants.Page (ended result)
+    ensures drew { DrewRun options form_variants.Page (ended result)
         (streams ⟦<R as Source>⟧ ⟦<W as Sink>⟧ input.old output.old)
         (streams ⟦<R as Source>⟧ ⟦<W as Sink>⟧ input.new output.new) }
     ensures input { ReadsFront (R.to_come input.old) (R.to_come input.new) }
     ensures summary { IfOk result (λ summary. IsSummaryOf (R.to_come input.old) summary) }
 {
-    draw_file(alloc, Form::Page, reads, input, output, onlooker)
+    draw_file(alloc, Form::Page, options, input, output, onlooker)
 }
 
 /// Writes the page of a scenario's run.
 fn draw_page<W: Sink, L: Onlooker>(
     alloc: Global,
-    reads: Reads,
+    options: PictureOptions,
     file: &[u8],
     scenario: &Scenario,
     output: &mut W,
     onlooker: &mut L,
 ) -> Result<Summary, Fault>
     requires { W.failures output.old < 2 ^ 64 - 1 }
-    ensures ok { OnOk result (DrawsAll reads form_variants.Page file.now (script scenario.now) (W.taken output.old) (W.taken output.new)) }
+    ensures ok { OnOk result (DrawsAll options form_variants.Page file.now (script scenario.now) (W.taken output.old) (W.taken output.new)) }
     ensures summary { IfOk result (λ summary. summary ≡ summary_of scenario.now.setup (happenings (script scenario.now))) }
     ensures fault { IfErr result IsWriteFault }
     ensures failures { W.failures output.new ≡ W.failures output.old + failed_write result }
 {
-    let head = page_head(alloc, &scenario.setup, file, reads)?;
-    let end = end_of_page(alloc, &scenario.setup)?;
-    let form = Form::Page;
-    let frame = Frame {
-        form,
-        reads,
-        head,
-        end,
-    };
-    draw_framed(alloc, &frame, scenario, output, onlooker)
+    let head = page_head(alloc, Subject::Run, &scenario.setup, file, options.reads)?;
+    draw_behind(alloc, options, &head, scenario, output, onlooker)
 }
 
-/// The markup before and after the bands of a picture, with the form of the picture.
+/// Writes the start of a page, and the bands and the end after it. It borrows the start, because a value that is dropped at
+/// each way out of a function takes long to prove.
+fn draw_behind<W: Sink, L: Onlooker>(
+    alloc: Global,
+    options: PictureOptions,
+    head: &Markup,
+    scenario: &Scenario,
+    output: &mut W,
+    onlooker: &mut L,
+) -> Result<Summary, Fault>
+    requires { W.failures output.old < 2 ^ 64 - 1 }
+    ensures ok { OnOk result (DrawsPage options head.now (script scenario.now)
+        (W.taken output.old) (W.taken output.new)) }
+    ensures summary { IfOk result (λ summary. summary ≡ summary_of scenario.now.setup (happenings (script scenario.now))) }
+    ensures fault { IfErr result IsWriteFault }
+    ensures failures { W.failures output.new ≡ W.failures output.old + failed_write result }
+{
+    write_markup(head, output)?;
+    let drawn = draw_bands(alloc, scenario, Form::Page, options, output, onlooker)?;
+    write_page_end(alloc, drawn.opening.as_slice(), output)?;
+    Ok(drawn.summary)
+}
+
+/// The markup before and after the bands of one picture, with the form of the picture.
 #[derive(Drop)]
 struct Frame {
     form: Form,
-    reads: Reads,
+    options: PictureOptions,
     head: Markup,
     end: Markup,
 }
@@ -96,15 +111,15 @@ fn draw_framed<W: Sink, L: Onlooker>(
     onlooker: &mut L,
 ) -> Result<Summary, Fault>
     requires { W.failures output.old < 2 ^ 64 - 1 }
-    ensures ok { OnOk result (DrawsFramed frame.now.reads frame.now.form frame.now.head frame.now.end (script scenario.now) (W.taken output.old) (W.taken output.new)) }
+    ensures ok { OnOk result (DrawsFramed frame.now.options frame.now.form frame.now.head frame.now.end (script scenario.now) (W.taken output.old) (W.taken output.new)) }
     ensures summary { IfOk result (λ summary. summary ≡ summary_of scenario.now.setup (happenings (script scenario.now))) }
     ensures fault { IfErr result IsWriteFault }
     ensures failures { W.failures output.new ≡ W.failures output.old + failed_write result }
 {
     write_markup(&frame.head, output)?;
-    let (summary, _) = draw_bands(alloc, scenario, frame.form, frame.reads, output, onlooker)?;
+    let drawn = draw_bands(alloc, scenario, frame.form, frame.options, output, onlooker)?;
     write_markup(&frame.end, output)?;
-    Ok(summary)
+    Ok(drawn.summary)
 }
 
 /// Reads a scenario file, and writes one picture of its run, with the items of its page. The run is made twice, because a
@@ -115,35 +130,35 @@ fn draw_framed<W: Sink, L: Onlooker>(
 /// Returns the faults of [`draw`].
 pub fn draw_svg<R: Source, W: Sink, L: Onlooker>(
     alloc: Global,
-    reads: Reads,
+    options: PictureOptions,
     input: &mut R,
     output: &mut W,
     onlooker: &mut L,
 ) -> Result<Summary, Fault>
     requires reads { R.failures input.old < 2 ^ 64 - 1 }
     requires writes { W.failures output.old < 2 ^ 64 - 1 }
-    ensures drew { DrewRun reads (form_variants.Picture 34) (ended result)
+    ensures drew { DrewRun options (form_variants.Picture 34) (ended result)
         (streams ⟦<R as Source>⟧ ⟦<W as Sink>⟧ input.old output.old)
         (streams ⟦<R as Source>⟧ ⟦<W as Sink>⟧ input.new output.new) }
     ensures input { ReadsFront (R.to_come input.old) (R.to_come input.new) }
     ensures summary { IfOk result (λ summary. IsSummaryOf (R.to_come input.old) summary) }
 {
     let form = Form::Picture(FIRST_BAND);
-    draw_file(alloc, form, reads, input, output, onlooker)
+    draw_file(alloc, form, options, input, output, onlooker)
 }
 
 /// Reads a scenario file, and draws its run in this form.
 fn draw_file<R: Source, W: Sink, L: Onlooker>(
     alloc: Global,
     form: Form,
-    reads: Reads,
+    options: PictureOptions,
     input: &mut R,
     output: &mut W,
     onlooker: &mut L,
 ) -> Result<Summary, Fault>
     requires reads { R.failures input.old < 2 ^ 64 - 1 }
     requires writes { W.failures output.old < 2 ^ 64 - 1 }
-    ensures drew { DrewRun reads form (ended result)
+    ensures drew { DrewRun options form (ended result)
         (streams ⟦<R as Source>⟧ ⟦<W as Sink>⟧ input.old output.old)
         (streams ⟦<R as Source>⟧ ⟦<W as Sink>⟧ input.new output.new) }
     ensures input { ReadsFront (R.to_come input.old) (R.to_come input.new) }
@@ -154,7 +169,7 @@ fn draw_file<R: Source, W: Sink, L: Onlooker>(
     draw_scenario(
         alloc,
         form,
-        reads,
+        options,
         file.as_slice(),
         &scenario,
         output,
@@ -166,21 +181,21 @@ fn draw_file<R: Source, W: Sink, L: Onlooker>(
 fn draw_scenario<W: Sink, L: Onlooker>(
     alloc: Global,
     form: Form,
-    reads: Reads,
+    options: PictureOptions,
     file: &[u8],
     scenario: &Scenario,
     output: &mut W,
     onlooker: &mut L,
 ) -> Result<Summary, Fault>
     requires { W.failures output.old < 2 ^ 64 - 1 }
-    ensures ok { OnOk result (DrawsAll reads form file.now (script scenario.now) (W.taken output.old) (W.taken output.new)) }
+    ensures ok { OnOk result (DrawsAll options form file.now (script scenario.now) (W.taken output.old) (W.taken output.new)) }
     ensures summary { IfOk result (λ summary. summary ≡ summary_of scenario.now.setup (happenings (script scenario.now))) }
     ensures fault { IfErr result IsWriteFault }
     ensures failures { W.failures output.new ≡ W.failures output.old + failed_write result }
 {
     match form {
-        Form::Page => draw_page(alloc, reads, file, scenario, output, onlooker),
-        Form::Picture(top) => draw_picture(alloc, top, reads, file, scenario, output, onlooker),
+        Form::Page => draw_page(alloc, options, file, scenario, output, onlooker),
+        Form::Picture(top) => draw_picture(alloc, top, options, file, scenario, output, onlooker),
     }
 }
 
@@ -188,27 +203,33 @@ fn draw_scenario<W: Sink, L: Onlooker>(
 fn draw_picture<W: Sink, L: Onlooker>(
     alloc: Global,
     top: u64,
-    reads: Reads,
+    options: PictureOptions,
     file: &[u8],
     scenario: &Scenario,
     output: &mut W,
     onlooker: &mut L,
 ) -> Result<Summary, Fault>
     requires { W.failures output.old < 2 ^ 64 - 1 }
-    ensures ok { OnOk result (DrawsAll reads (form_variants.Picture top) file.now (script scenario.now) (W.taken output.old) (W.taken output.new)) }
+    ensures ok { OnOk result (DrawsAll options (form_variants.Picture top) file.now (script scenario.now) (W.taken output.old) (W.taken output.new)) }
     ensures summary { IfOk result (λ summary. summary ≡ summary_of scenario.now.setup (happenings (script scenario.now))) }
     ensures fault { IfErr result IsWriteFault }
     ensures failures { W.failures output.new ≡ W.failures output.old + failed_write result }
 {
     let form = Form::Picture(top);
-    let (first, height) = draw_bands(alloc, scenario, form, reads, &mut Nowhere, onlooker)?;
-    let (head, end) = around_picture(alloc, &scenario.setup, height, reads)?;
+    let first = draw_bands(alloc, scenario, form, options, &mut Nowhere, onlooker)?;
+    let (head, end) = around_picture(
+        alloc,
+        Subject::Run,
+        &scenario.setup,
+        first.height,
+        options.reads,
+    )?;
     let frame = Frame {
         form,
-        reads,
+        options,
         head,
         end,
     };
-    let mut again = Again::new(onlooker, first.events);
+    let mut again = Again::new(onlooker, first.summary.events);
     draw_framed(alloc, &frame, scenario, output, &mut again)
 }

@@ -12,7 +12,7 @@ returns-clause-ok g c =
     let line = c.args.line in (
       draws_on_both _ _ _ _ _ _ (map GivesRead (shown_of mode reads)) (GivesLine line.source line.at (says_of line.saying) ∷ []) drawn.0
           (draws_on_line line (kept c.draw_reads.new.self) _ c.in_ok-full.full (g.W.Sink.taken c.draw_reads.new.output) (g.W.Sink.taken c.write_band.new.output)
-          c.in_ok-full.ensures.lines c.in_ok-full.ensures.page (wrote c.in_ok-full.ensures.ended)),
+          c.in_ok-full.ensures.window c.in_ok-full.ensures.lines c.in_ok-full.ensures.page (wrote c.in_ok-full.ensures.ended)),
       drawn.1,
     ))
     c.write_band.ensures.ok

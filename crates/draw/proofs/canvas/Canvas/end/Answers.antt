@@ -1,5 +1,5 @@
 use Rattle.std.proofs.Common.{subst, sym}
-use Rattle.picture.specs.{seen_page}
+use Rattle.picture.specs.{seen_windowed}
 use Rattle.draw.specs.{DrawsLast, kept, says_of}
 use Rattle.draw.proofs.Drawn.{draws_rest}
 use Rattle.draw.proofs.Ending.{last_drawn}
@@ -15,6 +15,6 @@ returns-clause-ok g c =
     let z = g.W.Sink.taken c.write_last.new.output in
     let bands = c.in_ok-full.ensures in
     let verdict = c.in_ok-verdict.verdict in
-    let rest = draws_rest verdict (kept mid) (seen_page c.end.new.self) c.in_ok-full.full c.in_ok-full.last b z bands.lines bands.page (c.in_ok-write_last.ensures.ok bands.full bands.last) in
+    let rest = draws_rest line.at verdict (kept mid) (seen_windowed c.end.new.self) c.in_ok-full.full c.in_ok-full.last b z bands.lines bands.page (c.in_ok-write_last.ensures.ok bands.full bands.last) in
     subst (DrawsLast c.args.self.now a z line.source line.at c.args.told.now last) (sym c.height.ensures)
-    (last_drawn c.args.self.now mid a b z line.source line.at c.args.told.now last verdict c.end.new.self.height c.in_ok-verdict.ensures.drawn rest)
+    (last_drawn c.args.self.now mid a b z line.source line.at c.args.told.now last verdict c.end.new.self.page.height c.in_ok-verdict.ensures.drawn rest)

@@ -1,9 +1,10 @@
-use Rattle.std.proofs.Common.{◌+◌, ℕ, [], Option, Some, ap, refl}
+use Rattle.std.proofs.Common.{◌+◌, inr, ℕ, [], ◌∷◌, Option, Some, ap, refl, subst, sym}
 use Rattle.judge.specs.read_law.{entry_by}
 use Rattle.record.specs.{Access}
-use Rattle.draw.specs.{entries_among, reads_since}
+use Rattle.draw.specs.{IsStoreBefore, StoreBefore, entries_among, reads_since}
 use Rattle.draw.proofs.Drawings.{entry_drawn}
 use Rattle.draw.proofs.Drawn.{draws_no_marks}
+use Rattle.draw.proofs.StoresBefore.{before_on}
 use Rattle.draw.proofs.drawing.Drawing.step.Goals as goal
 
 pub returns-clause-drawn : goal.returns-clause-drawn
@@ -21,3 +22,4 @@ returns-clause-drawn g c = λ view s parts tells recalls.
     (shown.drawn view s past [] recalls.entries refl recalls.accesses)
     shown.overlaps shown.store shown.source
     (draws_no_marks mid.canvas mid.store b mid.source d.entries p) refl (ap (λ (n : ℕ). n + 1) shown.entries)
+    (subst (λ (x : StoreBefore). IsStoreBefore view.window s (entry_by p access [] ∷ past) x) (sym shown.before) (before_on view.window s past (entry_by p access []) d.before (inr refl) recalls.before))

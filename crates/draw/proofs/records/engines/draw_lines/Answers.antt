@@ -4,7 +4,7 @@ use Rattle.scenario.specs.files.declared.faults.Fault.TheVariants.{Line}
 use Rattle.scenario.specs.files.declared.faults.FaultKind.TheVariants.{NotFirst}
 use Rattle.record.specs.plain_store.{checked}
 use Rattle.picture.specs.{Form}
-use Rattle.picture.specs.declared.reads.Reads.{Reads as Mode}
+use Rattle.picture.specs.declared.reads.PictureOptions.{PictureOptions}
 use Rattle.record.specs.{Past}
 use Rattle.judge.specs.record_file.{Progress, line_read}
 use Rattle.draw.specs.{failed_write}
@@ -23,7 +23,7 @@ lines-preserved g c =
       onwards = onwards_on (g.R.Source.to_come c.args.input.now) mid rest c.lines.lines c.next.new.self c.line.result.now c.lines.sheet c.read.new.self (g.W.Sink.taken c.args.output.now) _ _ c.lines.invariant.onwards takes c.line.ensures c.in_ok-read.ensures.ok;
       holds = c.in_ok-next.ensures.holds c.lines.invariant.holds;
       form = c.in_ok-read.ensures.form ∙ c.lines.invariant.form;
-      reads = c.in_ok-read.ensures.reads ∙ c.lines.invariant.reads;
+      options = c.in_ok-read.ensures.options ∙ c.lines.invariant.options;
       whole = omega (arith, c.in_ok-next.ensures.failures, c.lines.invariant.whole);
       wrote = omega (arith, c.in_ok-read.ensures.failures, c.lines.invariant.wrote);
     }
@@ -34,7 +34,7 @@ lines-init g c =
       onwards = onwards_start (g.R.Source.to_come c.args.input.now) c.args.lines.now.ahead c.args.lines.now.taken c.args.sheet.now (g.W.Sink.taken c.args.output.now) c.requires.ahead c.requires.ended c.requires.taken (c.requires.stands (g.W.Sink.taken c.args.output.now));
       holds = none_told c.args.lines.now.ahead (g.R.Source.to_come c.args.input.now) c.requires.ended;
       form = refl;
-      reads = refl;
+      options = refl;
       whole = refl;
       wrote = refl;
     }
@@ -105,11 +105,11 @@ returns-in-Some g c =
     let d : DrawnEntry = c.in-Some.drawn in
     let ended = c.in_ok-end.ensures in
     let read = read_some t.reader (subst (λ (o : Option DrawnEntry). IfSome o (λ _. IsSome t.reader)) c.in-Some.is ended.some) in
-    let drawn = λ (m : Mode) (f : Form). IfSome all (DrawsAllBands m f d first then) in
+    let drawn = λ (m : PictureOptions) (f : Form). IfSome all (DrawsAllBands m f d first then) in
     record {
-      drawn = subst (λ (m : Mode). drawn m c.args.sheet.now.form) c.lines.invariant.reads (subst (λ (f : Form). drawn t.reads f) c.lines.invariant.form
+      drawn = subst (λ (m : PictureOptions). drawn m c.args.sheet.now.form) c.lines.invariant.options (subst (λ (f : Form). drawn t.options f) c.lines.invariant.form
           (onwards_drawn all mid c.lines.lines.taken t first now then c.lines.invariant.onwards read.0 d read.1 ends.before
-          (subst (λ (o : Option DrawnEntry). IfSome o (λ d. (p : Progress) (past : Past) (first : Option (List ℕ)) → t.reader ≡ Some p → Stands t (Some p) past first now → (d.setup ≡ p.head.setup) × EndsAsked t.reads t.form p.head.setup past [] d.shows d.height first then)) c.in-Some.is ended.ok)));
+          (subst (λ (o : Option DrawnEntry). IfSome o (λ d. (p : Progress) (past : Past) (first : Option (List ℕ)) → t.reader ≡ Some p → Stands t (Some p) past first now → (d.setup ≡ p.head.setup) × EndsAsked t.options t.form p.head.setup past [] d.shows d.opening.items d.height first then)) c.in-Some.is ended.ok)));
       good = subst (λ (o : Option DrawnEntry). IfSome o (λ d. checked d.setup ≡ Ok tt)) c.in-Some.is ended.good;
       end = c.in_ok-next.ensures.holds c.lines.invariant.holds (c.in_ok-next.ensures.ended c.if-branch.false);
       fault = tt;

@@ -10,7 +10,7 @@ invariant-lines g l = record {
   onwards : Onwards (g.R.Source.to_come l.fn.input) (coming l.lines.ahead (g.R.Source.to_come l.input)) l.lines.taken l.sheet (g.W.Sink.taken l.fn.output) (g.W.Sink.taken l.output);
   holds : EndHolds l.lines.ahead (g.R.Source.to_come l.input);
   form : l.sheet.form ≡ l.fn.sheet.form;
-  reads : l.sheet.reads ≡ l.fn.sheet.reads;
+  options : l.sheet.options ≡ l.fn.sheet.options;
   whole : g.R.Source.failures l.input ≡ g.R.Source.failures l.fn.input;
   wrote : g.W.Sink.failures l.output ≡ g.W.Sink.failures l.fn.output;
 }

@@ -9,10 +9,10 @@ pub returns-in-Ok : goal.returns-in-Ok
 returns-in-Ok g c =
     let all = g.R.Source.to_come c.args.input.now in
     let bytes : List ℕ = c.draw_bands.new.output.bytes.items in
-    let bands = subst (λ (l : List ℕ). IfSome all (DrawsAllBands c.args.reads (form.Picture 34) c.in-Ok.drawn (Some l) (Some bytes))) c.new-bands.ensures.bytes c.in-Ok.ensures.drawn in
-    drew_last c.args.reads (form.Picture 34) c.write_picture.result _ _
+    let bands = subst (λ (l : List ℕ). IfSome all (DrawsAllBands c.args.options (form.Picture 34) c.in-Ok.drawn (Some l) (Some bytes))) c.new-bands.ensures.bytes c.in-Ok.ensures.drawn in
+    drew_last c.args.options (form.Picture 34) c.write_picture.result _ _
     (ok_then c.write_picture.result
-    (λ ends. if_some all _ _ (λ text. of_record_then _ _ text (λ s entries numbers bands. ends c.args.reads (record { setup = s; entries = entries }) []
-    (subst (λ (l : List ℕ). DrawsBandsOf c.args.reads (form.Picture 34) c.in-Ok.drawn (Some []) (Some l) (record { setup = s; entries = entries }) []) (sym c.bytes.ensures) bands))) bands)
+    (λ ends. if_some all _ _ (λ text. of_record_then _ _ text (λ s entries numbers bands. ends c.args.options (record { setup = s; entries = entries }) []
+    (subst (λ (l : List ℕ). DrawsBandsOf c.args.options (form.Picture 34) c.in-Ok.drawn (Some []) (Some l) (record { setup = s; entries = entries }) []) (sym c.bytes.ensures) bands))) bands)
     c.write_picture.ensures.ok)
     c.in-Ok.ensures.end c.write_picture.ensures.fault (omega (arith, c.write_picture.ensures.failures))

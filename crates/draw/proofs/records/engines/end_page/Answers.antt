@@ -1,10 +1,14 @@
+use Rattle.std.proofs.Common.{ℕ, List, subst}
+use Rattle.draw.specs.{EndsPage}
 use Rattle.draw.proofs.Whole.{page_drawn}
 use Rattle.draw.proofs.Written.{ok_then}
 use Rattle.draw.proofs.records.engines.end_page.Goals as goal
 
 pub returns-clause-ok : goal.returns-clause-ok
 returns-clause-ok g c =
-    ok_then c.write_markup.result
-    (λ written reads said told first bands. page_drawn reads said told c.args.drawn.now first (g.W.Sink.taken c.args.output.now) (g.W.Sink.taken c.write_markup.new.output) c.in_ok-end.end bands
-    c.in_ok-end.ensures.back c.in_ok-end.ensures.lines c.in_ok-end.ensures.elements written)
-    c.write_markup.ensures.written
+    let a = g.W.Sink.taken c.args.output.now in
+    let b = g.W.Sink.taken c.write_page_end.new.output in
+    ok_then c.write_page_end.result
+    (λ ends options said told first bands. page_drawn options said told c.args.drawn.now first a b bands
+    (subst (λ (words : List ℕ). EndsPage words a b) c.as_slice.ensures.value ends))
+    c.write_page_end.ensures.ends

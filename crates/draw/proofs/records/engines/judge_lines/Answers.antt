@@ -15,7 +15,7 @@ lines-init g c = record {
       c.requires.ahead c.requires.ended c.requires.taken c.requires.trial (c.requires.stands (g.W.Sink.taken c.args.output.now));
   holds = none_told c.args.lines.now.ahead (g.R.Source.to_come c.args.input.now) c.requires.ended;
   form = refl;
-  reads = refl;
+  options = refl;
   whole = refl;
   wrote = refl;
 }
@@ -30,7 +30,7 @@ lines-preserved-then-not-shows g c =
           c.if-not-shows.true c.lines.invariant.judged takes c.taken-number.ensures.taken c.line-line.ensures c.in_default.ensures;
       holds = c.in_ok-next.ensures.holds c.lines.invariant.holds;
       form = c.lines.invariant.form;
-      reads = c.lines.invariant.reads;
+      options = c.lines.invariant.options;
       whole = omega (arith, c.in_ok-next.ensures.failures, c.lines.invariant.whole);
       wrote = c.lines.invariant.wrote;
     }
@@ -45,7 +45,7 @@ lines-preserved g c =
           c.if-not-shows.false c.lines.invariant.judged takes c.taken-number.ensures.taken c.line-line.ensures c.in_default.ensures c.in_ok-read.ensures.ok c.is_good-shows.ensures;
       holds = c.in_ok-next.ensures.holds c.lines.invariant.holds;
       form = c.in_ok-read.ensures.form ∙ c.lines.invariant.form;
-      reads = c.in_ok-read.ensures.reads ∙ c.lines.invariant.reads;
+      options = c.in_ok-read.ensures.options ∙ c.lines.invariant.options;
       whole = omega (arith, c.in_ok-next.ensures.failures, c.lines.invariant.whole);
       wrote = omega (arith, c.in_ok-read.ensures.failures, c.lines.invariant.wrote);
     }
@@ -58,7 +58,7 @@ returns g c =
     record {
       read = judged_read g.H.Hearer.HasHeard g.H.Judging.Keeps g.H.Judging.finds_good (g.R.Source.to_come c.args.input.now) mid c.lines.lines.taken c.next.new.self.taken _ _ c.lines.shows c.lines.sheet (g.W.Sink.taken c.args.output.now) (g.W.Sink.taken c.lines.output) c.lines.invariant.judged ends.before ends.taken;
       form = c.lines.invariant.form;
-      reads = c.lines.invariant.reads;
+      options = c.lines.invariant.options;
       end = c.in_ok-next.ensures.holds c.lines.invariant.holds (c.in_ok-next.ensures.ended c.if-branch.false);
       fault = tt;
       read_failures = omega (arith, c.in_ok-next.ensures.failures, c.lines.invariant.whole);
@@ -94,7 +94,7 @@ returns-in_err-next g c =
     record {
       read = not_ok _ e _ same;
       form = not_ok _ e _ same;
-      reads = not_ok _ e _ same;
+      options = not_ok _ e _ same;
       end = not_ok _ e _ same;
       fault = if_err c.from_residual.result e (λ (f : Fault). IsDrawFault f all) same (input_fault e all stops);
       read_failures = omega (arith, c.in_err-next.ensures.failures, c.lines.invariant.whole, reading_same c.from_residual.result e same);
@@ -113,7 +113,7 @@ returns-in-Err g c =
     record {
       read = tt;
       form = tt;
-      reads = tt;
+      options = tt;
       end = tt;
       fault = subst (λ (f : Fault). IsDrawFault f all) (sym c.here.ensures) kind;
       read_failures = subst (λ (f : Fault). g.R.Source.failures c.next.new.input ≡ g.R.Source.failures c.args.input.now + failed_reading {A = Unit {0}} (Err f)) (sym c.here.ensures) (omega (arith, c.in_ok-next.ensures.failures, c.lines.invariant.whole));
@@ -133,7 +133,7 @@ returns-in_err-read g c =
     record {
       read = not_ok _ e _ same;
       form = not_ok _ e _ same;
-      reads = not_ok _ e _ same;
+      options = not_ok _ e _ same;
       end = not_ok _ e _ same;
       fault = if_err c.from_residual-in_err-read.result e (λ (f : Fault). IsDrawFault f all) same
           (read_fault g.H.Hearer.HasHeard g.H.Judging.Keeps g.H.Judging.finds_good all mid rest c.lines.lines c.next.new.self c.taken-number.result c.line-line.result.now _ _ t (g.W.Sink.taken c.args.output.now) (g.W.Sink.taken c.lines.output) c.lines.shows e c.if-not-shows.false c.lines.invariant.judged takes c.taken-number.ensures.taken c.line-line.ensures stops);

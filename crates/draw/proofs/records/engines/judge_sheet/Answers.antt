@@ -1,7 +1,7 @@
 use Rattle.std.proofs.Common.{ℕ, IfSome, arith, subst}
 use Rattle.scenario.specs.files.{Fault}
 use Rattle.picture.specs.{Form}
-use Rattle.picture.specs.declared.reads.Reads.{Reads as Mode}
+use Rattle.picture.specs.declared.reads.PictureOptions.{PictureOptions}
 use Rattle.judge.specs.{IsOfRecord}
 use Rattle.judge.proofs.Ends.{if_err}
 use Rattle.draw.specs.{DrawnEntry, DrawsBandsOf, IsDrawFault, IsJudged}
@@ -31,9 +31,9 @@ returns g c =
     let r = c.end_judged.result in
     let read = c.in_ok-judge_lines.ensures in
     let ends = c.end_judged.ensures in
-    let drawn = λ (m : Mode) (f : Form) (answer : DrawnEntry × ℕ). IfSome all (IsOfRecord (IsJudged g.H.Judging.Keeps g.H.Hearer.Tells answer.1 (DrawsBandsOf m f answer.0 first (g.W.Sink.taken c.end_judged.new.output)))) in
+    let drawn = λ (m : PictureOptions) (f : Form) (answer : DrawnEntry × ℕ). IfSome all (IsOfRecord (IsJudged g.H.Judging.Keeps g.H.Hearer.Tells answer.1 (DrawsBandsOf m f answer.0 first (g.W.Sink.taken c.end_judged.new.output)))) in
     record {
-      drawn = if_ok_then r (λ (answer : DrawnEntry × ℕ) is. subst (λ (m : Mode). drawn m c.args.sheet.now.form answer) read.reads (subst (λ (f : Form). drawn c.judge_lines.new.sheet.reads f answer) read.form (is all first read.read))) ends.drawn;
+      drawn = if_ok_then r (λ (answer : DrawnEntry × ℕ) is. subst (λ (m : PictureOptions). drawn m c.args.sheet.now.form answer) read.options (subst (λ (f : Form). drawn c.judge_lines.new.sheet.options f answer) read.form (is all first read.read))) ends.drawn;
       good = ends.good;
       end = if_ok_then r (λ (answer : DrawnEntry × ℕ) is. read.end) ends.good;
       fault = if_err_then r (λ (f : Fault) is. is all first read.read) ends.fault;

@@ -5,9 +5,9 @@ use Rattle.draw.proofs.records.engines.judged_page.Goals as goal
 
 pub returns : goal.returns
 returns g c =
-    let reads = c.args.reads in
+    let options = c.args.options in
     let first = g.W.Sink.taken c.args.output.now in (
-      judged_all g.H.Judging.Keeps g.H.Hearer.Tells c.in_ok-drawn.status (DrawsBandsOf reads form.Page c.in_ok-drawn.drawn first (g.W.Sink.taken c.judge_bands.new.output)) (λ said told. DrawsAsked reads form.Page said told first (g.W.Sink.taken c.end_page.new.output))
-          (λ said told bands. c.in_ok-end_page.ensures.ok reads said told first bands) (g.R.Source.to_come c.args.input.now) c.in_ok-drawn.ensures.drawn,
+      judged_all g.H.Judging.Keeps g.H.Hearer.Tells c.in_ok-drawn.status (DrawsBandsOf options form.Page c.in_ok-drawn.drawn first (g.W.Sink.taken c.judge_bands.new.output)) (λ said told. DrawsAsked options form.Page said told first (g.W.Sink.taken c.end_page.new.output))
+          (λ said told bands. c.in_ok-end_page.ensures.ok options said told first bands) (g.R.Source.to_come c.args.input.now) c.in_ok-drawn.ensures.drawn,
       c.in_ok-drawn.ensures.end,
     )

@@ -8,11 +8,11 @@ use Rattle.draw.proofs.records.engines.judged_picture.Goals as goal
 pub returns-in-Ok : goal.returns-in-Ok
 returns-in-Ok g c =
     let all = g.R.Source.to_come c.args.input.now in
-    let reads = c.args.reads in
+    let options = c.args.options in
     let bytes : List ℕ = c.judge_bands.new.output.bytes.items in
-    let bands = λ (was now : List ℕ). DrawsBandsOf reads (form.Picture 34) c.in-Ok.drawn (Some was) (Some now) in
+    let bands = λ (was now : List ℕ). DrawsBandsOf options (form.Picture 34) c.in-Ok.drawn (Some was) (Some now) in
     let drawn = subst (λ (was : List ℕ). IfSome all (IsOfRecord (IsJudged g.H.Judging.Keeps g.H.Hearer.Tells c.in-Ok.status (bands was bytes)))) c.new-bands.ensures.bytes c.in-Ok.ensures.drawn in (
-      judged_all g.H.Judging.Keeps g.H.Hearer.Tells c.in-Ok.status (bands [] bytes) (λ said told. DrawsAsked reads (form.Picture 34) said told (g.W.Sink.taken c.args.output.now) (g.W.Sink.taken c.write_picture.new.output))
-          (λ said told held. c.in_ok-write_picture-in-Ok.ensures.ok reads said told (subst (λ (now : List ℕ). bands [] now said told) (sym c.bytes.ensures) held)) all drawn,
+      judged_all g.H.Judging.Keeps g.H.Hearer.Tells c.in-Ok.status (bands [] bytes) (λ said told. DrawsAsked options (form.Picture 34) said told (g.W.Sink.taken c.args.output.now) (g.W.Sink.taken c.write_picture.new.output))
+          (λ said told held. c.in_ok-write_picture-in-Ok.ensures.ok options said told (subst (λ (now : List ℕ). bands [] now said told) (sym c.bytes.ensures) held)) all drawn,
       c.in-Ok.ensures.end,
     )

@@ -8,9 +8,9 @@ use Rattle.course.specs.{CanCount, Summary}
 use Rattle.course.proofs.Onwards.{onward_numbers}
 use Rattle.course.proofs.Played.{on_fault}
 use Rattle.draw.proofs.Written.{failed_same, if_ok_both, if_ok_then}
-use Rattle.picture.specs.{Plan}
+use Rattle.picture.specs.{WindowPlan}
 use Rattle.draw.proofs.RunGiving.{number_of_first}
-use Rattle.draw.proofs.LinesDrawn.{Drawn, drawn_end, drawn_on, drawn_start}
+use Rattle.draw.proofs.LinesDrawn.{Drawn, drawn_end, drawn_on, drawn_opening, drawn_start}
 use Rattle.draw.proofs.runs.drawing.draw_lines.Goals as goal
 
 -- no count wraps in as many lines as a scenario may have
@@ -29,7 +29,7 @@ loop-line-init g c =
     let run : RunDrawing = c.args.run.now in
     let s : Setup = c.args.scenario.now.setup in
     record {
-      drawn = λ (plan : Plan) (view : AccessView) first recalls. drawn_start plan view s c.args.scenario.now.lines.items c.args.course.now run (g.W.Sink.taken c.args.output.now)
+      drawn = λ (plan : WindowPlan) (view : AccessView) first recalls. drawn_start plan view s c.args.scenario.now.lines.items c.args.course.now run (g.W.Sink.taken c.args.output.now)
           c.requires.setup c.requires.follows c.requires.tally first (number_of_first s run.drawing.source c.requires.source) recalls;
       source = omega (arith, c.requires.source);
       whole = refl;
@@ -48,7 +48,7 @@ loop-line-preserved g c =
     let a = g.W.Sink.taken c.args.output.now in
     let b = g.W.Sink.taken c.loop-line.output in
     record {
-      drawn = λ (plan : Plan) (view : AccessView) first recalls.
+      drawn = λ (plan : WindowPlan) (view : AccessView) first recalls.
           drawn_on plan view s lines (drop (k + 1) lines) here c.loop-line.course c.draw_line.new.course mid c.draw_line.new.run a b (g.W.Sink.taken c.draw_line.new.output)
           (subst (λ (rest : List Line). Drawn plan view s lines rest c.loop-line.course mid a b) next (c.loop-line.invariant.drawn plan view first recalls))
           c.in_ok-draw_line.ensures.ok c.in_ok-draw_line.ensures.source;
@@ -76,7 +76,7 @@ returns-clause-ok g c =
     if_ok_both c.end.result
     (λ answer ends is plan view first recalls.
     let d : Drawn plan view s lines [] c.loop-line.course mid a b = whole_drawn c.loop-line.line-index lines (λ rest. Drawn plan view s lines rest c.loop-line.course mid a b) (omega arith) (c.loop-line.invariant.drawn plan view first recalls) in
-    drawn_end plan view s lines c.loop-line.course mid answer.0 a b (g.W.Sink.taken c.end.new.output) answer.1 d (is ∙ onward_numbers s lines c.loop-line.course (tally mid) c.taken.result None None d.onward c.taken.ensures) ends)
+    drawn_end plan view s lines c.loop-line.course mid answer.summary a b (g.W.Sink.taken c.end.new.output) answer.height d (is ∙ onward_numbers s lines c.loop-line.course (tally mid) c.taken.result None None d.onward c.taken.ensures) ends)
     c.end.ensures.drawn c.end.ensures.summary
 
 pub returns-clause-summary : goal.returns-clause-summary
@@ -91,6 +91,19 @@ returns-clause-summary g c =
     let d : Drawn plan view s lines [] c.loop-line.course mid a b = whole_drawn c.loop-line.line-index lines (λ rest. Drawn plan view s lines rest c.loop-line.course mid a b) (omega arith) (c.loop-line.invariant.drawn plan view first recalls) in
     is ∙ onward_numbers s lines c.loop-line.course (tally mid) c.taken.result None None d.onward c.taken.ensures)
     c.end.ensures.summary
+
+pub returns-clause-opening : goal.returns-clause-opening
+returns-clause-opening g c =
+    let s : Setup = c.args.scenario.now.setup in
+    let lines : List Line = c.args.scenario.now.lines.items in
+    let mid : RunDrawing = c.loop-line.run in
+    let a = g.W.Sink.taken c.args.output.now in
+    let b = g.W.Sink.taken c.loop-line.output in
+    if_ok_then c.end.result
+    (λ answer opens plan view first recalls.
+    let d : Drawn plan view s lines [] c.loop-line.course mid a b = whole_drawn c.loop-line.line-index lines (λ rest. Drawn plan view s lines rest c.loop-line.course mid a b) (omega arith) (c.loop-line.invariant.drawn plan view first recalls) in
+    drawn_opening plan view s lines c.loop-line.course mid answer.opening.items a b d opens)
+    c.end.ensures.opening
 
 pub returns-clause-failures : goal.returns-clause-failures
 returns-clause-failures g c = omega (arith, c.end.ensures.failures, c.loop-line.invariant.whole)

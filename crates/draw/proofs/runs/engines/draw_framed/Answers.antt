@@ -6,6 +6,6 @@ returns-clause-ok g c = record {
   drawn = g.W.Sink.taken c.draw_bands.new.output;
   height = _;
   first = c.in_ok-write_markup.ensures.written;
-  bands = c.in_ok-summary.ensures.ok;
+  bands = c.in_ok-drawn.ensures.ok;
   last = c.in_ok-write_markup-2.ensures.written;
 }

@@ -18,7 +18,7 @@ returns-in_ok-take-clause-ok g c =
     let left : Some c.forget_entry.new.self ≡ cleared (Some now) = ap (λ (p : Progress). Some p) c.forget_entry.ensures in
     let says : now.entry ≡ Some e = c.in-Some-last_entry.ensures in
     let read : words_read record_grammar (words_of c.args.line.now) old.reader ≡ Ok (Some now) = c.in-Ok.ensures ∙ ap (λ (o : Option Progress). Ok o) c.in-Some.is in
-    let draws = subst (λ (s : Setup). (past : Past) (first : Option (List ℕ)) → DrawsPast old.reads old.form old.entries s past first (g.W.Sink.taken c.args.output.now) → DrawsPast old.reads old.form t.entries s (e ∷ past) first (g.W.Sink.taken c.take.new.output)) c.setup.ensures.value c.in_ok-take.ensures.drawn in
+    let draws = subst (λ (s : Setup). (past : Past) (first : Option (List ℕ)) → DrawsPast old.options old.form old.entries s past first (g.W.Sink.taken c.args.output.now) → DrawsPast old.options old.form t.entries s (e ∷ past) first (g.W.Sink.taken c.take.new.output)) c.setup.ensures.value c.in_ok-take.ensures.drawn in
     λ before past first stands. ends_drawn c.args.line.now before now e old t past first _ _ c.requires.short stands read says left refl refl draws
 
 pub returns-in_default-last_entry-clause-ok : goal.returns-in_default-last_entry-clause-ok

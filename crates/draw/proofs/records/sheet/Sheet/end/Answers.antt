@@ -13,7 +13,7 @@ returns-clause-ok g c = λ p past first some stands.
     let bands = c.in_ok-bands.bands in
     let first_setup : c.setup.result.now ≡ p.head.setup = c.setup.ensures.value ∙ ap (λ (q : Progress). q.head.setup) same in (
       c.setup-2.ensures.value ∙ ap (λ (q : Progress). q.head.setup) same,
-      subst (λ (s : Setup). EndsAsked t.reads t.form s past c.args.told.now bands.shows bands.height first (g.W.Sink.taken c.end.new.output)) first_setup
-          (c.in_ok-bands.ensures.drawn past first (subst (λ (s : Setup). DrawsPast t.reads t.form t.entries s past first (g.W.Sink.taken c.args.output.now)) (sym first_setup)
-          (draws_of t.reads t.form t.entries.drawing t.entries.stored.items p past first (g.W.Sink.taken c.args.output.now) stands.draws))),
+      subst (λ (s : Setup). EndsAsked t.options t.form s past c.args.told.now bands.shows bands.opening.items bands.height first (g.W.Sink.taken c.end.new.output)) first_setup
+          (c.in_ok-bands.ensures.drawn past first (subst (λ (s : Setup). DrawsPast t.options t.form t.entries s past first (g.W.Sink.taken c.args.output.now)) (sym first_setup)
+          (draws_of t.options t.form t.entries.drawing t.entries.stored.items p past first (g.W.Sink.taken c.args.output.now) stands.draws))),
     )

@@ -7,6 +7,6 @@ pub returns-clause-stands : goal.returns-clause-stands
 returns-clause-stands c = λ taken. record {
   reader = refl;
   clear = refl;
-  draws = subst (λ (o : Option RecordDrawing). AreReadBy o c.new.result.stored.items c.args.reads c.args.form None [] taken taken) (sym c.new.ensures.drawing)
-      (none_stored c.args.reads c.new.result.stored.items taken c.new.ensures.stored);
+  draws = subst (λ (o : Option RecordDrawing). AreReadBy o c.new.result.stored.items c.args.options c.args.form None [] taken taken) (sym c.new.ensures.drawing)
+      (none_stored c.args.options c.new.result.stored.items taken c.new.ensures.stored);
 }

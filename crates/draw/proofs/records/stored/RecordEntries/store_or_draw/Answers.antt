@@ -1,14 +1,14 @@
 use Rattle.std.proofs.Common.{◌≡◌, ◌<◌, ◌≤◌, ◌∷◌, ℕ, List, Option, arith, length, reverse, subst, sym}
 use Rattle.std.proofs.lemmas.List.{length-reverse}
 use Rattle.record.specs.{Entry}
-use Rattle.draw.specs.{AreShownBy, IsDrawn, RecordDrawing, AccessView, full_view, most_stored}
+use Rattle.draw.specs.{AreShownBy, IsDrawn, RecordDrawing, AccessView, long_view, most_stored}
 use Rattle.draw.proofs.Sheeted.{drawn_as_many}
 use Rattle.draw.proofs.Stored.{many_drawn, stored_on}
 use Rattle.draw.proofs.records.stored.RecordEntries.store_or_draw.Goals as goal
 
 pub draw_entry-requires-clause-room : goal.draw_entry-requires-clause-room
 draw_entry-requires-clause-room g c =
-    let many = drawn_as_many c.full-view.result c.args.around.form c.args.setup.now (reverse c.deref.result.now) c.in_ok-drawing.drawing _ _ c.in_ok-drawing.ensures.drawn in
+    let many = drawn_as_many c.long-view.result c.args.around.form c.args.setup.now (reverse c.deref.result.now) c.in_ok-drawing.drawing _ _ c.in_ok-drawing.ensures.drawn in
     let long = length-reverse c.deref.result.now in
     omega (arith, many, long)
 
@@ -33,6 +33,6 @@ returns-clause-drawn g c = λ past first are.
     let b = g.W.Sink.taken c.draw_entry.new.output in
     let d = c.in_ok-drawing.drawing in
     let many : most_stored around.asked ≤ length stored = omega (arith, c.if-len-most.false, c.most.ensures) in
-    let drawn = subst (λ (v : AccessView). IsDrawn v around.form s (reverse c.deref.result.now) d a mid) c.full-view.ensures c.in_ok-drawing.ensures.drawn in
+    let drawn = subst (λ (v : AccessView). IsDrawn v around.form s (reverse c.deref.result.now) d a mid) c.long-view.ensures c.in_ok-drawing.ensures.drawn in
     many_drawn around.asked around.form s past stored c.args.entry.now d c.draw_entry.new.self first a mid b are many
-    (subst (λ (l : List Entry). IsDrawn (full_view around.asked) around.form s (reverse l) d a mid) c.deref.ensures.value drawn) c.in_ok-draw_entry.ensures.drawn c.draw_entry.ensures.source
+    (subst (λ (l : List Entry). IsDrawn (long_view around.asked) around.form s (reverse l) d a mid) c.deref.ensures.value drawn) c.in_ok-draw_entry.ensures.drawn c.draw_entry.ensures.source
