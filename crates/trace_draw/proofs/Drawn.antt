@@ -2,17 +2,18 @@
 use Rattle.std.proofs.Common.{◌≡◌, ℕ, ◌+◌, List, [], ◌∷◌, ◌++◌, length, map, reverse, Option, Some, None, ap, sym, subst, ◌∙◌, arith}
 use Rattle.std.proofs.lemmas.List.{length-reverse}
 use Rattle.std.specs.Io.KnownBytes.{Appends}
-use Rattle.draw.specs.{Canvas, DrawsBands, DrawsLast, DrawsLines, DrawsOn, Gives, GivesLine, IsAround, Kept, SaysLockEnd, Writes, given, kept, kept_at_first, texts_given, trace_plan}
+use Rattle.draw.specs.{Canvas, DrawsBands, DrawsLast, DrawsLines, DrawsOn, Gives, GivesLine, IsAround, Kept, SaysLockEnd, Writes, given, kept, kept_at_first, texts_shown, trace_plan}
 use Rattle.draw.proofs.Drawn.{IsWhole, draws_bands, draws_on_both, draws_on_none, framed}
 use Rattle.draw.proofs.Whole.{held_are}
 use Rattle.picture.specs.{Form, Item, bands_told, page_names, picture_names, trace_page_back, trace_picture_back, trace_picture_front}
 use Rattle.picture.specs.declared.page.Form.TheVariants as form
+use Rattle.picture.specs.declared.reads.PictureOptions.{PictureOptions}
 use Rattle.picture.specs.declared.reads.Reads.{Reads}
 use Rattle.picture.specs.markup.{lines_in, opens_in}
 use Rattle.trace.specs.{TraceEntry, TracePast, TraceSetup}
 use Rattle.trace_accesses.specs.{WaveLimit}
-use Rattle.trace_draw.specs.{AccessChoice, ComesAfter, DrawnBands, DrawnTrace, DrawsEntry, DrawsTraceSaid, EndsBands, EndsTrace, Heads, IsDrawn, TraceDrawing, Watches, given_access_of, given_entry, given_last, given_past, limit_of, says_entry, source_of, trace_gives, trace_picture_of, view_of}
-use Rattle.trace_draw.proofs.Giving.{texts_of_trace}
+use Rattle.trace_draw.specs.{ComesAfter, DrawnBands, DrawnTrace, DrawsEntry, DrawsTraceSaid, EndsBands, EndsTrace, Heads, IsDrawn, TraceDrawing, Watches, given_access_of, given_entry, given_last, given_past, limit_of, says_entry, shown_lines, source_of, trace_gives, trace_picture_of, view_of}
+use Rattle.trace_draw.proofs.Giving.{all_shown, texts_of_trace}
 use Rattle.trace_draw.proofs.Hiding.{last_on, lines_on}
 
 -- a canvas that changed twice, and nothing else
@@ -48,9 +49,9 @@ entry_drawn had mid marked has a b c e access marks rest counts = λ mode limit 
       },
     )
 
-module _ (form : Form) (mode : Reads) (limit : WaveLimit) (s : TraceSetup) where
+module _ (form : Form) (options : PictureOptions) (mode : Reads) (s : TraceSetup) where
   -- none yet
-  pub drawn_first : (d : TraceDrawing) (old new : Option (List ℕ)) → kept d.canvas ≡ kept_at_first (trace_plan form s.processes) → ComesAfter mode limit s [] d → Heads form mode s old new → IsDrawn form mode limit s [] d old new
+  pub drawn_first : (d : TraceDrawing) (old new : Option (List ℕ)) → kept d.canvas ≡ kept_at_first (trace_plan form s.processes options.window) → ComesAfter mode (limit_of options) s [] d → Heads form mode s old new → IsDrawn form options mode s [] d old new
   drawn_first d old new page after heads = record {
     after = after;
     mid = new;
@@ -59,86 +60,91 @@ module _ (form : Form) (mode : Reads) (limit : WaveLimit) (s : TraceSetup) where
   }
 
   -- an entry more
-  pub drawn_entry : (past : TracePast) (e : TraceEntry) (d d' : TraceDrawing) (old mid new : Option (List ℕ)) → IsDrawn form mode limit s past d old mid → DrawsEntry d d' mid new e → IsDrawn form mode limit s (e ∷ past) d' old new
+  pub drawn_entry : (past : TracePast) (e : TraceEntry) (d d' : TraceDrawing) (old mid new : Option (List ℕ)) → IsDrawn form options mode s past d old mid → DrawsEntry d d' mid new e → IsDrawn form options mode s (e ∷ past) d' old new
   drawn_entry past e d d' old mid new is on =
-      let drew = on mode limit s past is.after in
+      let drew = on mode (limit_of options) s past is.after in
       record {
         after = drew.1;
         mid = is.mid;
         heads = is.heads;
-        drawn = draws_on_both (kept_at_first (trace_plan form s.processes)) (kept d.canvas) (kept d'.canvas) is.mid mid new (given_past mode limit s past) (given_entry mode limit s past e) is.drawn drew.0;
+        drawn = draws_on_both (kept_at_first (trace_plan form s.processes options.window)) (kept d.canvas) (kept d'.canvas) is.mid mid new (given_past mode (limit_of options) s past) (given_entry mode (limit_of options) s past e) is.drawn drew.0;
       }
 
 -- all
-pub drawn_end : (form : Form) (asked : AccessChoice) (mode : Reads) (s : TraceSetup) (past : TracePast) (told : List ℕ) (d : TraceDrawing) (bands : DrawnBands) (old mid new : Option (List ℕ)) → IsDrawn form mode (limit_of asked) s past d old mid → mode ≡ view_of asked (length past) → bands.shows ≡ d.shows →
-    DrawsLast d.canvas mid new (source_of s + 1) d.entries told (SaysLockEnd d.entries) bands.height → EndsBands form asked bands s past told old new
-drawn_end form asked mode s past told d bands old mid new is decided same last =
+pub drawn_end : (form : Form) (options : PictureOptions) (mode : Reads) (s : TraceSetup) (past : TracePast) (told : List ℕ) (d : TraceDrawing) (bands : DrawnBands) (old mid new : Option (List ℕ)) → IsDrawn form options mode s past d old mid → mode ≡ view_of options (length past) → bands.shows ≡ d.shows →
+    DrawsLast d.canvas mid new (source_of s + 1) d.entries told (SaysLockEnd d.entries) bands.height → EndsBands form options bands s past told old new
+drawn_end form options mode s past told d bands old mid new is decided same last =
     let view : mode ≡ bands.shows = sym (same ∙ is.after.view) in
     let counted = subst (λ n. DrawsLast d.canvas mid new (source_of s + 1) n told (SaysLockEnd n) bands.height) is.after.count last in
-    let all = draws_bands (trace_plan form s.processes) (kept d.canvas) is.mid mid new (given_past mode (limit_of asked) s past) (given_last s told (length past)) bands.height
+    let all = draws_bands (trace_plan form s.processes options.window) (kept d.canvas) is.mid mid new (given_past mode (limit_of options) s past) (given_last s told (length past)) bands.height
     is.drawn (last_on d.canvas mid new (source_of s + 1) (length past) is.after.hides told (SaysLockEnd (length past)) bands.height counted) in
     record {
       view = sym view ∙ decided;
       mid = is.mid;
       heads = subst (λ (r : Reads). Heads form r s old is.mid) view is.heads;
-      drawn = subst (λ (r : Reads). DrawsBands (trace_plan form s.processes) is.mid new (given_past r (limit_of asked) s past ++ given_last s told (length past)) bands.height) view all;
+      drawn = subst (λ (r : Reads). DrawsBands (trace_plan form s.processes options.window) is.mid new (given_past r (limit_of options) s past ++ given_last s told (length past)) bands.height) view all;
     }
 
 -- The end.
 
-module _ (asked : AccessChoice) (s : TraceSetup) (entries : List TraceEntry) (told : List ℕ) (bands : DrawnBands) where
+module _ (options : PictureOptions) (s : TraceSetup) (entries : List TraceEntry) (told : List ℕ) (bands : DrawnBands) where
   -- what is shown, by the number of entries
-  view_is : bands.shows ≡ view_of asked (length (reverse entries)) → bands.shows ≡ view_of asked (length entries)
-  view_is view = view ∙ ap (view_of asked) (length-reverse entries)
+  view_is : bands.shows ≡ view_of options (length (reverse entries)) → bands.shows ≡ view_of options (length entries)
+  view_is view = view ∙ ap (view_of options) (length-reverse entries)
 
   -- the items of all bands
   abbrev band_gives : List Gives
-  band_gives = given_past bands.shows (limit_of asked) s (reverse entries) ++ given_last s told (length (reverse entries))
+  band_gives = given_past bands.shows (limit_of options) s (reverse entries) ++ given_last s told (length (reverse entries))
 
-  gives_are : bands.shows ≡ view_of asked (length (reverse entries)) → band_gives ≡ trace_gives asked s entries told
-  gives_are view = λ i. given_past (view_is view i) (limit_of asked) s (reverse entries) ++ given_last s told (length-reverse entries i)
+  gives_are : bands.shows ≡ view_of options (length (reverse entries)) → band_gives ≡ trace_gives options s entries told
+  gives_are view = λ i. given_past (view_is view i) (limit_of options) s (reverse entries) ++ given_last s told (length-reverse entries i)
+
+  -- and their lines in the window
+  texts : bands.shows ≡ view_of options (length (reverse entries)) → {lines : List (List ℕ)} → lines ≡ texts_shown options.window band_gives → lines ≡ shown_lines options.window entries told
+  texts view is = is ∙ ap (texts_shown options.window) (gives_are view) ∙ texts_of_trace options.window options s entries told
 
   -- what is whole is what was said
-  said_whole : (form : Form) (a d : Option (List ℕ)) (markup : List ℕ) (items : List Item) → bands.shows ≡ view_of asked (length (reverse entries)) → given items ≡ band_gives → IsWhole a d markup band_gives → markup ≡ trace_picture_of form bands.shows s items → DrawsTraceSaid form asked s entries told a d
+  said_whole : (form : Form) (a d : Option (List ℕ)) (markup : List ℕ) (items : List Item) → bands.shows ≡ view_of options (length (reverse entries)) → given items ≡ band_gives → IsWhole options.window a d markup band_gives → markup ≡ trace_picture_of form options.window bands.shows s items → DrawsTraceSaid form options s entries told a d
   said_whole form a d markup items view are whole is = record {
     markup = markup;
     items = items;
     are = are ∙ gives_are view;
-    is = is ∙ ap (λ (r : Reads). trace_picture_of form r s items) (view_is view);
+    is = is ∙ ap (λ (r : Reads). trace_picture_of form options.window r s items) (view_is view);
     elements = whole.0;
-    read_back = whole.1 ∙ ap texts_given (gives_are view) ∙ texts_of_trace asked s entries told;
+    read_back = texts view whole.1;
+    all_read_back = λ all. texts view whole.1 ∙ all_shown options.window entries told all;
     writes = whole.2;
   }
 
 -- a page
-pub page_whole : (asked : AccessChoice) (s : TraceSetup) (entries : List TraceEntry) (told : List ℕ) (drawn : DrawnTrace) (a b c : Option (List ℕ)) (ending : List ℕ) → EndsTrace form.Page asked drawn s entries told a b → ending ≡ trace_page_back → lines_in ending ≡ [] → opens_in ending (Some page_names) ≡ Some [] → Writes b c ending →
-    DrawsTraceSaid form.Page asked s entries told a c
-page_whole asked s entries told drawn a b c ending ends back no_ending end last =
+pub page_whole : (options : PictureOptions) (s : TraceSetup) (entries : List TraceEntry) (told : List ℕ) (drawn : DrawnTrace) (a b c : Option (List ℕ)) (ending : List ℕ) → EndsTrace form.Page options drawn s entries told a b → ending ≡ trace_page_back → lines_in ending ≡ [] → opens_in ending (Some page_names) ≡ Some [] → Writes b c ending →
+    DrawsTraceSaid form.Page options s entries told a c
+page_whole options s entries told drawn a b c ending ends back no_ending end last =
     let all = ends.ends in
     let h = all.heads in
-    let plan = trace_plan form.Page s.processes in
+    let plan = trace_plan form.Page s.processes options.window in
     let items : List Item = all.drawn.items in
-    let is : (h.head ++ bands_told plan items) ++ ending ≡ trace_picture_of form.Page drawn.bands.shows s items =
+    let is : (h.head ++ bands_told plan items) ++ ending ≡ trace_picture_of form.Page options.window drawn.bands.shows s items =
     λ i. (h.is i ++ bands_told plan items) ++ back i in
-    said_whole asked s entries told drawn.bands form.Page a c _ items all.view all.drawn.are
-    (framed plan a all.mid b c h.head ending page_names (band_gives asked s entries told drawn.bands) drawn.bands.height (record { no_head = h.lines; begins = h.opens; no_end = no_ending; ends = end }) h.writes all.drawn last) is
+    said_whole options s entries told drawn.bands form.Page a c _ items all.view all.drawn.are
+    (framed plan a all.mid b c h.head ending page_names (band_gives options s entries told drawn.bands) drawn.bands.height (record { no_head = h.lines; begins = h.opens; no_end = no_ending; ends = end }) h.writes all.drawn last) is
 
 -- one picture
-pub picture_whole : (asked : AccessChoice) (s : TraceSetup) (entries : List TraceEntry) (told : List ℕ) (drawn : DrawnTrace) (bytes : List ℕ) (a b c d : Option (List ℕ)) (head ending : List ℕ) → EndsTrace (form.Picture 34) asked drawn s entries told (Some []) (Some bytes) →
-    head ≡ trace_picture_front drawn.title.items drawn.bands.height drawn.bands.shows → ending ≡ trace_picture_back drawn.bands.height drawn.bands.shows → IsAround picture_names head ending → Writes a b head → Appends b c bytes → Writes c d ending → DrawsTraceSaid (form.Picture 34) asked s entries told a d
-picture_whole asked s entries told drawn bytes a b c d head ending ends front back around first mid last =
+pub picture_whole : (options : PictureOptions) (s : TraceSetup) (entries : List TraceEntry) (told : List ℕ) (drawn : DrawnTrace) (bytes : List ℕ) (a b c d : Option (List ℕ)) (head ending : List ℕ) → EndsTrace (form.Picture 34) options drawn s entries told (Some []) (Some bytes) →
+    head ≡ trace_picture_front drawn.title.items drawn.bands.height drawn.bands.shows → ending ≡ trace_picture_back drawn.bands.height drawn.bands.shows → IsAround picture_names head ending → Writes a b head → Appends b c bytes → Writes c d ending → DrawsTraceSaid (form.Picture 34) options s entries told a d
+picture_whole options s entries told drawn bytes a b c d head ending ends front back around first mid last =
     let all = ends.ends in
     let o = all.drawn in
     let mode = drawn.bands.shows in
-    let plan = trace_plan (form.Picture 34) s.processes in
+    let plan = trace_plan (form.Picture 34) s.processes options.window in
     let same : bytes ≡ bands_told plan o.items = held_are bytes (bands_told plan o.items) (subst (λ (m : Option (List ℕ)). Appends m (Some bytes) (bands_told plan o.items)) all.heads o.draws.writes.taken) in
-    let again : DrawsBands plan b c (band_gives asked s entries told drawn.bands) drawn.bands.height = record {
+    let again : DrawsBands plan b c (band_gives options s entries told drawn.bands) drawn.bands.height = record {
       items = o.items;
       are = o.are;
       draws = record { ended = o.draws.ended; read_back = o.draws.read_back; writes = record { rests = o.draws.writes.rests; taken = subst (λ l. Appends b c l) same mid } };
       heights = o.heights;
     } in
-    let is : (head ++ bands_told plan o.items) ++ ending ≡ trace_picture_of (form.Picture 34) mode s o.items =
+    let is : (head ++ bands_told plan o.items) ++ ending ≡ trace_picture_of (form.Picture 34) options.window mode s o.items =
     λ i. ((front ∙ (λ j. trace_picture_front (ends.title j) (o.heights j) mode)) i ++ bands_told plan o.items) ++ (back ∙ ap (λ h. trace_picture_back h mode) o.heights) i in
-    said_whole asked s entries told drawn.bands (form.Picture 34) a d _ o.items all.view o.are
-    (framed plan a b c d head ending picture_names (band_gives asked s entries told drawn.bands) drawn.bands.height around first again last) is
+    said_whole options s entries told drawn.bands (form.Picture 34) a d _ o.items all.view o.are
+    (framed plan a b c d head ending picture_names (band_gives options s entries told drawn.bands) drawn.bands.height around first again last) is

@@ -120,7 +120,7 @@ module _ (view : TraceView) where
       let v = u.onwards in
       let before : v.before ≡ Some p = sym v.read_up_to.read ∙ is in
       let stands = subst (λ (o : Option TraceProgress). Stands view reader picture first now o v.entries v.numbers) before (stands_at to_come mid taken reader picture first now u) in
-      onwards_all (HasShown view first) (IsTold view.judged (λ s shown told. EndsTrace view.form view.accesses d s shown told first then) d.status) to_come mid taken reader (with_output now picture) v p before (ends first p v.entries v.numbers stands) end
+      onwards_all (HasShown view first) (IsTold view.judged (λ s shown told. EndsTrace view.form view.options d s shown told first then) d.status) to_come mid taken reader (with_output now picture) v p before (ends first p v.entries v.numbers stands) end
 
 -- a fault of what the input says is told as such
 pub input_fault : (e : Fault) (to_come : Option (List ℕ)) → IsTraceFault e to_come → IsDrawFault e to_come

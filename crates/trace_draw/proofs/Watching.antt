@@ -1,16 +1,16 @@
 -- Accesses that are watched, and the decision whether they are shown.
-use Rattle.std.proofs.Common.{◌≡◌, ◌≤◌, ◌<◌, ℕ, suc, cond, [], ◌∷◌, length, Option, Some, None, option_map, refl, ap, sym, ◌∙◌, arith}
+use Rattle.std.proofs.Common.{◌≡◌, ◌≤◌, ◌<◌, ◌+◌, ◌||◌, ℕ, suc, true, false, cond, nat_le, [], ◌∷◌, length, Option, Some, None, option_map, refl, ap, sym, subst, ◌∙◌, arith}
 use Rattle.std.proofs.lemmas.Bool.{le-leb, lt-leb}
 use Rattle.std.proofs.lemmas.List.{length-map}
 use Rattle.draw.specs.{GivesAccess}
 use Rattle.picture.specs.columns.{GivenAccess, given_access}
 use Rattle.picture.specs.columns.declared.accesses.ShownAccess.{ShownAccess}
+use Rattle.picture.specs.declared.reads.PictureOptions.{PictureOptions}
 use Rattle.picture.specs.declared.reads.Reads.{Reads}
 use Rattle.picture.specs.declared.reads.Reads.TheVariants as reads
 use Rattle.trace.specs.{TraceEntry, TracePast, TraceSetup}
 use Rattle.trace_accesses.specs.{HasWatched, WatchState, WaveLimit, possible}
-use Rattle.trace_draw.specs.{AccessChoice, ComesAfter, IsDecided, TraceDrawing, Watches, drawn_count, given_access_of, gives_access, view_of, watched}
-use Rattle.trace_draw.specs.declared.views.AccessChoice.TheVariants as accesses
+use Rattle.trace_draw.specs.{ComesAfter, IsDecided, TraceDrawing, Watches, drawn_count, given_access_of, gives_access, shows_all, view_of, watched}
 
 module _ (mode : Reads) (limit : WaveLimit) (s : TraceSetup) (past : TracePast) where
   -- where none is watched, none is shown
@@ -61,16 +61,38 @@ gives_none o shown none is = ap gives_access (sym (ap (option_map given_access) 
 pub gives_some : (o : Option ShownAccess) (access : ShownAccess) (shown : Option GivenAccess) → o ≡ Some access → option_map given_access o ≡ shown → GivesAccess (given_access access) ∷ [] ≡ gives_access shown
 gives_some o access shown some is = ap gives_access (sym (ap (option_map given_access) some) ∙ is)
 
+-- the view of a number of entries, where all accesses are shown anyway
+all_anyway : (options : PictureOptions) (n : ℕ) → shows_all options ≡ true → view_of options n ≡ reads.All
+all_anyway options n is = ap (λ b. cond (b || nat_le n 400) reads.All reads.Hidden) is
+
+-- and where the number decides
+module _ (options : PictureOptions) (n : ℕ) (undecided : shows_all options ≡ false) where
+  by_number : view_of options n ≡ cond (nat_le n 400) reads.All reads.Hidden
+  by_number = ap (λ b. cond (b || nat_le n 400) reads.All reads.Hidden) undecided
+
+  -- a picture of few entries shows all accesses
+  pub short_view : n ≤ 400 → reads.All ≡ view_of options n
+  short_view few = sym (by_number ∙ ap (λ b. cond b reads.All reads.Hidden) (le-leb n 400 few))
+
+  -- one of many entries shows none
+  long_view : 400 < n → view_of options n ≡ reads.Hidden
+  long_view many = by_number ∙ ap (λ b. cond b reads.All reads.Hidden) (lt-leb n 400 many)
+
+-- so it is decided
+pub decided_all : (options : PictureOptions) (n : ℕ) → shows_all options ≡ true → IsDecided options reads.All n
+decided_all options n is = λ more. all_anyway options (n + more) is
+
+pub decided_long : (options : PictureOptions) (n : ℕ) → shows_all options ≡ false → 400 < n → IsDecided options reads.Hidden n
+decided_long options n undecided many = λ more. long_view options (n + more) undecided (omega (arith, many))
+
 -- what is decided is the view of all entries
-pub decided_view : (asked : AccessChoice) (mode : Reads) (n : ℕ) → IsDecided asked mode n → mode ≡ view_of asked n
-decided_view accesses.All mode n decided = decided
-decided_view accesses.IfShort mode n decided = decided.0 ∙ sym (ap (λ b. cond b reads.All reads.Hidden) (lt-leb n 400 decided.1))
+pub decided_view : (options : PictureOptions) (mode : Reads) (n : ℕ) → IsDecided options mode n → mode ≡ view_of options n
+decided_view options mode n decided =
+    let none : n + 0 ≡ n = omega arith in
+    sym (subst (λ k. view_of options k ≡ mode) none (decided 0))
 
 -- and stays
-pub decided_later : (asked : AccessChoice) (mode : Reads) (n : ℕ) → IsDecided asked mode n → IsDecided asked mode (suc n)
-decided_later accesses.All mode n decided = decided
-decided_later accesses.IfShort mode n decided = (decided.0, let many : 400 < n = decided.1 in omega (arith, many))
-
--- a picture that is short mode all accesses
-pub short_view : (asked : AccessChoice) (n : ℕ) → asked ≡ accesses.IfShort → n ≤ 400 → reads.All ≡ view_of asked n
-short_view asked n is few = sym (ap (λ a. view_of a n) is ∙ ap (λ b. cond b reads.All reads.Hidden) (le-leb n 400 few))
+pub decided_later : (options : PictureOptions) (mode : Reads) (n : ℕ) → IsDecided options mode n → IsDecided options mode (suc n)
+decided_later options mode n decided = λ more.
+    let same : n + suc more ≡ suc n + more = omega arith in
+    subst (λ k. view_of options k ≡ mode) same (decided (suc more))

@@ -1,8 +1,10 @@
 -- The items of a trace's picture: the accesses of its entries if they are shown, a line for each mark, a judge's lines, and a last line.
 use Rattle.std.specs.Prelude.{ℕ, ◌+◌, Bool, true, false, List, [], ◌∷◌, ◌++◌, length, map, reverse, take, Option, None, Some}
 use Rattle.draw.specs.{Gives, GivesAccess, GivesLine, Says, SaysLockEnd, SaysLockMark, end_given}
+use Rattle.picture.specs.{Window, lines_if, shows_end, shows_entry}
 use Rattle.picture.specs.columns.{GivenAccess, lock_ended_text, lock_marked_text}
 use Rattle.picture.specs.shown_verdict.{judged_text, report_lines}
+use Rattle.picture.specs.declared.reads.PictureOptions.{PictureOptions}
 use Rattle.picture.specs.declared.reads.Reads.{Reads}
 use Rattle.picture.specs.declared.reads.Reads.TheVariants as reads
 use Rattle.trace.specs.{TraceEntry, TracePast, TraceSetup}
@@ -11,7 +13,6 @@ use Rattle.trace_engine.specs.trace_judge.{TraceVerdict, verdict_of}
 use Rattle.trace_engine.specs.trace_judge.declared.verdicts.TraceVerdict.TheVariants.{Good, Bad}
 use Rattle.trace_draw.specs.Headings.{source_of}
 use Rattle.trace_draw.specs.Views.{limit_of, view_of}
-use Rattle.trace_draw.specs.declared.views.AccessChoice.{AccessChoice}
 
 -- the entries that are shown by a verdict: all, or those up to the bad one
 abbrev pub shown_by : TraceVerdict → List TraceEntry → List TraceEntry
@@ -51,17 +52,40 @@ abbrev pub given_last : TraceSetup → List ℕ → ℕ → List Gives
 given_last s told n = end_given reads.Hidden (source_of s + 1) n [] told (SaysLockEnd n)
 
 -- all items of a trace of which these entries are shown, and of which a judge tells this
-abbrev pub trace_gives : AccessChoice → TraceSetup → List TraceEntry → List ℕ → List Gives
-trace_gives asked s entries told =
-    given_past (view_of asked (length entries)) (limit_of asked) s (reverse entries) ++ given_last s told (length entries)
+abbrev pub trace_gives : PictureOptions → TraceSetup → List TraceEntry → List ℕ → List Gives
+trace_gives options s entries told =
+    given_past (view_of options (length entries)) (limit_of options) s (reverse entries)
+    ++ given_last s told (length entries)
 
 -- The lines, without their ends. An access is not a line.
+
+-- those of the marks of an entry with this number
+abbrev pub lines_of_marks : ℕ → TraceEntry → List (List ℕ)
+lines_of_marks n e = map (lock_marked_text n e.process) e.marks
 
 -- those of the marks of entries, the first of which has this number
 abbrev pub mark_lines : ℕ → List TraceEntry → List (List ℕ)
 mark_lines n [] = []
-mark_lines n (e ∷ entries) = map (lock_marked_text n e.process) e.marks ++ mark_lines (n + 1) entries
+mark_lines n (e ∷ entries) = lines_of_marks n e ++ mark_lines (n + 1) entries
+
+-- those of the end of a trace of n entries
+abbrev pub end_lines : ℕ → List ℕ → List (List ℕ)
+end_lines n told = map judged_text (report_lines told) ++ lock_ended_text n ∷ []
 
 -- all
 abbrev pub trace_lines : List TraceEntry → List ℕ → List (List ℕ)
-trace_lines entries told = mark_lines 0 entries ++ (map judged_text (report_lines told) ++ lock_ended_text (length entries) ∷ [])
+trace_lines entries told = mark_lines 0 entries ++ end_lines (length entries) told
+
+-- The lines in a window.
+
+-- those of the marks of entries in it, the first of which has this number
+abbrev pub shown_mark_lines : Window → ℕ → List TraceEntry → List (List ℕ)
+shown_mark_lines w n [] = []
+shown_mark_lines w n (e ∷ entries) =
+    lines_if (shows_entry w n) (lines_of_marks n e) ++ shown_mark_lines w (n + 1) entries
+
+-- all in it
+abbrev pub shown_lines : Window → List TraceEntry → List ℕ → List (List ℕ)
+shown_lines w entries told =
+    shown_mark_lines w 0 entries
+    ++ lines_if (shows_end w (length entries)) (end_lines (length entries) told)

@@ -6,13 +6,13 @@ use Rattle.files.specs.{Fault, UnlessMemory}
 use Rattle.files.specs.declared.faults.Fault.TheVariants as fault
 use Rattle.draw.specs.{LeavesNone}
 use Rattle.picture.specs.{Form}
+use Rattle.picture.specs.declared.reads.PictureOptions.{PictureOptions}
 use Rattle.trace.specs.{TraceEntry}
 use Rattle.trace_engine.specs.trace_file.TraceFiles.{TraceProgress, trace_said}
 use Rattle.trace_engine.specs.{GoesOn, IsOfTrace, IsReadUpTo}
 use Rattle.trace_draw.specs.Showing.{DrawsTraceSaid, EndsTrace, HasShown, IsTold, SoFar}
 use Rattle.trace_draw.specs.declared.pictures.DrawnTrace.{DrawnTrace}
 use Rattle.trace_draw.specs.declared.pictures.TracePicture.{TracePicture}
-use Rattle.trace_draw.specs.declared.views.AccessChoice.{AccessChoice}
 use Rattle.trace_draw.specs.declared.views.TraceView.{TraceView}
 
 -- a picture, if there is one, with what its output has taken
@@ -44,15 +44,17 @@ module _ (view : TraceView) where
   abbrev pub EndsSheet : DrawnTrace → (reader : Option TraceProgress) (picture : Option TracePicture) (now then : Option (List ℕ)) → Type 0
   EndsSheet drawn reader picture now then =
       (first : Option (List ℕ)) (p : TraceProgress) (entries : List TraceEntry) (numbers : List ℕ) → Stands reader picture first now (Some p) entries numbers →
-      IsTold view.judged (λ s shown told. EndsTrace view.form view.accesses drawn s shown told first then) drawn.status p.setup entries numbers
+      IsTold view.judged (λ s shown told. EndsTrace view.form view.options drawn s shown told first then) drawn.status p.setup entries numbers
 
 -- all bands of the trace that a text says were written
 abbrev pub DrawsAllBands : TraceView → DrawnTrace → Option (List ℕ) → Option (List ℕ) → List ℕ → Type 0
-DrawsAllBands view drawn old new = IsOfTrace (IsTold view.judged (λ s shown told. EndsTrace view.form view.accesses drawn s shown told old new) drawn.status)
+DrawsAllBands view drawn old new = IsOfTrace (IsTold view.judged (λ s shown told. EndsTrace view.form view.options drawn s shown told old new) drawn.status)
 
--- The picture of the trace that a text says, and of what is told of it: all entries, or those up to the first bad one and the report of the judge. All their accesses are shown if they are asked for, or if these entries are few.
-abbrev pub DrawsTrace : Bool → AccessChoice → Form → ℕ → List ℕ → Option (List ℕ) → Option (List ℕ) → Type 0
-DrawsTrace judged asked form status text old new = IsOfTrace (IsTold judged (λ s shown told. DrawsTraceSaid form asked s shown told old new) status) text
+-- The picture of the trace that a text says, and of what is told of it: all entries, or those up
+-- to the first bad one and the report of the judge, as far as the window shows them. All accesses
+-- are shown if they are asked for, if these entries are few, or if the window is short.
+abbrev pub DrawsTrace : Bool → PictureOptions → Form → ℕ → List ℕ → Option (List ℕ) → Option (List ℕ) → Type 0
+DrawsTrace judged options form status text old new = IsOfTrace (IsTold judged (λ s shown told. DrawsTraceSaid form options s shown told old new) status) text
 
 -- why drawing ends early: a fault of what the input says, a call that failed, or want of memory
 abbrev pub IsDrawFault : Fault → Option (List ℕ) → Type 0
@@ -62,9 +64,9 @@ IsDrawFault fault.Write to_come = Unit {0}
 IsDrawFault fault.Memory to_come = Unit {0}
 
 -- How drawing a trace ends: with a picture of what the whole input says, and the exit status; or with its fault, which is the one that judging it has. Each fault has its cause.
-abbrev pub DrewTrace : Bool → AccessChoice → Form → Result ℕ Fault → Streams → Streams → Type 0
-DrewTrace judged asked form (Ok status) old new = IfSome old.to_come (λ text. DrawsTrace judged asked form status text old.taken new.taken) × IsAtEnd new.to_come
-DrewTrace judged asked form (Err (fault.Line f)) old new = IfSome old.to_come (λ text. UnlessMemory f.kind (trace_said text ≡ Err f)) × LeavesNone form old.taken new.taken
-DrewTrace judged asked form (Err fault.Read) old new = (old.read_failures < new.read_failures) × LeavesNone form old.taken new.taken
-DrewTrace judged asked form (Err fault.Write) old new = old.write_failures < new.write_failures
-DrewTrace judged asked form (Err fault.Memory) old new = Unit {0}
+abbrev pub DrewTrace : Bool → PictureOptions → Form → Result ℕ Fault → Streams → Streams → Type 0
+DrewTrace judged options form (Ok status) old new = IfSome old.to_come (λ text. DrawsTrace judged options form status text old.taken new.taken) × IsAtEnd new.to_come
+DrewTrace judged options form (Err (fault.Line f)) old new = IfSome old.to_come (λ text. UnlessMemory f.kind (trace_said text ≡ Err f)) × LeavesNone form old.taken new.taken
+DrewTrace judged options form (Err fault.Read) old new = (old.read_failures < new.read_failures) × LeavesNone form old.taken new.taken
+DrewTrace judged options form (Err fault.Write) old new = old.write_failures < new.write_failures
+DrewTrace judged options form (Err fault.Memory) old new = Unit {0}

@@ -1,8 +1,9 @@
 -- The picture of a trace, as bytes, and what stands while a trace is read and drawn.
 use Rattle.std.specs.Prelude.{◌≡◌, ◌≤◌, ℕ, max, Bool, true, false, List, [], ◌∷◌, ◌++◌, length, reverse, Option, None, Some}
 use Rattle.draw.specs.{DrawsBands, DrawsOn, Writes, given, kept, kept_at_first, trace_plan}
-use Rattle.picture.specs.{Form, Item, bands_told, heights_told, page_names, trace_page_back, trace_page_front, trace_picture_back, trace_picture_front}
+use Rattle.picture.specs.{Form, Item, Window, all_entries, bands_told, heights_told, page_names, trace_page_back, trace_page_front, trace_picture_back, trace_picture_front}
 use Rattle.picture.specs.declared.page.Form.TheVariants as form
+use Rattle.picture.specs.declared.reads.PictureOptions.{PictureOptions}
 use Rattle.picture.specs.declared.reads.Reads.{Reads}
 use Rattle.picture.specs.declared.reads.Reads.TheVariants as reads
 use Rattle.picture.specs.markup.{lines_in, opens_in}
@@ -10,32 +11,41 @@ use Rattle.trace.specs.{TraceEntry, TracePast, TraceSetup}
 use Rattle.trace_accesses.specs.{HasWatched, WatchState, WaveLimit}
 use Rattle.trace_engine.specs.{HasReported, ReportsTrace, count_by}
 use Rattle.trace_draw.specs.Headings.{listed, source_of, title_of}
-use Rattle.trace_draw.specs.Items.{given_entry, given_last, given_past, shown, trace_gives, trace_lines}
-use Rattle.trace_draw.specs.Views.{IsDecided, limit_of, view_of}
+use Rattle.trace_draw.specs.Items.{given_entry, given_last, given_past, shown, shown_lines, trace_gives, trace_lines}
+use Rattle.trace_draw.specs.Views.{IsDecided, limit_of, shows_all, view_of}
 use Rattle.trace_draw.specs.declared.drawing.DrawnBands.{DrawnBands}
 use Rattle.trace_draw.specs.declared.drawing.TraceDrawing.{TraceDrawing}
 use Rattle.trace_draw.specs.declared.held.ShownEntries.{ShownEntries}
 use Rattle.trace_draw.specs.declared.pictures.DrawnTrace.{DrawnTrace}
 use Rattle.trace_draw.specs.declared.pictures.TracePicture.{TracePicture}
-use Rattle.trace_draw.specs.declared.views.AccessChoice.{AccessChoice}
-use Rattle.trace_draw.specs.declared.views.AccessChoice.TheVariants as accesses
 use Rattle.trace_draw.specs.declared.views.TraceView.{TraceView}
 
--- The picture of a trace, as bytes: what items are told, between a front and a back.
-abbrev pub trace_picture_of : Form → Reads → TraceSetup → List Item → List ℕ
-trace_picture_of form.Page mode s items = (trace_page_front s.processes (title_of s) (listed s) mode ++ bands_told (trace_plan form.Page s.processes) items) ++ trace_page_back
-trace_picture_of (form.Picture top) mode s items =
-    (trace_picture_front (title_of s) (heights_told (trace_plan (form.Picture top) s.processes) items) mode ++ bands_told (trace_plan (form.Picture top) s.processes) items)
-    ++ trace_picture_back (heights_told (trace_plan (form.Picture top) s.processes) items) mode
+-- The picture of a trace, as bytes: what a window shows of items, between a front and a back.
+abbrev pub trace_picture_of : Form → Window → Reads → TraceSetup → List Item → List ℕ
+trace_picture_of form.Page w mode s items =
+    (trace_page_front s.processes (title_of s) (listed s) mode
+    ++ bands_told (trace_plan form.Page s.processes w) items)
+    ++ trace_page_back
+trace_picture_of (form.Picture top) w mode s items =
+    (trace_picture_front (title_of s)
+    (heights_told (trace_plan (form.Picture top) s.processes w) items) mode
+    ++ bands_told (trace_plan (form.Picture top) s.processes w) items)
+    ++ trace_picture_back (heights_told (trace_plan (form.Picture top) s.processes w) items) mode
 
--- A whole picture was written: it is that of the items of these entries and of what a judge tells, and nothing else; its tags fit, and no element is open at its end; and the titles of its marks, read back, are the marks of these entries, in their order, what the judge tells, line by line, and a last line. Which accesses are among the items is decided by what was asked and by the number of entries.
-pub record DrawsTraceSaid (form : Form) (asked : AccessChoice) (s : TraceSetup) (entries : List TraceEntry) (told : List ℕ) (old new : Option (List ℕ)) : Type 0 where
+-- A whole picture was written, and nothing else: what the window shows of the items of these
+-- entries and of what a judge tells. Its tags fit, and no element is open at its end. The titles
+-- of its marks, read back, are the lines of the entries in the window, in their order, and, if
+-- the window reaches the end, what the judge tells, line by line, and a last line. In the window
+-- of all entries they are the lines of all. The options and the number of entries decide which
+-- accesses are among the items.
+pub record DrawsTraceSaid (form : Form) (options : PictureOptions) (s : TraceSetup) (entries : List TraceEntry) (told : List ℕ) (old new : Option (List ℕ)) : Type 0 where
   pub markup : List ℕ
   pub items : List Item
-  pub are : given items ≡ trace_gives asked s entries told
-  pub is : markup ≡ trace_picture_of form (view_of asked (length entries)) s items
+  pub are : given items ≡ trace_gives options s entries told
+  pub is : markup ≡ trace_picture_of form options.window (view_of options (length entries)) s items
   pub elements : opens_in markup (Some []) ≡ Some []
-  pub read_back : lines_in markup ≡ trace_lines entries told
+  pub read_back : lines_in markup ≡ shown_lines options.window entries told
+  pub all_read_back : options.window ≡ all_entries → lines_in markup ≡ trace_lines entries told
   pub writes : Writes old new markup
 
 -- what is told of a trace, and the exit status: the report of a judge, or nothing
@@ -87,27 +97,27 @@ DrawsEntry had has old new e =
     DrawsOn (kept had.canvas) (kept has.canvas) old new (given_entry mode limit s past e) × ComesAfter mode limit s (e ∷ past) has
 
 -- these entries of a trace with this setup are drawn, but for what is held back
-pub record IsDrawn (form : Form) (mode : Reads) (limit : WaveLimit) (s : TraceSetup) (past : TracePast) (d : TraceDrawing) (old new : Option (List ℕ)) : Type 0 where
-  pub after : ComesAfter mode limit s past d
+pub record IsDrawn (form : Form) (options : PictureOptions) (mode : Reads) (s : TraceSetup) (past : TracePast) (d : TraceDrawing) (old new : Option (List ℕ)) : Type 0 where
+  pub after : ComesAfter mode (limit_of options) s past d
   pub mid : Option (List ℕ)
   pub heads : Heads form mode s old mid
-  pub drawn : DrawsOn (kept_at_first (trace_plan form s.processes)) (kept d.canvas) mid new (given_past mode limit s past)
+  pub drawn : DrawsOn (kept_at_first (trace_plan form s.processes options.window)) (kept d.canvas) mid new (given_past mode (limit_of options) s past)
 
 -- they are held, as long as the picture may be short, and nothing was written
-pub record AreHeld (asked : AccessChoice) (past : TracePast) (held : List TraceEntry) (old new : Option (List ℕ)) : Type 0 where
-  pub asks : asked ≡ accesses.IfShort
+pub record AreHeld (options : PictureOptions) (past : TracePast) (held : List TraceEntry) (old new : Option (List ℕ)) : Type 0 where
+  pub undecided : shows_all options ≡ false
   pub few : length past ≤ 400
   pub are : held ≡ reverse past
   pub unwritten : new ≡ old
 
 -- they are held, or it is decided which accesses are shown, and they are drawn
-abbrev pub AreShownBy : Option TraceDrawing → List TraceEntry → Form → AccessChoice → TraceSetup → TracePast → (old new : Option (List ℕ)) → Type 0
-AreShownBy None held form asked s past old new = AreHeld asked past held old new
-AreShownBy (Some d) held form asked s past old new =
-    (mode : Reads) × IsDecided asked mode (length past) × IsDrawn form mode (limit_of asked) s past d old new
+abbrev pub AreShownBy : Option TraceDrawing → List TraceEntry → Form → PictureOptions → TraceSetup → TracePast → (old new : Option (List ℕ)) → Type 0
+AreShownBy None held form options s past old new = AreHeld options past held old new
+AreShownBy (Some d) held form options s past old new =
+    (mode : Reads) × IsDecided options mode (length past) × IsDrawn form options mode s past d old new
 
-abbrev pub AreShown : Form → AccessChoice → TraceSetup → TracePast → ShownEntries → (old new : Option (List ℕ)) → Type 0
-AreShown form asked s past e old new = AreShownBy e.drawing e.held.items form asked s past old new
+abbrev pub AreShown : Form → PictureOptions → TraceSetup → TracePast → ShownEntries → (old new : Option (List ℕ)) → Type 0
+AreShown form options s past e old new = AreShownBy e.drawing e.held.items form options s past old new
 
 -- a picture, and what its output has taken
 abbrev pub SoFar : Type 0
@@ -116,7 +126,7 @@ SoFar = TracePicture × Option (List ℕ)
 -- Its judge has observed these entries of a trace with this setup, and those that are shown are held or drawn since the output had taken so much.
 pub record HasShown (view : TraceView) (first : Option (List ℕ)) (h : SoFar) (s : TraceSetup) (entries : List TraceEntry) (numbers : List ℕ) : Type 0 where
   pub reported : HasReported view.judged h.0.reporter s entries numbers
-  pub shows : AreShown view.form view.accesses s (reverse (shown view.judged s entries)) h.0.entries first h.1
+  pub shows : AreShown view.form view.options s (reverse (shown view.judged s entries)) h.0.entries first h.1
 
 -- the number of entries that a drawing has drawn, of which no more are watched
 abbrev pub drawn_count : TraceDrawing → ℕ
@@ -127,13 +137,13 @@ abbrev pub count_of : TracePicture → ℕ
 count_of picture = max picture.reporter.judge.entries (count_by drawn_count picture.entries.drawing)
 
 -- all bands of these entries and of what is told were written, and a page's front before them
-pub record EndsBands (form : Form) (asked : AccessChoice) (bands : DrawnBands) (s : TraceSetup) (past : TracePast) (told : List ℕ) (old new : Option (List ℕ)) : Type 0 where
-  pub view : bands.shows ≡ view_of asked (length past)
+pub record EndsBands (form : Form) (options : PictureOptions) (bands : DrawnBands) (s : TraceSetup) (past : TracePast) (told : List ℕ) (old new : Option (List ℕ)) : Type 0 where
+  pub view : bands.shows ≡ view_of options (length past)
   pub mid : Option (List ℕ)
   pub heads : Heads form bands.shows s old mid
-  pub drawn : DrawsBands (trace_plan form s.processes) mid new (given_past bands.shows (limit_of asked) s past ++ given_last s told (length past)) bands.height
+  pub drawn : DrawsBands (trace_plan form s.processes options.window) mid new (given_past bands.shows (limit_of options) s past ++ given_last s told (length past)) bands.height
 
 -- the same with the title of the trace
-pub record EndsTrace (form : Form) (asked : AccessChoice) (drawn : DrawnTrace) (s : TraceSetup) (entries : List TraceEntry) (told : List ℕ) (old new : Option (List ℕ)) : Type 0 where
+pub record EndsTrace (form : Form) (options : PictureOptions) (drawn : DrawnTrace) (s : TraceSetup) (entries : List TraceEntry) (told : List ℕ) (old new : Option (List ℕ)) : Type 0 where
   pub title : drawn.title.items ≡ title_of s
-  pub ends : EndsBands form asked drawn.bands s (reverse entries) told old new
+  pub ends : EndsBands form options drawn.bands s (reverse entries) told old new

@@ -41,7 +41,7 @@ pub(crate) struct TraceDrawing {
 }
 
 impl TraceDrawing {
-    /// Creates a picture without entries, which shows these accesses.
+    /// Creates a picture without entries, which shows these accesses in the window of the view.
     ///
     /// # Errors
     ///
@@ -53,12 +53,13 @@ impl TraceDrawing {
     ) -> Result<TraceDrawing, AllocError>
         requires { is_trace_setup setup.now ≡ true }
         ensures kept { IfOk result (λ d.
-            kept d.canvas ≡ kept_at_first (trace_plan view.form setup.now.processes)) }
-        ensures after { IfOk result (ComesAfter shows (limit_of view.accesses) setup.now []) }
+            kept d.canvas
+            ≡ kept_at_first (trace_plan view.form setup.now.processes view.options.window)) }
+        ensures after { IfOk result (ComesAfter shows (limit_of view.options) setup.now []) }
     {
         Ok(TraceDrawing {
             alloc: view.alloc,
-            canvas: Canvas::of_trace(view.alloc, view.form, setup.processes)?,
+            canvas: Canvas::of_trace(view.alloc, view.form, setup.processes, view.options.window)?,
             shows,
             watch: watch_of(view, setup, shows)?,
             entries: 0,
@@ -118,7 +119,8 @@ impl TraceDrawing {
     ) -> Result<(), Fault>
         requires { W.failures output.old < 2 ^ 64 - 1 }
         ensures drawn { OnOk result (DrawsLines self.old.canvas self.new.canvas
-            (W.taken output.old) (W.taken output.new) self.old.source self.old.entries (map (SaysLockMark process) marks.now)) }
+            (W.taken output.old) (W.taken output.new) self.old.source self.old.entries
+            (map (SaysLockMark process) marks.now)) }
         ensures rest { self.new ≡ record self.old { canvas = self.new.canvas } }
         ensures fault { IfErr result IsWriteFault }
         ensures failures { W.failures output.new ≡ W.failures output.old + failed_write result }
@@ -138,7 +140,8 @@ impl TraceDrawing {
     ) -> Result<(), Fault>
         requires { W.failures output.old < 2 ^ 64 - 1 }
         ensures drawn { OnOk result (DrawsLines self.old.canvas self.new.canvas
-            (W.taken output.old) (W.taken output.new) self.old.source self.old.entries (SaysLockMark process mark.now ∷ [])) }
+            (W.taken output.old) (W.taken output.new) self.old.source self.old.entries
+            (SaysLockMark process mark.now ∷ [])) }
         ensures rest { self.new ≡ record self.old { canvas = self.new.canvas } }
         ensures fault { IfErr result IsWriteFault }
         ensures failures { W.failures output.new ≡ W.failures output.old + failed_write result }
@@ -194,7 +197,7 @@ fn watch_of(
     shows: Reads,
 ) -> Result<Option<AccessWatch>, AllocError>
     requires { is_trace_setup setup.now ≡ true }
-    ensures { IfOk result (Watches shows (limit_of view.accesses) setup.now []) }
+    ensures { IfOk result (Watches shows (limit_of view.options) setup.now []) }
 {
     match shows {
         Reads::All => Ok(Some(AccessWatch::new(view.alloc, setup, view.limit())?)),

@@ -4,32 +4,37 @@ ghost use Rattle.std.specs.Io.KnownBytes.{IsAtEnd};
 ghost use Rattle.files.specs.{failed_reading, streams};
 ghost use Rattle.draw.specs.{IsWriteFault, failed_write};
 ghost use Rattle.picture.specs.declared.page.Form.TheVariants as form_variants;
+ghost use Rattle.picture.specs.declared.reads.PictureOptions.{PictureOptions as Options};
 ghost use Rattle.trace.specs.{TraceEntry as Entry, TraceSetup as Setup};
 ghost use Rattle.trace_draw.specs.Sheets.{DrawsAllBands, DrewTrace, IsDrawFault, Stands};
 ghost use Rattle.trace_draw.specs.Showing.{DrawsTraceSaid, EndsTrace};
-ghost use Rattle.trace_draw.specs.declared.views.AccessChoice.{AccessChoice as Asked};
 
 use crate::drawing::DrawnBands;
 use crate::pictures::DrawnTrace;
 use crate::sheet::TraceSheet;
-use crate::views::{AccessChoice, TraceView};
+use crate::views::TraceView;
 use draw::{Held, held_fault, write_markup};
 use files::source_lines::Lines;
 use files::{Fault, FaultKind, Sink, Source, write_all};
-use picture::{FIRST_BAND, Form, trace_page_end, trace_picture_end, trace_picture_head};
+use picture::{
+    FIRST_BAND, Form, PictureOptions, trace_page_end, trace_picture_end, trace_picture_head,
+};
 use std::alloc::Global;
 
 /// Reads a trace file line by line, and writes the page of the trace: a picture in bands, each of which is written when it is
 /// full. So it stores a line, a block and a band, however long the file is, and at most 400 entries. Returns the exit status.
 ///
-/// `accesses` chooses which accesses the page shows. If it is [`AccessChoice::IfShort`], the page shows all accesses if at most 400
-/// entries are shown, and otherwise none. Nothing is written before this is decided.
+/// The page shows the entries with the numbers in `options.window`, and with them the stages of the processes and the values of
+/// the registers before the first of them. If `options.reads` is `Reads::All`, it shows all accesses. If `options.reads` is
+/// another value, it shows all accesses if the window has at most 400 numbers or the trace at most 400 entries, and otherwise
+/// none. Nothing is written before this is decided.
 ///
-/// If it succeeds, the output is the page of the items that the trace gives, and nothing else. These items are the accesses of
-/// the entries, if they are shown, a line for each mark of the entries, and a last line. The titles of the marks, read back, are
-/// the marks of the trace in their order, and a last line. The tags match, and no element is open at the end. If `judged` is
-/// true, the page ends with the first entry that breaks a law, and then shows the lines of the verdict with its reasons; the
-/// exit status is that of the verdict. The file is read to its end.
+/// If it succeeds, the output is the page of the items that the trace gives, as far as the window shows them, and nothing else.
+/// These items are the accesses of the entries, if they are shown, a line for each mark of the entries, and a last line. The
+/// titles of the marks, read back, are the marks of the entries in the window in their order, and, if the window reaches the end,
+/// a last line. The tags match, and no element is open at the end. If `judged` is true, the page ends with the first entry that
+/// breaks a law, and then shows the lines of the verdict with its reasons; the exit status is that of the verdict, whatever the
+/// window. The file is read to its end.
 ///
 /// # Errors
 ///
@@ -38,13 +43,13 @@ use std::alloc::Global;
 pub fn draw_trace<R: Source, W: Sink>(
     alloc: Global,
     judged: bool,
-    accesses: AccessChoice,
+    options: PictureOptions,
     input: &mut R,
     output: &mut W,
 ) -> Result<u8, Fault>
     requires reads { R.failures input.old < 2 ^ 64 - 1 }
     requires writes { W.failures output.old < 2 ^ 64 - 1 }
-    ensures { DrewTrace judged accesses form_variants.Page result
+    ensures { DrewTrace judged options form_variants.Page result
         (streams ⟦<R as Source>⟧ ⟦<W as Sink>⟧ input.old output.old)
         (streams ⟦<R as Source>⟧ ⟦<W as Sink>⟧ input.new output.new) }
 {
@@ -52,7 +57,7 @@ pub fn draw_trace<R: Source, W: Sink>(
         alloc,
         form: Form::Page,
         judged,
-        accesses,
+        options,
     };
     let drawn = draw_bands(view, input, output)?;
     end_page(alloc, &drawn, output)?;
@@ -68,13 +73,13 @@ pub fn draw_trace<R: Source, W: Sink>(
 pub fn draw_trace_svg<R: Source, W: Sink>(
     alloc: Global,
     judged: bool,
-    accesses: AccessChoice,
+    options: PictureOptions,
     input: &mut R,
     output: &mut W,
 ) -> Result<u8, Fault>
     requires reads { R.failures input.old < 2 ^ 64 - 1 }
     requires writes { W.failures output.old < 2 ^ 64 - 1 }
-    ensures { DrewTrace judged accesses (form_variants.Picture 34) result
+    ensures { DrewTrace judged options (form_variants.Picture 34) result
         (streams ⟦<R as Source>⟧ ⟦<W as Sink>⟧ input.old output.old)
         (streams ⟦<R as Source>⟧ ⟦<W as Sink>⟧ input.new output.new) }
 {
@@ -82,7 +87,7 @@ pub fn draw_trace_svg<R: Source, W: Sink>(
         alloc,
         form: Form::Picture(FIRST_BAND),
         judged,
-        accesses,
+        options,
     };
     let mut bands = Held::new(alloc);
     match draw_bands(view, input, &mut bands) {
@@ -97,10 +102,10 @@ pub fn draw_trace_svg<R: Source, W: Sink>(
 /// Writes the end of a page.
 fn end_page<W: Sink>(alloc: Global, drawn: &DrawnTrace, output: &mut W) -> Result<(), Fault>
     requires { W.failures output.old < 2 ^ 64 - 1 }
-    ensures ok { OnOk result ((asked : Asked) (s : Setup) (shown : List Entry) (told : List ℕ)
+    ensures ok { OnOk result ((options : Options) (s : Setup) (shown : List Entry) (told : List ℕ)
         (first : Option (List ℕ)) →
-        EndsTrace form_variants.Page asked drawn.now s shown told first (W.taken output.old) →
-        DrawsTraceSaid form_variants.Page asked s shown told first (W.taken output.new)) }
+        EndsTrace form_variants.Page options drawn.now s shown told first (W.taken output.old) →
+        DrawsTraceSaid form_variants.Page options s shown told first (W.taken output.new)) }
     ensures fault { IfErr result IsWriteFault }
     ensures failures { W.failures output.new ≡ W.failures output.old + failed_write result }
 {
@@ -116,10 +121,10 @@ fn write_picture<W: Sink>(
     output: &mut W,
 ) -> Result<(), Fault>
     requires { W.failures output.old < 2 ^ 64 - 1 }
-    ensures ok { OnOk result ((asked : Asked) (s : Setup) (shown : List Entry) (told : List ℕ) →
-        EndsTrace (form_variants.Picture 34) asked drawn.now s shown told
+    ensures ok { OnOk result ((options : Options) (s : Setup) (shown : List Entry) (told : List ℕ) →
+        EndsTrace (form_variants.Picture 34) options drawn.now s shown told
         (Some []) (Some bands.now) →
-        DrawsTraceSaid (form_variants.Picture 34) asked s shown told
+        DrawsTraceSaid (form_variants.Picture 34) options s shown told
         (W.taken output.old) (W.taken output.new)) }
     ensures fault { IfErr result IsWriteFault }
     ensures failures { W.failures output.new ≡ W.failures output.old + failed_write result }

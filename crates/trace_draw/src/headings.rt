@@ -110,7 +110,8 @@ fn push_registers(
     registers: &[TraceRegister],
     lines: &mut Vec<u8>,
 ) -> Result<(), AllocError>
-    ensures { OnOk result (lines.new.items ≡ lines.old.items ++ flat_map register_line registers.now) }
+    ensures { OnOk result (lines.new.items
+        ≡ lines.old.items ++ flat_map register_line registers.now) }
 {
     for register in registers {
         push_register(alloc, register, lines)?;

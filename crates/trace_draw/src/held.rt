@@ -4,11 +4,10 @@ ghost use Rattle.draw.specs.{IsWriteFault, failed_write};
 ghost use Rattle.trace.specs.{TracePast as Past, is_trace_setup, trace_entry};
 ghost use Rattle.trace_engine.specs.{count_by};
 ghost use Rattle.trace_draw.specs.Showing.{AreHeld, AreShown, EndsBands, IsDrawn, drawn_count};
-ghost use Rattle.trace_draw.specs.Views.{limit_of};
 
 use crate::drawing::{DrawnBands, TraceDrawing};
 use crate::headings::write_head;
-use crate::views::{AccessChoice, TraceView};
+use crate::views::TraceView;
 use files::{Fault, Sink};
 use picture::Reads;
 use smallvec::SmallVec;
@@ -18,8 +17,8 @@ use trace::{CellAccess, LockMark, TraceEntry, TraceSetup};
 /// The most entries of a picture that shows all accesses although they are not asked for.
 const MOST_ENTRIES: usize = 400;
 
-/// The entries that a picture shows. They are stored as long as the picture may be short, and nothing is written before it is
-/// decided whether their accesses are shown.
+/// The entries of a picture, all of which are drawn; the window shows a part of them. They are stored as long as the number of
+/// entries decides whether accesses are shown, and nothing is written before that is decided.
 #[derive(Drop)]
 pub(crate) struct ShownEntries {
     /// All entries so far, unless they are drawn.
@@ -29,7 +28,7 @@ pub(crate) struct ShownEntries {
 }
 
 impl ShownEntries {
-    /// Begins a picture without entries. It writes the start of a page if all accesses are asked for.
+    /// Begins a picture without entries. It writes the start of a page if all accesses are asked for or the window is short.
     ///
     /// # Errors
     ///
@@ -41,24 +40,22 @@ impl ShownEntries {
     ) -> Result<ShownEntries, Fault>
         requires good { is_trace_setup setup.now ≡ true }
         requires writes { W.failures output.old < 2 ^ 64 - 1 }
-        ensures shown { IfOk result (λ shown. AreShown view.form view.accesses setup.now [] shown
+        ensures shown { IfOk result (λ shown. AreShown view.form view.options setup.now [] shown
             (W.taken output.old) (W.taken output.new)) }
         ensures fault { IfErr result IsWriteFault }
         ensures failures { W.failures output.new ≡ W.failures output.old + failed_write result }
     {
-        match view.accesses {
-            AccessChoice::IfShort => Ok(ShownEntries {
+        if view.shows_all() {
+            let drawing = begin_drawing(view, setup, Reads::All, output)?;
+            return Ok(ShownEntries {
                 held: Vec::new(view.alloc),
-                drawing: None,
-            }),
-            AccessChoice::All => {
-                let drawing = begin_drawing(view, setup, Reads::All, output)?;
-                Ok(ShownEntries {
-                    held: Vec::new(view.alloc),
-                    drawing: Some(drawing),
-                })
-            }
+                drawing: Some(drawing),
+            });
         }
+        Ok(ShownEntries {
+            held: Vec::new(view.alloc),
+            drawing: None,
+        })
     }
 
     /// Draws the next entry, or stores it as long as the picture may be short.
@@ -77,8 +74,8 @@ impl ShownEntries {
         requires room { count_by drawn_count self.old.drawing < 2 ^ 64 - 1 }
         requires writes { W.failures output.old < 2 ^ 64 - 1 }
         ensures shown { OnOk result ((past : Past) (first : Option (List ℕ)) →
-            AreShown view.form view.accesses setup.now past self.old first (W.taken output.old) →
-            AreShown view.form view.accesses setup.now (entry.now ∷ past) self.new
+            AreShown view.form view.options setup.now past self.old first (W.taken output.old) →
+            AreShown view.form view.options setup.now (entry.now ∷ past) self.new
             first (W.taken output.new)) }
         ensures fault { IfErr result IsWriteFault }
         ensures failures { W.failures output.new ≡ W.failures output.old + failed_write result }
@@ -103,8 +100,8 @@ impl ShownEntries {
         requires undecided { self.old.drawing ≡ None }
         requires writes { W.failures output.old < 2 ^ 64 - 1 }
         ensures shown { OnOk result ((past : Past) (first : Option (List ℕ)) →
-            AreHeld view.accesses past self.old.held.items first (W.taken output.old) →
-            AreShown view.form view.accesses setup.now (entry.now ∷ past) self.new
+            AreHeld view.options past self.old.held.items first (W.taken output.old) →
+            AreShown view.form view.options setup.now (entry.now ∷ past) self.new
             first (W.taken output.new)) }
         ensures fault { IfErr result IsWriteFault }
         ensures failures { W.failures output.new ≡ W.failures output.old + failed_write result }
@@ -136,8 +133,8 @@ impl ShownEntries {
         requires good { is_trace_setup setup.now ≡ true }
         requires writes { W.failures output.old < 2 ^ 64 - 1 }
         ensures drawn { IfOk result (λ bands. (past : Past) (first : Option (List ℕ)) →
-            AreShown view.form view.accesses setup.now past self.old first (W.taken output.old) →
-            EndsBands view.form view.accesses bands setup.now past told.now
+            AreShown view.form view.options setup.now past self.old first (W.taken output.old) →
+            EndsBands view.form view.options bands setup.now past told.now
             first (W.taken output.new)) }
         ensures fault { IfErr result IsWriteFault }
         ensures failures { W.failures output.new ≡ W.failures output.old + failed_write result }
@@ -162,7 +159,7 @@ fn draw_held<W: Sink>(
 ) -> Result<TraceDrawing, Fault>
     requires good { is_trace_setup setup.now ≡ true }
     requires writes { W.failures output.old < 2 ^ 64 - 1 }
-    ensures drawn { IfOk result (λ d. IsDrawn view.form shows (limit_of view.accesses) setup.now
+    ensures drawn { IfOk result (λ d. IsDrawn view.form view.options shows setup.now
         (reverse held.now) d (W.taken output.old) (W.taken output.new)) }
     ensures fault { IfErr result IsWriteFault }
     ensures failures { W.failures output.new ≡ W.failures output.old + failed_write result }
@@ -183,7 +180,7 @@ fn begin_drawing<W: Sink>(
 ) -> Result<TraceDrawing, Fault>
     requires good { is_trace_setup setup.now ≡ true }
     requires writes { W.failures output.old < 2 ^ 64 - 1 }
-    ensures drawn { IfOk result (λ d. IsDrawn view.form shows (limit_of view.accesses) setup.now
+    ensures drawn { IfOk result (λ d. IsDrawn view.form view.options shows setup.now
         [] d (W.taken output.old) (W.taken output.new)) }
     ensures fault { IfErr result IsWriteFault }
     ensures failures { W.failures output.new ≡ W.failures output.old + failed_write result }

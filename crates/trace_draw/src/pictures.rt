@@ -30,7 +30,8 @@ pub(crate) struct DrawnTrace {
 }
 
 impl TracePicture {
-    /// Begins the picture of a trace, before its first entry. It writes the start of a page if all accesses are asked for.
+    /// Begins the picture of a trace, before its first entry. It writes the start of a page if all accesses are asked for or the
+    /// window is short.
     ///
     /// # Errors
     ///
@@ -111,7 +112,7 @@ impl TracePicture {
             (first : Option (List ℕ)) (entries : List Entry) (numbers : List ℕ) →
             HasShown view first (self.old, W.taken output.old) setup.now entries numbers →
             IsTold view.judged (λ s shown told.
-            EndsTrace view.form view.accesses drawn s shown told first (W.taken output.new))
+            EndsTrace view.form view.options drawn s shown told first (W.taken output.new))
             drawn.status setup.now entries numbers) }
         ensures fault { IfErr result IsWriteFault }
         ensures failures { W.failures output.new ≡ W.failures output.old + failed_write result }

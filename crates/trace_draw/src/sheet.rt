@@ -49,8 +49,9 @@ impl TraceSheet {
         ensures ok { OnOk result (DrawsLine self.old.view
             self.old.reader self.old.picture (W.taken output.old)
             self.new.reader self.new.picture (W.taken output.new) number line.now) }
-        ensures fault { IfErr result (λ fault. LineStops fault number (λ kind. (before : Option TraceProgress) →
-            self.old.reader ≡ before → line_read line.now before ≡ Err kind)) }
+        ensures fault { IfErr result (λ fault. LineStops fault number (λ kind.
+            (before : Option TraceProgress) → self.old.reader ≡ before →
+            line_read line.now before ≡ Err kind)) }
         ensures failures { W.failures output.new ≡ W.failures output.old + failed_write result }
     {
         let view = self.view;
@@ -138,7 +139,7 @@ impl TraceView {
             Observes (HasShown self first) (with_output (W.taken output.old) picture.old)
             setup.now entries numbers →
             IsTold self.judged (λ s shown told.
-            EndsTrace self.form self.accesses d s shown told first (W.taken output.new))
+            EndsTrace self.form self.options d s shown told first (W.taken output.new))
             d.status setup.now entries numbers) }
         ensures fault { IfErr result IsWriteFault }
         ensures failures { W.failures output.new ≡ W.failures output.old + failed_write result }

@@ -1,38 +1,44 @@
 //! The view of a trace that is asked for.
 ghost use Rattle.std.specs.Prelude.{◌≡◌};
-ghost use Rattle.trace_draw.specs.Views.{limit_of};
+ghost use Rattle.trace_draw.specs.Views.{asks_all, limit_of, shows_all};
 
-use picture::Form;
+use draw::{is_short, waves_of_few};
+use picture::{Form, PictureOptions, Reads};
 use std::alloc::Global;
 use trace_accesses::WaveLimit;
 
-/// Which accesses a picture shows.
-#[derive(Clone, Copy, PartialEq, Eq)]
-pub enum AccessChoice {
-    /// All accesses, with the first sixteen waves, if the picture has at most 400 entries. Otherwise none.
-    IfShort,
-    /// All accesses, with all waves.
-    All,
-}
-
-/// The form of a picture, whether it is judged, and which accesses it shows.
+/// The form of a picture, whether it is judged, and its options.
 #[derive(Clone, Copy)]
 pub(crate) struct TraceView {
     pub alloc: Global,
     pub form: Form,
     /// Whether the picture shows the verdict, and ends with the first bad entry.
     pub judged: bool,
-    pub accesses: AccessChoice,
+    pub options: PictureOptions,
 }
 
 impl TraceView {
-    /// Returns how many waves are shown with accesses.
-    pub fn limit(self) -> WaveLimit
-        ensures { result ≡ limit_of self.accesses }
+    /// Returns whether all accesses are shown, however many entries the picture has.
+    pub fn shows_all(self) -> bool
+        ensures { result ≡ shows_all self.options }
     {
-        match self.accesses {
-            AccessChoice::IfShort => WaveLimit::Sixteen,
-            AccessChoice::All => WaveLimit::All,
-        }
+        asks_all(self.options.reads) || is_short(self.options.window)
+    }
+
+    /// Returns which waves are shown with accesses.
+    pub fn limit(self) -> WaveLimit
+        ensures { result ≡ limit_of self.options }
+    {
+        waves_of_few(self.options)
+    }
+}
+
+/// Returns whether all accesses are asked for.
+fn asks_all(reads: Reads) -> bool
+    ensures { result ≡ asks_all reads }
+{
+    match reads {
+        Reads::All => true,
+        Reads::Hidden | Reads::Shown => false,
     }
 }

@@ -9,9 +9,9 @@ returns-in-Ok g c =
     let all = g.R.Source.to_come c.args.input.now in
     let bytes : List ℕ = c.draw_bands.new.output.bytes.items in
     let d = c.in-Ok.drawn in
-    let view : TraceView = record { alloc = c.args.alloc; form = form.Picture 34; judged = c.args.judged; accesses = c.args.accesses } in
+    let view : TraceView = record { alloc = c.args.alloc; form = form.Picture 34; judged = c.args.judged; options = c.args.options } in
     let drawn = subst (λ (was : List ℕ). IfSome all (DrawsAllBands view d (Some was) (Some bytes))) c.new-bands.ensures.bytes c.in-Ok.ensures.drawn in (
-      all_told c.args.judged (λ s shown told. EndsTrace (form.Picture 34) c.args.accesses d s shown told (Some []) (Some bytes)) (λ s shown told. DrawsTraceSaid (form.Picture 34) c.args.accesses s shown told (g.W.Sink.taken c.args.output.now) (g.W.Sink.taken c.write_picture.new.output)) d.status
-          (λ s shown told ends. c.in_ok-write_picture-in-Ok.ensures.ok c.args.accesses s shown told (subst (λ (now : List ℕ). EndsTrace (form.Picture 34) c.args.accesses d s shown told (Some []) (Some now)) (sym c.bytes.ensures) ends)) all drawn,
+      all_told c.args.judged (λ s shown told. EndsTrace (form.Picture 34) c.args.options d s shown told (Some []) (Some bytes)) (λ s shown told. DrawsTraceSaid (form.Picture 34) c.args.options s shown told (g.W.Sink.taken c.args.output.now) (g.W.Sink.taken c.write_picture.new.output)) d.status
+          (λ s shown told ends. c.in_ok-write_picture-in-Ok.ensures.ok c.args.options s shown told (subst (λ (now : List ℕ). EndsTrace (form.Picture 34) c.args.options d s shown told (Some []) (Some now)) (sym c.bytes.ensures) ends)) all drawn,
       c.in-Ok.ensures.end,
     )

@@ -21,7 +21,7 @@ pub draw_entry-requires-clause-room : goal.draw_entry-requires-clause-room
 draw_entry-requires-clause-room g c =
     let l = c.loop-entry in
     let past : TracePast = reverse (take l.entry-index c.args.held.now) in
-    let many = drawn_as_many c.args.shows (limit_of c.args.view.accesses) c.args.setup.now past l.drawing l.invariant.drawn.after in
+    let many = drawn_as_many c.args.shows (limit_of c.args.view.options) c.args.setup.now past l.drawing l.invariant.drawn.after in
     let long = length-reverse (take l.entry-index c.args.held.now) in
     let first = length-take-le l.entry-index c.args.held.now (omega (arith, c.loop-entry-test.true)) in
     omega (arith, many, long, first, c.loop-entry-test.true)
@@ -33,7 +33,7 @@ pub loop-entry-preserved : goal.loop-entry-preserved
 loop-entry-preserved g c =
     let l = c.loop-entry in
     let shows = c.args.shows in
-    let limit = limit_of c.args.view.accesses in
+    let options = c.args.view.options in
     let s = c.args.setup.now in
     let e : TraceEntry = c.entry-item.result in
     let past : TracePast = reverse (take l.entry-index c.args.held.now) in
@@ -42,12 +42,12 @@ loop-entry-preserved g c =
     let mid = g.W.Sink.taken l.output in
     let new = g.W.Sink.taken c.draw_entry.new.output in
     record {
-      drawn = subst (λ (past : TracePast). IsDrawn c.args.view.form shows limit s past c.draw_entry.new.self first new) (sym more)
-          (drawn_entry c.args.view.form shows limit s past e l.drawing c.draw_entry.new.self first mid new l.invariant.drawn c.in_ok-draw_entry.ensures.drawn);
+      drawn = subst (λ (past : TracePast). IsDrawn c.args.view.form options shows s past c.draw_entry.new.self first new) (sym more)
+          (drawn_entry c.args.view.form options shows s past e l.drawing c.draw_entry.new.self first mid new l.invariant.drawn c.in_ok-draw_entry.ensures.drawn);
       whole = omega (arith, c.in_ok-draw_entry.ensures.failures, l.invariant.whole);
     }
 
 pub returns-clause-drawn : goal.returns-clause-drawn
 returns-clause-drawn g c =
-    subst (λ (l : List TraceEntry). IsDrawn c.args.view.form c.args.shows (limit_of c.args.view.accesses) c.args.setup.now (reverse l) c.loop-entry.drawing (g.W.Sink.taken c.args.output.now) (g.W.Sink.taken c.loop-entry.output))
+    subst (λ (l : List TraceEntry). IsDrawn c.args.view.form c.args.view.options c.args.shows c.args.setup.now (reverse l) c.loop-entry.drawing (g.W.Sink.taken c.args.output.now) (g.W.Sink.taken c.loop-entry.output))
     (take_all c.loop-entry.entry-index c.args.held.now c.loop-entry-test.false) c.loop-entry.invariant.drawn

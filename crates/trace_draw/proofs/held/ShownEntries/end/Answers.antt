@@ -2,7 +2,7 @@ use Rattle.std.proofs.Common.{List, Option, reverse, subst}
 use Rattle.draw.proofs.Written.{if_ok_both}
 use Rattle.picture.specs.declared.reads.Reads.TheVariants as reads
 use Rattle.trace.specs.{TraceEntry}
-use Rattle.trace_draw.specs.{AreShownBy, IsDrawn, TraceDrawing, limit_of}
+use Rattle.trace_draw.specs.{AreShownBy, IsDrawn, TraceDrawing}
 use Rattle.trace_draw.proofs.Holding.{held_end, shown_end}
 use Rattle.trace_draw.proofs.held.ShownEntries.end.Goals as goal
 
@@ -15,8 +15,8 @@ returns-in-Some-clause-drawn g c =
     let b = g.W.Sink.taken c.end.new.output in
     if_ok_both c.end.result
     (λ bands last same past first shown.
-    shown_end view.form view.accesses s past held c.args.told.now c.in-Some.drawing bands first a b
-    (subst (λ (o : Option TraceDrawing). AreShownBy o held view.form view.accesses s past first a) c.in-Some.is shown) same last)
+    shown_end view.form view.options s past held c.args.told.now c.in-Some.drawing bands first a b
+    (subst (λ (o : Option TraceDrawing). AreShownBy o held view.form view.options s past first a) c.in-Some.is shown) same last)
     c.end.ensures.drawn c.end.ensures.shows
 
 pub returns-in_ok-drawing-in-None-clause-drawn : goal.returns-in_ok-drawing-in-None-clause-drawn
@@ -30,6 +30,6 @@ returns-in_ok-drawing-in-None-clause-drawn g c =
     let d = c.in_ok-drawing-in-None.drawing in
     if_ok_both c.end-in-None.result
     (λ bands last same past first shown.
-    held_end view.form view.accesses s past held c.args.told.now d bands first a mid b
-    (subst (λ (o : Option TraceDrawing). AreShownBy o held view.form view.accesses s past first a) c.in-None.is shown) (subst (λ (l : List TraceEntry). IsDrawn view.form reads.All (limit_of view.accesses) s (reverse l) d a mid) c.deref.ensures.value c.in_ok-drawing-in-None.ensures.drawn) same last)
+    held_end view.form view.options s past held c.args.told.now d bands first a mid b
+    (subst (λ (o : Option TraceDrawing). AreShownBy o held view.form view.options s past first a) c.in-None.is shown) (subst (λ (l : List TraceEntry). IsDrawn view.form view.options reads.All s (reverse l) d a mid) c.deref.ensures.value c.in_ok-drawing-in-None.ensures.drawn) same last)
     c.end-in-None.ensures.drawn c.end-in-None.ensures.shows

@@ -9,7 +9,7 @@ use Rattle.trace_draw.proofs.held.ShownEntries.hold_or_draw.Goals as goal
 
 pub draw_entry-requires-clause-room : goal.draw_entry-requires-clause-room
 draw_entry-requires-clause-room g c =
-    let many = drawn_as_many reads.Hidden (limit_of c.args.view.accesses) c.args.setup.now (reverse c.deref.result.now) c.in_ok-drawing.drawing c.in_ok-drawing.ensures.drawn.after in
+    let many = drawn_as_many reads.Hidden (limit_of c.args.view.options) c.args.setup.now (reverse c.deref.result.now) c.in_ok-drawing.drawing c.in_ok-drawing.ensures.drawn.after in
     let long = length-reverse c.deref.result.now in
     omega (arith, many, long)
 
@@ -19,8 +19,8 @@ returns-then-len-lt-MOST_ENTRIES-clause-shown g c = λ past first are.
     let held = c.args.self.now.held.items in
     let then = c.hold.new.held.items in
     let a = g.W.Sink.taken c.args.output.now in
-    subst (λ (o : Option TraceDrawing). AreShownBy o then view.form view.accesses c.args.setup.now (c.args.entry.now ∷ past) first a) (sym c.requires.undecided)
-    (held_on view.form view.accesses c.args.setup.now past held then c.args.entry.now first a are (omega (arith, c.if-len-lt-MOST_ENTRIES.true)) c.in_ok-hold.ensures)
+    subst (λ (o : Option TraceDrawing). AreShownBy o then view.form view.options c.args.setup.now (c.args.entry.now ∷ past) first a) (sym c.requires.undecided)
+    (held_on view.form view.options c.args.setup.now past held then c.args.entry.now first a are (omega (arith, c.if-len-lt-MOST_ENTRIES.true)) c.in_ok-hold.ensures)
 
 pub returns-clause-shown : goal.returns-clause-shown
 returns-clause-shown g c = λ past first are.
@@ -31,5 +31,5 @@ returns-clause-shown g c = λ past first are.
     let mid = g.W.Sink.taken c.draw_held.new.output in
     let b = g.W.Sink.taken c.draw_entry.new.output in
     let d = c.in_ok-drawing.drawing in
-    many_drawn view.form view.accesses s past held c.new.result.items c.args.entry.now d c.draw_entry.new.self first a mid b are (omega (arith, c.if-len-lt-MOST_ENTRIES.false))
-    (subst (λ (l : List TraceEntry). IsDrawn view.form reads.Hidden (limit_of view.accesses) s (reverse l) d a mid) c.deref.ensures.value c.in_ok-drawing.ensures.drawn) c.in_ok-draw_entry.ensures.drawn
+    many_drawn view.form view.options s past held c.new.result.items c.args.entry.now d c.draw_entry.new.self first a mid b are (omega (arith, c.if-len-lt-MOST_ENTRIES.false))
+    (subst (λ (l : List TraceEntry). IsDrawn view.form view.options reads.Hidden s (reverse l) d a mid) c.deref.ensures.value c.in_ok-drawing.ensures.drawn) c.in_ok-draw_entry.ensures.drawn

@@ -13,4 +13,4 @@ returns-clause-drawn g c = λ first entries numbers has.
     let b = g.W.Sink.taken c.end.new.output in
     let drawn : DrawnTrace = record { title = c.in_ok-title.title; bands = c.in_ok-bands.bands; status = told.status } in
     shown_told view first s old a b entries numbers told.text.items drawn has (c.in_ok-told.ensures s entries numbers has.reported) c.in_ok-title.ensures
-    (λ past shows. subst (λ (l : List ℕ). EndsBands view.form view.accesses drawn.bands s past l first b) c.as_slice.ensures.value (c.in_ok-bands.ensures.drawn past first shows))
+    (λ past shows. subst (λ (l : List ℕ). EndsBands view.form view.options drawn.bands s past l first b) c.as_slice.ensures.value (c.in_ok-bands.ensures.drawn past first shows))
