@@ -16,7 +16,7 @@ use engines::{
 };
 use race::{RunFault, run_fault_status, run_race};
 use run_state::{
-    KeptFile, KeptInput, events_said, explanation, list_record, run_calls, run_state, state_record,
+    KeptFile, KeptInput, explanation, list_record, run_calls, run_state, state_record,
 };
 use std::alloc::Global;
 use std::cell::Cell;
@@ -31,17 +31,14 @@ use std::time::Clock;
 use trace_calls::list_trace;
 use trace_draw::draw::progress::Onlooker;
 use trace_draw::draw::{
-    JudgedBy, Reads, draw, draw_judged_record, draw_judged_record_svg, draw_record,
-    draw_record_svg, draw_svg,
+    JudgedBy, draw, draw_judged_record, draw_judged_record_svg, draw_record, draw_record_svg,
+    draw_svg,
 };
 use trace_draw::{draw_trace, draw_trace_svg, judge_trace};
 
 /// The hint at a terminal if there are no arguments.
 const NO_WORDS: &str =
     "reading a scenario from this terminal until its end (for help: bakerystore --help)";
-
-/// The message if `--at` of `state` is missing or is not such a number.
-const NO_AT: &str = "state needs --at N, where N is a number below 2^64 or `end`";
 
 /// The hint at a terminal, if `judge` finds within ten entries that a record is not one of this lock.
 const OTHER_LOCK: &str = "hint: --any-lock judges the records of other locks";
@@ -87,15 +84,18 @@ fn run<T: Files + Input + Print + Eprint + Clock + AllocGlobal + Threads + Wait 
     request: &Request<'_>,
     terminals: Terminals,
 ) -> Result<u8, RunFault> {
-    let Some(at) = events_asked(request) else {
-        let _ = eprintln!(rt; "{NO_AT}");
-        return Ok(USAGE_STATUS);
+    let wanted = match wanted_by(request) {
+        Ok(wanted) => wanted,
+        Err(message) => {
+            let _ = eprintln!(rt; "{message}");
+            return Ok(USAGE_STATUS);
+        }
     };
     if request.file == "-" {
-        return run_on(rt, request, at, terminals, rt.reader());
+        return run_on(rt, request, wanted, terminals, rt.reader());
     }
     match File::open(rt, request.file) {
-        Ok(file) => run_on(rt, request, at, terminals, file),
+        Ok(file) => run_on(rt, request, wanted, terminals, file),
         Err(error) if error.kind() == ErrorKind::OutOfMemory => Err(Fault::Memory.into()),
         Err(error) => Ok(told_with_cause(rt, request, terminals, Fault::Read, Some(error.kind()))),
     }
@@ -105,7 +105,7 @@ fn run<T: Files + Input + Print + Eprint + Clock + AllocGlobal + Threads + Wait 
 fn run_on<T: Print + Eprint + Clock + AllocGlobal + Threads + Wait + Sync, R: Read + Drop>(
     rt: &T,
     request: &Request<'_>,
-    at: u64,
+    wanted: Wanted,
     terminals: Terminals,
     reader: R,
 ) -> Result<u8, RunFault> {
@@ -114,7 +114,6 @@ fn run_on<T: Print + Eprint + Clock + AllocGlobal + Threads + Wait + Sync, R: Re
         write: Cell::new(None),
     };
     let writer = io::writer(rt);
-    let wanted = wanted_by(request, at);
     match run_through(rt, &causes, wanted, terminals, reader, writer) {
         Err(RunFault::File(Fault::Read)) => Ok(told_with_cause(
             rt,
@@ -267,14 +266,6 @@ fn opened<R: Source + Drop>(alloc: Global, engine: Engine, source: R) -> Result<
     }
 }
 
-/// Returns the number of events after which a request asks for the state: 0 for other commands, `None` if `--at` is not valid.
-fn events_asked(request: &Request<'_>) -> Option<u64> {
-    match request.command.engine {
-        Engine::State => events_said(request.at?),
-        _ => Some(0),
-    }
-}
-
 /// Runs the engine from a source to a sink; returns the exit status of its end.
 fn run_engine<T: AllocGlobal + Threads + Wait + Sync, R: Source, W: Sink, L: Onlooker>(
     rt: &T,
@@ -287,7 +278,7 @@ fn run_engine<T: AllocGlobal + Threads + Wait + Sync, R: Source, W: Sink, L: Onl
     requires writes { W.failures output.old < 2 ^ 64 - 1 }
 {
     let alloc = rt.alloc();
-    let (reads, accesses) = (wanted.reads, wanted.accesses);
+    let options = wanted.picture;
     let by = if wanted.any_lock {
         JudgedBy::AnyLock
     } else {
@@ -309,20 +300,20 @@ fn run_engine<T: AllocGlobal + Threads + Wait + Sync, R: Source, W: Sink, L: Onl
         Engine::Judge if wanted.any_lock => judge_any_lock(alloc, input, output, wanted.why),
         Engine::Judge => run_judge(alloc, input, output, wanted.why),
         Engine::Race => return run_race(rt, alloc, input, output),
-        Engine::Draw if wanted.is_trace => {
-            draw_trace(alloc, wanted.judge, accesses, input, output)
-        }
+        Engine::Draw if wanted.is_trace => draw_trace(alloc, wanted.judge, options, input, output),
         Engine::DrawSvg if wanted.is_trace => {
-            draw_trace_svg(alloc, wanted.judge, accesses, input, output)
+            draw_trace_svg(alloc, wanted.judge, options, input, output)
         }
-        Engine::Draw if wanted.judge => draw_judged_record(alloc, by, reads, input, output),
-        Engine::DrawSvg if wanted.judge => draw_judged_record_svg(alloc, by, reads, input, output),
-        Engine::Draw if wanted.is_record => exit_status(draw_record(alloc, reads, input, output)),
+        Engine::Draw if wanted.judge => draw_judged_record(alloc, by, options, input, output),
+        Engine::DrawSvg if wanted.judge => {
+            draw_judged_record_svg(alloc, by, options, input, output)
+        }
+        Engine::Draw if wanted.is_record => exit_status(draw_record(alloc, options, input, output)),
         Engine::DrawSvg if wanted.is_record => exit_status(draw_record_svg(
-            alloc, reads, input, output,
+            alloc, options, input, output,
         )),
-        Engine::Draw => exit_status(draw(alloc, reads, input, output, onlooker)),
-        Engine::DrawSvg => exit_status(draw_svg(alloc, reads, input, output, onlooker)),
+        Engine::Draw => exit_status(draw(alloc, options, input, output, onlooker)),
+        Engine::DrawSvg => exit_status(draw_svg(alloc, options, input, output, onlooker)),
     };
     Ok(ran?)
 }

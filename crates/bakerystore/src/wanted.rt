@@ -1,8 +1,17 @@
 //! The options of an engine, and what they say of its file.
-use command_line::{Engine, Intake, Request};
-use run_state::FileKind;
-use trace_draw::AccessChoice;
-use trace_draw::draw::Reads;
+use command_line::{Engine, Intake, RangeFault, Request, entries_asked};
+use run_state::{FileKind, events_said};
+use trace_draw::draw::{PictureOptions, Reads, Window};
+
+/// The message if `--at` of `state` is missing or is not such a number.
+const NO_AT: &str = "state needs --at N, where N is a number below 2^64 or `end`";
+
+/// The message if the value of `--from` or `--to` is not such a number.
+const NO_NUMBER: &str = "--from and --to need a number below 2^64, without a sign or leading zeros";
+
+/// The message if no entry is between the two numbers.
+const NO_ENTRIES: &str =
+    "--from must not be above --to: --from is the number of the first entry, --to that of the last";
 
 /// The message if `--reads` is given for a trace.
 const NO_READS: &str =
@@ -12,10 +21,8 @@ const NO_READS: &str =
 #[derive(Clone, Copy)]
 pub(crate) struct Wanted {
     pub engine: Engine,
-    /// What the picture of a run or of a record shows, if it does not show all accesses anyway.
-    pub reads: Reads,
-    /// Which accesses the picture of a trace shows.
-    pub accesses: AccessChoice,
+    /// The entries that a picture shows, and which of their accesses are asked for.
+    pub picture: PictureOptions,
     /// Whether overlapped reads are asked for, which a trace refuses.
     pub asks_reads: bool,
     pub judge: bool,
@@ -33,16 +40,14 @@ pub(crate) struct Wanted {
     pub at: u64,
 }
 
-/// Returns the options of a request, before its file is opened.
-pub(crate) fn wanted_by(request: &Request<'_>, at: u64) -> Wanted {
+/// Returns the options of a request, before its file is opened, or a message if the value of one is not valid.
+pub(crate) fn wanted_by(request: &Request<'_>) -> Result<Wanted, &'static str> {
     let judge = request.judge | request.any_lock;
-    Wanted {
+    Ok(Wanted {
         engine: request.command.engine,
-        reads: reads_of(request),
-        accesses: if request.accesses {
-            AccessChoice::All
-        } else {
-            AccessChoice::IfShort
+        picture: PictureOptions {
+            reads: reads_of(request),
+            window: window_of(request)?,
         },
         asks_reads: request.reads,
         judge,
@@ -53,12 +58,36 @@ pub(crate) fn wanted_by(request: &Request<'_>, at: u64) -> Wanted {
         is_streamed: request.command.intake == Intake::Streamed,
         is_record: judge,
         is_trace: false,
-        at,
+        at: events_of(request)?,
+    })
+}
+
+/// Returns the number of events after which a request asks for the state: 0 for other commands; or a message if `--at` is
+/// not valid.
+fn events_of(request: &Request<'_>) -> Result<u64, &'static str> {
+    match request.command.engine {
+        Engine::State => match request.at {
+            Some(word) => events_said(word).ok_or(NO_AT),
+            None => Err(NO_AT),
+        },
+        _ => Ok(0),
     }
 }
 
-/// Returns what a request asks the picture of a run or of a record to show. If all accesses are shown, overlapped reads have no
-/// columns of their own.
+/// Returns the entries that a request asks a picture to show, or a message if `--from` or `--to` is not valid.
+fn window_of(request: &Request<'_>) -> Result<Window, &'static str> {
+    match entries_asked(request.from, request.to) {
+        Ok(entries) => Ok(Window {
+            from: entries.first,
+            to: entries.last,
+        }),
+        Err(RangeFault::NotNumber) => Err(NO_NUMBER),
+        Err(RangeFault::Reversed) => Err(NO_ENTRIES),
+    }
+}
+
+/// Returns which accesses a request asks a picture to show. If all accesses are shown, overlapped reads have no columns of their
+/// own.
 fn reads_of(request: &Request<'_>) -> Reads {
     if request.accesses {
         Reads::All

@@ -22,9 +22,15 @@ use Rattle.command_line.specs.declared.pages.HelpPage.TheVariants.{Words, Run as
 abbrev pub flag_rule : Text → Rule
 flag_rule name = record (new_rule name) { long = Some name; action = Some SetTrue }
 
--- an option of a command: `at` has a value
+-- whether an option of a command has a value
+abbrev pub has_value : Text → Bool
+has_value name =
+    bytes_eq name (codes "at") || bytes_eq name (codes "from") || bytes_eq name (codes "to")
+
+-- an option of a command, with its value if it has one
 abbrev pub option_rule : Text → Rule
-option_rule name = if bytes_eq name (codes "at") then record (new_rule name) { long = Some name } else flag_rule name
+option_rule name =
+    if has_value name then record (new_rule name) { long = Some name } else flag_rule name
 
 abbrev pub file_rule : Rule
 file_rule = record (new_rule (codes "FILE")) { required = true }
@@ -105,6 +111,8 @@ pub record Running : Type 0 where
   pub accesses : Bool
   pub why : Bool
   pub at : Option Text
+  pub from : Option Text
+  pub to : Option Text
   pub explain : Bool
   pub quiet : Bool
 
@@ -132,6 +140,8 @@ asked_by (Run r) = runs (record {
   accesses = r.accesses;
   why = r.why;
   at = option_map (λ t. t.now) r.at;
+  from = option_map (λ t. t.now) r.from;
+  to = option_map (λ t. t.now) r.to;
   explain = r.explain;
   quiet = r.quiet;
 })
@@ -166,6 +176,8 @@ asked_of_file quiet command own file = runs (record {
   accesses = has_flag (codes "accesses") own;
   why = has_flag (codes "why") own;
   at = first_of (codes "at") own;
+  from = first_of (codes "from") own;
+  to = first_of (codes "to") own;
   explain = has_flag (codes "explain") own;
   quiet = quiet || has_flag (codes "quiet") own;
 })
@@ -213,6 +225,8 @@ running c file = record {
   accesses = false;
   why = false;
   at = None;
+  from = None;
+  to = None;
   explain = false;
   quiet = false;
 }

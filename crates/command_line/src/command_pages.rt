@@ -244,11 +244,16 @@ FILE may also be a record or a trace, good or bad, of any lock; its first word d
 With --judge or --any-lock FILE is a record or a trace, and its picture ends with the
 first bad entry. What judge --why, or judge --any-lock --why, prints follows, each line
 in the lane of the process that it names, and the status is that of judge.
-The picture of a record or of a trace of up to 400 entries shows each access from its
-begin to its end, the writes that overlap it, what each read gave, and the value of each
-bit or cell. With --accesses that of any file does, also of a run, and of all bits or
-cells (otherwise of the first sixteen that are written); --reads then shows nothing more,
-because the boxes of overlapped reads are marked. --reads is refused for a trace.
+With --from N and --to M it shows the entries N to M alone (of a run, the events), both
+included, by their numbers on the axis; N is 0 if left out, and M the end. At the left
+edge are the stages, the bits or cells and the store as they are before entry N, and the
+file is run, read and judged as a whole.
+With at most 400 entries in the file, or from N to M, the picture of a record or of a
+trace shows each access from its begin to its end, the writes that overlap it, what each
+read gave, and the value of each bit or cell. Otherwise --accesses shows them, also of a
+run, and those of all bits or cells (without it, of the first sixteen that are written);
+--reads then shows nothing more, because the boxes of overlapped reads are marked.
+--reads is refused for a trace.
 What a picture shows: docs/PICTURE.md
 The lines of a scenario: bakerystore help replay
 
@@ -261,7 +266,8 @@ The lines of a scenario: bakerystore help replay
 /// The page of `draw-svg`.
 const DRAW_SVG: &str = r"
 Writes the picture of a scenario's run, of a record, or of a trace, as one SVG without a
-page around it. With --reads, --accesses, --judge and --any-lock it shows what draw shows.
+page around it. With --reads, --accesses, --judge, --any-lock, --from and --to it shows
+what draw shows.
 What a picture shows: docs/PICTURE.md
 The lines of a scenario: bakerystore help replay
 

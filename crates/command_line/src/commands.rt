@@ -53,7 +53,8 @@ pub struct CommandEntry {
     pub engine: Engine,
     /// How that engine reads the file.
     pub intake: Intake,
-    /// Its options, in addition to `--quiet` and `--explain`, which all commands have. `at` has a value.
+    /// Its options, in addition to `--quiet` and `--explain`, which all commands have. `at`, `from` and `to`
+    /// have a value.
     pub options: &'static [&'static str],
     /// The effect of the command, in a line of the general page.
     pub about: &'static str,
@@ -161,7 +162,7 @@ pub const COMMANDS: [(&str, Engine, Intake, &[&str], &str, &str); 12] = [
         "draw",
         Engine::Draw,
         Intake::Whole,
-        &["reads", "judge", "any-lock", "accesses"],
+        &["reads", "judge", "any-lock", "accesses", "from", "to"],
         "draws a run, a record or a trace, as a page for a browser",
         "examples/torn-commit.bakery",
     ),
@@ -169,7 +170,7 @@ pub const COMMANDS: [(&str, Engine, Intake, &[&str], &str, &str); 12] = [
         "draw-svg",
         Engine::DrawSvg,
         Intake::Whole,
-        &["reads", "judge", "any-lock", "accesses"],
+        &["reads", "judge", "any-lock", "accesses", "from", "to"],
         "draws the same as one SVG",
         "examples/torn-commit.bakery",
     ),

@@ -30,12 +30,14 @@ Options:
   --any-lock  judge, draw, draw-svg: judge the record of any lock
   --explain   show the line and the word at fault, and what was expected there; this
               is so without the option if standard error is a terminal
+  --from N    draw, draw-svg: show no entry (no event of a run) before number N
   --judge     draw, draw-svg: show the verdict on a record or a trace, with its reasons
   --quiet     show no progress. Without it, a run of more than two seconds shows its
               progress if standard error is a terminal and standard output is not;
               sweep does so if both are (plain and bits, which end soon, and race,
               whose threads all run at once, show none)
   --reads     draw, draw-svg: show the reads that a write overlapped
+  --to N      draw, draw-svg: show no entry (no event of a run) after number N
   --why       judge: give the reasons of a bad verdict
   --          end the options: what follows is a file
 

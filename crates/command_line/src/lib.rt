@@ -5,6 +5,7 @@
 mod causes;
 mod command_pages;
 mod commands;
+mod entry_ranges;
 mod first_word;
 mod fronts;
 mod help;
@@ -20,6 +21,7 @@ mod words;
 
 pub use causes::{NotedReader, NotedWriter, reason_of};
 pub use commands::{CommandEntry, Engine, Intake};
+pub use entry_ranges::{EntryRange, RangeFault, entries_asked};
 pub use files::{Fault, FromRead, IntoWrite, LineFault, Sink, Source, exit_status};
 pub use first_word::FirstWord;
 pub use fronts::FrontSink;

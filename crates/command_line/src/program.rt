@@ -158,12 +158,12 @@ fn help<'a>(alloc: Global) -> Result<Command<'a>, AllocError>
     with_options(alloc, command, &["quiet"])
 }
 
-/// Returns an option of a command: `at` has a value.
+/// Returns an option of a command: `at`, `from` and `to` have a value.
 fn option<'a>(alloc: Global, name: &'a str) -> Arg<'a>
     ensures rule { rule_of result ≡ option_rule name.now }
     ensures local { result.global ≡ false }
 {
-    if name == "at" {
+    if name == "at" || name == "from" || name == "to" {
         Arg::new(alloc, name).long(name)
     } else {
         flag(alloc, name)

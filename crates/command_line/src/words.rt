@@ -32,6 +32,10 @@ pub struct Request<'a> {
     pub why: bool,
     /// The number of events after which the state is printed, as the argument spells it.
     pub at: Option<&'a str>,
+    /// The number of the first entry that the picture shows, as the argument spells it.
+    pub from: Option<&'a str>,
+    /// The number of the last entry that the picture shows, as the argument spells it.
+    pub to: Option<&'a str>,
     /// Whether the place of a fault is printed, and what was expected there.
     pub explain: bool,
     /// Whether no progress is shown.
@@ -132,6 +136,8 @@ fn asked_of_none<'a>(quiet: bool) -> Option<Invocation<'a>>
         accesses: false,
         why: false,
         at: None,
+        from: None,
+        to: None,
         explain: false,
         quiet,
     }))
@@ -192,6 +198,8 @@ fn request_of<'a>(
         accesses: is_set(own, "accesses"),
         why: is_set(own, "why"),
         at: text_of(own, "at"),
+        from: text_of(own, "from"),
+        to: text_of(own, "to"),
         explain: is_set(own, "explain"),
         quiet: quiet | is_set(own, "quiet"),
     }
