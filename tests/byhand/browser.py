@@ -10,7 +10,9 @@ the list.
 
 The pages of the lessons are made anew. A script in each goes through its parts by the space bar and back, and writes a prediction; the
 arrow keys lead from the first lesson to the last one, and back. The letters of a picture have at least 18 pixels in a window of 1280.
-Each lesson is printed on one sheet, with its folded parts and without them. By hand: it needs Chromium, and says so where there is none.
+Once a picture is moved to its end, its lanes and its verdict are in sight, if the window has room. The zoom of the browser makes text and
+pictures larger. Each lesson is printed on one sheet, with its folded parts and without them, and the hand-out on one side. By hand: it
+needs Chromium, and says so where there is none.
 """
 
 import html
@@ -128,17 +130,26 @@ next();
 STEPS = """<script>
 addEventListener('load', function () {
   var parts = [].slice.call(document.querySelectorAll('.part')), wrong = [], key = 'KEY';
-  var box = document.getElementById('predict-box'), view = document.querySelector('.view');
+  var box = document.getElementById('predict-box'), views = [].slice.call(document.querySelectorAll('.view')), seen = [];
   function check(holds, words) { if (!holds && wrong.indexOf(words) < 0) wrong.push(words); }
   function press(key, isShifted) {
     var at = document.activeElement || document.body;
     at.dispatchEvent(new KeyboardEvent('keydown', { key: key, shiftKey: isShifted, bubbles: true, cancelable: true }));
   }
   function shown() { return document.querySelector('.parts [aria-current]').getAttribute('href').slice(1); }
+  // a picture that has come to its end is in sight, without its title, if the window has room for it
+  function look(view) {
+    var lanes = view.querySelector('.names').getBoundingClientRect(), room = innerHeight - document.querySelector('.bar').offsetHeight;
+    var title = lanes.height * 40 / view.style.getPropertyValue('--lanes');
+    if (seen.indexOf(view) >= 0 || !view.scrollLeft || view.scrollLeft + view.clientWidth < view.scrollWidth - 2) return;
+    seen.push(view);
+    check(lanes.height - title > room || lanes.bottom < room && lanes.top > -title, 'the picture is not in sight');
+  }
   function visited(key, isShifted) {
     var found = [shown()];
     for (var n = 0; n < 80; n++) {
       press(key, isShifted);
+      views.forEach(look);
       if (shown() !== found[found.length - 1]) found.push(shown());
     }
     return found.join(' ');
@@ -154,16 +165,21 @@ addEventListener('load', function () {
   check(document.activeElement !== box, 'Esc does not leave the box');
   scrollTo(0, 0);
   check(visited(' ', false) === names().join(' '), 'the space bar leads elsewhere');
-  document.querySelectorAll('.part > details').forEach(function (fold) { check(fold.open, 'a part is not unfolded'); });
+  document.querySelectorAll('.part > details').forEach(function (fold) {
+    check(fold.open === !!fold.querySelector('summary h2'), 'a part is not unfolded, or a file is');
+  });
   check(document.querySelector('[data-part=run] .echo').textContent.indexOf('a guess') > 0, 'the prediction is not repeated');
   check(document.documentElement.scrollWidth <= innerWidth, 'the page scrolls sideways');
-  if (view) {
-    var least = 10 * document.querySelector('img.whole').getBoundingClientRect().width / 1200;
+  views.forEach(function (view) {
+    var least = 10 * view.querySelector('img.whole').getBoundingClientRect().width / 1200;
     check(least >= (innerWidth < 700 ? 10.9 : 18), 'small letters: ' + least);
     check(view.scrollLeft + view.clientWidth > view.scrollWidth - 2, 'the picture was not moved to its end');
-    var strip = document.querySelector('.names').getBoundingClientRect();
+    var strip = view.querySelector('.names').getBoundingClientRect();
     check(Math.abs(strip.left - view.getBoundingClientRect().left) < 3, 'the names of the lanes have moved');
-  }
+    view.nextElementSibling.querySelector('button').click();
+    check(view.classList.contains('fitted') && view.scrollWidth <= view.clientWidth + 2, 'a button does not show the whole picture');
+    view.nextElementSibling.querySelector('button').click();
+  });
   check(visited('PageUp', false) === names().reverse().join(' '), 'Page Up leads elsewhere');
   parent.postMessage([document.title, wrong.join(', ')], '*');
   press(key, false);
@@ -171,7 +187,7 @@ addEventListener('load', function () {
 </script>
 """
 # opens a lesson in a frame, and gathers what it and the lessons tell to which it leads
-COURSE = """<!doctype html><body><iframe style="width:WIDTHpx;height:800px;border:0" src="FIRST"></iframe><script>
+COURSE = """<!doctype html><body><iframe style="width:WIDTHpx;height:900px;border:0" src="FIRST"></iframe><script>
 var told = [];
 addEventListener('message', function (message) {
   told.push(message.data);
@@ -183,6 +199,17 @@ addEventListener('message', function (message) {
 });
 </script>
 """
+# measures the letters of a page, and its first picture
+LETTERS = """<script>
+var end = document.createElement('pre');
+end.id = 'heard';
+end.textContent = JSON.stringify([
+  parseFloat(getComputedStyle(document.documentElement).fontSize), document.querySelector('.whole').getBoundingClientRect().width
+]);
+document.body.appendChild(end);
+</script>
+"""
+ZOOMS = (1, 1.25, 1.5, 2)
 # what is measured of a page: letters are large enough, the picture has moved and the name of its lane has not, nor does the page
 # scroll sideways; the heading of the first band; and what the slider says behind each key
 MEASURED = {
@@ -329,6 +356,14 @@ def sheets(browser, page):
         return len(re.findall(rb"/Type /Page\b", paper.read_bytes()))
 
 
+def enlarged(browser, page, width):
+    """How large letters and picture are on a screen so many pixels wide, at each zoom."""
+    page = page.replace("<details>", "<details open>").replace("</body>", LETTERS + "</body>")
+    for zoom in ZOOMS:
+        end = re.search(r'<pre id="heard">(.*?)</pre>', shown(browser, page, f"--window-size={round(width / zoom)},900"), re.S)
+        yield [size * zoom for size in json.loads(end.group(1))]
+
+
 def try_lessons(counter, browser):
     """Opens and prints the pages of the lessons."""
     titles = [lesson.title for lesson in lesson_pages.lessons()]
@@ -343,6 +378,12 @@ def try_lessons(counter, browser):
             folded = content.decode()
             counts = [sheets(browser, page) for page in (folded, folded.replace("<details>", "<details open>"))]
             counter.count(all(1 <= count <= 2 for count in counts), f"{name} takes {counts} sides of paper, folded and unfolded")
+        if name == "handout.html":
+            counter.compare("sides of paper of the hand-out", sheets(browser, content.decode()), 1)
+        if name.startswith("16-"):
+            for width in (1024, 1280, 1920):
+                sizes = [*zip(*enlarged(browser, content.decode(), width))]
+                counter.count(all(a < b for size in sizes for a, b in zip(size, size[1:])), f"sizes by zoom, {width} pixels wide: {sizes}")
 
 
 def wanted(name):

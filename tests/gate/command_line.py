@@ -24,6 +24,11 @@ RECORD = (0, "record 1\nprocesses 2\ntickets 4\nstamps 4\nslots 1\n0 : call add 
 
 NO_READS = "--reads is for runs and records; a trace of up to 400 entries shows all accesses, and a longer one with --accesses\n"
 
+NO_NUMBER = "--from and --to need a number below 2^64, without a sign or leading zeros\n"
+NO_ENTRIES = "--from must not be above --to: --from is the number of the first entry, --to that of the last\n"
+# values that are not numbers below 2^64 in decimal
+NO_NUMBERS = ["", "x", "end", "+1", "01", "1 ", "0x1", str(2**64), "9" * 30]
+
 WHY = "bad 1 marks\nline 3\nis 0 : enter\nrefused not-waiting\nstage doorway\n"
 OWN_WHY = "bad 1 program\nline 3\nis 0 : enter\nmay 0 0.choosing.0.0 write 1\nstage doorway\n"
 
@@ -77,6 +82,16 @@ CASES = [
     (["draw-svg", "-"], "trace 1\nprocesses 0\n", (1, "", "line 2: bad-setup\n")),
     (["draw", "--judge", "-"], "# no line\ntrace 2\n", (1, "", "line 2: not-first\n")),
     (["draw", "--reads", "-"], "trace 1\n0 : call\n", (2, "", NO_READS)),
+    # words that mean no entries are refused before the file is read
+    *((words, "", (2, "", NO_ENTRIES)) for words in [["draw", "--from", "9", "--to", "3", "-"], ["draw-svg", "no such file", "--to=0", "--from=1"]]),
+    *((["draw", option, value, "-"], SCENARIO, (2, "", NO_NUMBER)) for option in ["--from", "--to"] for value in NO_NUMBERS),
+    (["draw-svg", "-", "--from=1", "--to=-1"], SCENARIO, (2, "", NO_NUMBER)),
+    (["draw-svg", "--from", "9", "--to", "x", "no such file"], "", (2, "", NO_NUMBER)),
+    # the greatest number, two equal numbers, and one option alone are taken: the fault is that of the file
+    *(
+        (["draw", *options, "-"], "bakery 1\nprocesses 0\n", (1, "", "line 2: bad-setup\n"))
+        for options in [["--from", str(2**64 - 1)], ["--to", str(2**64 - 1)], ["--from=7", "--to=7"], ["--to", "0", "--from", "0"]]
+    ),
 ]
 
 

@@ -108,7 +108,7 @@ def wave_faults(seen, shown, places, waves, end):
     begun = [it.change for it in shown if it.change and it.change.row >= len(waves)]
     for it in shown:
         if it.change and it.change.row == len(waves):
-            waves.append([it.cell, it.change.old, False])
+            waves.append([it.cell, it.change.old, it.change.was_open])
     if [name for name, *_ in seen.waves] != [name for name, *_ in waves]:
         yield f"waves of {[name for name, *_ in seen.waves]}, not of {[name for name, *_ in waves]}; {len(begun)} begin"
         return

@@ -29,12 +29,15 @@ from lib.places import OTHER_LOCKS, PROGRAM, TOP, WORKED
 from pictures import SVG, Groups, overlapped_in, read_faults, title, words_of
 from second.drawn_accesses import MOST_WAVES
 from second.drawn_record_accesses import shown_accesses
+from second.programs import Setup
 from second.record_files import read_record
 
 # lines of a run that its record doesn't say
 UNSAID = re.compile(r"- \d+ (refused|turns)|show ")
 # what each picture has of the file that it was drawn from: the list of its lines, and which of these made a mark
 LIST = re.compile(r"<details open>.*?</details>\n", re.DOTALL)
+# how the heading begins, which names the kind of the file
+HEADING = re.compile(r"(?:Run|Record) of \d+ process(?:es)? \((?:bakery|record) ")
 BY_LINE = re.compile(r' data-l="\d+"')
 END = re.compile(r"(end events \d+ taken \d+ refused )\d+")
 # the most entries of a picture that shows accesses without being asked to, and of one that is drawn with all accesses here
@@ -58,8 +61,8 @@ def written(file, command, *options):
 
 
 def bands_of(picture):
-    """What a picture shows, without what it has of its file."""
-    return BY_LINE.sub("", LIST.sub("", picture))
+    """What a picture shows, without its heading and what it has of its file."""
+    return BY_LINE.sub("", LIST.sub("", HEADING.sub("", picture)))
 
 
 def heard(picture):
@@ -136,10 +139,27 @@ def shown_faults(root, record, count, shows_all=False):
     yield from access_faults(bands_in(root), accesses_shown(record, count, None if shows_all else MOST_WAVES))
 
 
+def heading_of(record):
+    """The heading of the picture of a record: what it is of, how many processes it has, and the numbers of its setup."""
+    setup = Setup(read_record(record)[0])
+    numbers = f"record {setup.version}, tickets {setup.tickets}, stamps {setup.stamps}, slots {setup.slots}"
+    return f"Record of {setup.processes} process{'es' * (setup.processes != 1)} ({numbers})"
+
+
+def heading_faults(record, root):
+    """What is wrong with the headings of a picture and a page of a record: one as a title, and one that is shown."""
+    shown = [root.find(SVG + "title").text, root.find(SVG + "text").text]
+    parts = re.findall("<title>(.*?)</title>|<h1>(.*?)</h1>", written(record, "draw"))[:2]
+    shown += [title or heading for title, heading in parts]
+    if shown != [heading_of(record)] * 4:
+        yield f"the headings are {shown}, not {heading_of(record)}"
+
+
 def record_faults(record):
     """What is wrong with the pictures of a record, whatever lock it is of."""
     wanted = list(lines_of(record))
     root = tree.fromstring(written(record, "draw-svg"))
+    yield from heading_faults(record, root)
     yield from shown_faults(root, record, count_in(wanted))
     if count_in(wanted) <= MOST_DRAWN:
         with_all = tree.fromstring(written(record, "draw-svg", "--accesses"))

@@ -2,12 +2,14 @@
 """Checks lessons/grade.py: the grades of ten made-up submissions, cell by cell, and of the answers of lessons/exercises/answers/.
 
 The ten are right, wrong, endless, malformed and hostile. Each counterexample has its picture. Further commands try to pass the limits of
-lessons/exercises/limits.py. The page of the exercises quotes its example, and the commands of the pages print what is shown below them.
+lessons/exercises/limits.py. Where a file of the search is missing, or the program does not run, files have no points. The page of the
+exercises quotes its example, and the commands of the pages print what is shown below them.
 """
 
 import csv
 import os
 import pathlib
+import shutil
 import socket
 import subprocess
 import sys
@@ -31,7 +33,7 @@ PAGES = [LESSONS / "exercises" / "README.md", LESSONS / "GRADING.md", LESSONS / 
 PETERSON, IN_ORDER = (ANSWERS / "1.py").read_text(), (ANSWERS / "2.py").read_text()
 RAISE, TURN, CALL = "        yield flag[me].set(1)\n", "        yield turn.set(1 - me)\n", '        yield "call"\n'
 LOOK, ENTER, LOOP = "        while (yield flag[1 - me].get()):\n", '        yield "enter"\n', "    while True:\n"
-NAME = "the name is not NAME-EXERCISE.py, .trace or .record, with an exercise of 1 to 5"
+NAME = "the name is not STUDENT-EXERCISE.py, .trace or .record, with an exercise of 1 to 5"
 # the hidden run that one of the submissions does not pass
 SEED, LATE = "7", "hidden run 5 of seed 7, with 2 processes"
 # what no file may contain, each as a line of a lock
@@ -52,12 +54,12 @@ def changed(text, *pairs):
 
 
 def submissions():
-    """Returns the ten submissions: of each file name its text, and its row of the table without the name. A link has a path as its
-    text."""
+    """Returns the ten submissions: of each file name its text, and its row of the table without the names of the file and the student.
+    A link has a path as its text."""
     late = changed(PETERSON, (LOOP, f"    calls = 0\n{LOOP}"), (CALL, f"{CALL}        calls = min(calls + 1, 3)\n"))
     late = changed(late, (LOOK, "        while calls < 3 and (yield flag[1 - me].get()):\n"))
     waits_late = changed(IN_ORDER, ('        yield "wait"\n', ""), (ENTER, f'        yield "wait"\n{ENTER}'))
-    not_reached = "2-in-order.runs, line 72, `go 1 wait`: not reached in 1000 entries of a process"
+    not_reached = "run comes-back (2-in-order.runs, line 72, `go 1 wait`): entries 8 to 9 are repeated for ever"
     overtakes = (TOP / "examples" / "other-locks" / "one-bit-overtakes" / "record").read_text()
     why = "bad 10 overtaken; line 16; is 0 1.choosing.0.0 value 0 : enter; stage waiting; open 6; waits 1 3; doorway 4"
     turn_first = changed(PETERSON, (RAISE + TURN, TURN + RAISE))
@@ -67,14 +69,14 @@ def submissions():
     no_python = changed(PETERSON, (LOOP, "    while True print:\n"))
     runs = lambda name: [name + ".trace", name + ".svg"]
     return {
-        "=1+1-1.py": ("/etc/passwd", ["", "0", "file", "file", NAME, "", "", ""]),
+        "=1+1-1.py": ("/etc/passwd", ["", "", "file", "file", NAME, "", "", ""]),
         "ada-1.py": (PETERSON, ["1", "10", "", "", "", "", "", ""]),
         "bob-1.py": (turn_first, ["1", "2", "laws", "together", together, "", *runs("bob-1.py")]),
         "cem-2.py": (waits_late, ["2", "0", "runs", "turns", not_reached, "", *runs("cem-2.py")]),
         "dina-1.py": (endless, ["1", "0", "runs", "", "", "cpu", "", ""]),
         "eli-1.py": (changed(PETERSON, (ENTER, f"        me = [me] * 10**12\n{ENTER}")), ["1", "0", "runs", "", "", "memory", "", ""]),
-        "fay-1.py": (no_python, ["1", "0", "file", "file", "line 9: invalid syntax", "", "", ""]),
-        "gus-1.py": (hostile, ["1", "0", "file", "file", "line 1: `import os` is not in the language of the exercises", "", "", ""]),
+        "fay-1.py": (no_python, ["1", "", "file", "file", "line 9: invalid syntax", "", "", ""]),
+        "gus-1.py": (hostile, ["1", "", "file", "file", "line 1: `import os` is not in the language of the exercises", "", "", ""]),
         "hana-lea-1.py": (late, ["1", "8", "hidden", "together", LATE, "", *runs("hana-lea-1.py")]),
         "ivo-4.record": (overtakes, ["4", "0", "trace", "overtaken", why, "", "ivo-4.record", "ivo-4.record.svg"]),
     }
@@ -99,18 +101,23 @@ def check_submissions(counter, folder):
     for name, (text, _) in made.items():
         os.symlink(text, folder / name) if name.startswith("=") else (folder / name).write_text(text)
     rows, out = graded(folder, "--cpu", "4", "--seed", SEED)
-    counter.compare("the columns", rows[0], ["file", "exercise", "points", "part", "law", "reason", "limit", "trace", "picture"])
+    counter.compare("the columns", rows[0], [*"file student exercise points part law reason limit trace picture".split()])
     counter.compare("the number of rows", len(rows), len(made) + 1)
     for row, (name, (_, wanted)) in zip(rows[1:], made.items()):
         # (how far a hidden run is shortened is not stated here)
-        reason = row[5].partition(";")[0] if wanted[4] == LATE else row[5]
-        counter.compare(name, [*row[:5], reason, *row[6:]], ["'" * name.startswith("=") + name, *wanted])
-        for file in filter(None, row[7:]):
+        reason = row[6].partition(";")[0] if wanted[4] == LATE else row[6]
+        student = "" if name.startswith("=") else name.rpartition("-")[0]
+        counter.compare(name, [*row[:6], reason, *row[7:]], ["'" * name.startswith("=") + name, student, *wanted])
+        for file in filter(None, row[8:]):
             counter.count((out / file).is_file() and (out / file).read_bytes(), f"{file} is missing or empty")
-        if row[7]:
-            words = ["judge", *["--any-lock"] * row[7].endswith(".record"), out / row[7]]
+        if row[8]:
+            words = ["judge", *["--any-lock"] * row[8].endswith(".record"), out / row[8]]
             told = subprocess.run([PROGRAM, *words], capture_output=True, text=True).stdout
-            counter.count(told.startswith("good" if wanted[3] == "turns" else "bad"), f"{row[7]}: {told}")
+            is_endless = wanted[3] == "turns"
+            counter.count(told.startswith("good" if is_endless else "bad"), f"{row[8]}: {told}")
+            counter.count(("<title>judge " in (out / row[9]).read_text()) != is_endless, f"{row[9]} has a verdict, or lacks one")
+            last = (out / row[8]).read_text().splitlines()[-1]
+            counter.count(last == f"# {row[6]}" if is_endless else not last.startswith("#"), f"{row[8]} ends with {last}")
     counter.count(not list(folder.rglob("harmed")) and not pathlib.Path("harmed").exists(), "a submission has run a command")
 
 
@@ -121,8 +128,33 @@ def check_answers(counter, folder):
         (folder / f"answer-{number}.py").write_bytes((ANSWERS / f"{number}.py").read_bytes())
     rows, _ = graded(folder)
     for number, row in enumerate(rows[1:], 1):
-        counter.compare(f"answer {number}", row, [f"answer-{number}.py", str(number), "10", *[""] * 6])
+        counter.compare(f"answer {number}", row, [f"answer-{number}.py", "answer", str(number), "10", *[""] * 6])
     counter.compare("the number of answers", len(rows), 6)
+
+
+def check_faults(counter, folder):
+    """Checks that a fault of the installation gives no points, and a status other than 0: a file of the search is missing, or the
+    program does not judge."""
+    folder.mkdir()
+    (folder / "class").mkdir()
+    (folder / "class" / "ada-1.py").write_text((LESSONS / "exercises" / "example" / "ada-1.py").read_text())
+    for part in ("lessons/grade.py", "lessons/exercises", "examples/other-locks"):
+        (folder / part).parent.mkdir(exist_ok=True)
+        copy = shutil.copy if part.endswith(".py") else shutil.copytree
+        copy(TOP / part, folder / part)
+    broken = folder / "program"
+    broken.write_text("#!/bin/sh\nexit 5\n")
+    broken.chmod(0o755)
+    missing = "the search does not start: ModuleNotFoundError: No module named 'cell_locks'"
+    for program, reason in (broken, "bakerystore does not judge, and ends with status 5"), (PROGRAM, missing):
+        out = folder / f"{program.name}.grades"
+        command = [sys.executable, folder / "lessons" / "grade.py", folder / "class", "--program", program, "--out", out]
+        ran = subprocess.run(command, capture_output=True, text=True)
+        with open(out / "grades.csv", newline="") as file:
+            row = [*csv.reader(file)][1]
+        wanted = ["ada-1.py", "ada", "1", "", "not graded", "", reason, "", "", ""]
+        counter.compare(f"a fault of {program.name}", (ran.returncode, row), (1, wanted))
+        (folder / "examples" / "other-locks" / "cell_locks.py").unlink(missing_ok=True)
 
 
 def check_language(counter):
@@ -213,6 +245,7 @@ def main():
         folder = pathlib.Path(name)
         check_submissions(counter, folder / "class")
         check_answers(counter, folder / "answers")
+        check_faults(counter, folder / "faults")
         check_limits(counter, folder / "limits")
     check_pages(counter)
     counter.end()

@@ -4,7 +4,8 @@
 - Each command of a page prints what the page shows below it, byte for byte.
 - A page has the words of its Markdown file in their order, and its code byte for byte. What a page adds to them is marked `ui`.
 - The page of a lesson has its parts in order, those after the prediction folded, a box for the prediction and one for the answer, and
-  leads to the previous and the next lesson. Its picture is the file of lessons/pictures/.
+  leads to the previous and the next lesson. Its pictures are files of lessons/pictures/. What stays in sight of a picture has the names
+  of its bits, and its verdict.
 - The index has each lesson with its goal and its minutes.
 - Each link leads to a file, and to an element of it if it names one. A page loads nothing but its picture, and no element is left open.
 - The text of a page is escaped, and a page that has no end of its code is refused.
@@ -171,7 +172,21 @@ def check_lesson(counter, name, page, before, after):
     neighbours = [it for it in (before, after) if it]
     counter.compare(f"{name}, previous and next", page.links[: len(neighbours)], neighbours)
     pictures = [words for _, words in page.images if words]
-    counter.compare(f"{name}, pictures", len(pictures), int("picture" in wanted))
+    shown = (LESSONS / name.replace(".html", ".md")).read_text().count("](pictures/")
+    counter.compare(f"{name}, pictures", (len(pictures), shown > 0), (shown, "picture" in wanted))
+
+
+def check_names(counter):
+    """Whether the names of all bits of a picture and the lines of its verdict are within what stays in sight."""
+    for path in sorted((LESSONS / "pictures").glob("*.svg")):
+        drawing, top = path.read_text(), 0
+        rows = pages.names_in(drawing)
+        for line in drawing.splitlines():
+            if group := re.fullmatch(r'<g transform="translate\(0,(\d+)\)">', line):
+                top = int(group[1])
+            if text := re.match(r'<text class="(?:cell" x="8|sentence" x="18|rest" x="18)" y="(\d+)">([^<]+)', line):
+                height, width = top + int(text[1]), 6 * len(text[2])
+                counter.count(any(first < height < last and width < most for first, last, most in rows), f"{path.name}: {text[2]}")
 
 
 def fault_of_link(folder, name, link, found):
@@ -252,6 +267,7 @@ def main():
     for before, name, after in zip([None, *names], names, [*names[1:], None]):
         check_lesson(counter, name, found[name], before, after)
     check_index(counter, found["index.html"])
+    check_names(counter)
     pictures = {name: text for name, text in content.items() if not name.endswith(".html")}
     drawn = {f"pictures/{path.name}": path.read_bytes() for path in (LESSONS / "pictures").glob("*.svg")}
     counter.count(pictures == drawn, f"the pages have other pictures: {pictures.keys() ^ drawn.keys()}")

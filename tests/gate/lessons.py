@@ -8,8 +8,8 @@ A lesson is a page and a file of the same name, as 02-doorway.md and 02-doorway.
 - quotes its whole file, in a block whose language is that of `LANGUAGES`;
 - runs its file by the first command of the part *The run*. What the page shows of the output are lines of the run, in their order
   (readme.py compares them exactly, with the other commands of `console` blocks);
-- shows its picture, unless its command is one of `NOT_DRAWN`. The line below the picture has the command that draws it. The
-  picture of a record of another lock ends with the verdict on it.
+- shows its picture, unless its command is one of `NOT_DRAWN`, and then perhaps a picture of a part of the run. The line below a
+  picture has the command that draws it. The picture of a record of another lock ends with the verdict on it.
 
 The page of the race shows texts side by side in its block of `text`: they are those of all orders of the calls, and each race
 prints one of them. The index lists each page with its title and its minutes, TEACHING.md lists it with the same minutes, and
@@ -39,11 +39,11 @@ RUN = re.compile(
     r"```console\n\$ (?P<command>.+)\n(?P<shown>(?:(?!\$ |```).*\n)*)"
 )
 COMMAND = re.compile(
-    r"(?:bakerystore (?P<words>[a-z -]+)|PYTHONPATH=examples/other-locks (?P<python>python3)) lessons/(?P<file>[\w.-]+)(?: \| .+)?"
+    r"(?:bakerystore (?P<words>[a-z0-9 -]+)|PYTHONPATH=examples/other-locks (?P<python>python3)) lessons/(?P<file>[\w.-]+)(?: \| .+)?"
 )
 PICTURE = re.compile(
     r"^!\[[^\]]+\]\(pictures/(?P<stem>[\w-]+)\.svg\)\n\n"
-    r"Drawn (?:from that record )?by `bakerystore (?P<words>draw-svg(?: --[a-z-]+)*) lessons/(?P<file>[\w./-]+)`",
+    r"Drawn (?:from that record )?by `bakerystore (?P<words>draw-svg(?: --[a-z-]+(?: \d+)?)*) lessons/(?P<file>[\w./-]+)`",
     re.M,
 )
 MINUTES = re.compile(r"\bAbout (\d+) minutes\b")
@@ -171,13 +171,21 @@ def fault_of_accesses(lesson):
     return None if accesses_in(contents_of(LESSONS / drawn_file(lesson))) == wanted else "draws other accesses"
 
 
-def fault_of_picture(lesson):
-    """Returns what is wrong with the picture that a page shows, or None."""
+def fault_of_pictures(lesson):
+    """Returns what is wrong with the picture that a page shows, or with the one of a part of the run that may follow it, or None."""
     stem = lesson.file.stem
     pictures = [*PICTURE.finditer(lesson.text)]
-    if len(pictures) != 1 or lesson.text.count("](pictures/") != 1 or pictures[0]["stem"] != stem:
+    stems = [picture["stem"] for picture in pictures]
+    if stems not in ([stem], [stem, f"{stem}-part"]) or lesson.text.count("](pictures/") != len(pictures):
         return "does not show its picture, once, with the command that draws it"
-    picture, of_any_lock = pictures[0], lesson.words == "python3" or "--any-lock" in lesson.words
+    if any(("--to" in picture["words"]) != (picture["stem"] != stem) for picture in pictures):
+        return "shows a part in place of the picture, or no part after it"
+    return next(filter(None, (fault_of_picture(lesson, picture) for picture in pictures)), None)
+
+
+def fault_of_picture(lesson, picture):
+    """Returns what is wrong with one of the pictures that a page shows, or None."""
+    of_any_lock = lesson.words == "python3" or "--any-lock" in lesson.words
     if picture["file"] != drawn_file(lesson):
         return f"shows a picture of another file: {picture['file']}"
     if ("--any-lock" in picture["words"]) != of_any_lock:
@@ -185,8 +193,8 @@ def fault_of_picture(lesson):
     if lesson.words == "bits" and (fault := fault_of_accesses(lesson)):
         return fault
     drawn = output_of(picture["words"], LESSONS / picture["file"])
-    if drawn is None or drawn != contents_of(LESSONS / "pictures" / f"{stem}.svg"):
-        command = f"bakerystore {picture['words']} lessons/{picture['file']} > lessons/pictures/{stem}.svg"
+    if drawn is None or drawn != contents_of(LESSONS / "pictures" / f"{picture['stem']}.svg"):
+        command = f"bakerystore {picture['words']} lessons/{picture['file']} > lessons/pictures/{picture['stem']}.svg"
         return f"shows another picture than is drawn: {command}"
     return None
 
@@ -205,7 +213,7 @@ def fault_of_run(lesson):
     """Returns what is wrong with the run of a lesson, or None."""
     if lesson.words == "race":
         return fault_of_race(lesson)
-    return fault_of_text(lesson) or (None if lesson.words in NOT_DRAWN else fault_of_picture(lesson))
+    return fault_of_text(lesson) or (None if lesson.words in NOT_DRAWN else fault_of_pictures(lesson))
 
 
 def fault_of_index(every):
@@ -230,7 +238,7 @@ def strays(every):
     own = [path for path in LESSONS.iterdir() if path.is_file() and path.name not in TOOLS]
     files = {path.stem for path in own if path.suffix != ".md" or path.name[0].isdigit()}
     made = {path.stem for folder in ("expected", "pictures") for path in (LESSONS / folder).iterdir()}
-    return (files | made) - stems
+    return (files | made) - stems - {f"{stem}-part" for stem in stems}
 
 
 def main():

@@ -22,7 +22,8 @@ PAGES = [
     TOP / name
     for name in (
         *("README.md", "examples/README.md", "lessons/LECTURE.md", "lessons/SEMESTER.md", "lessons/ANSWERS.md"),
-        *("docs/GUIDE.md", "docs/JUDGE_YOUR_LOCK.md", "docs/RECORDS.md", "docs/FORMATS.md", "docs/FAULTS.md", "examples/traces/LOGS.md"),
+        *("docs/GUIDE.md", "docs/JUDGE_YOUR_LOCK.md", "docs/RECORDS.md", "docs/FORMATS.md", "docs/FAULTS.md", "docs/PICTURE.md"),
+        "examples/traces/LOGS.md",
     )
 ] + sorted(TOP.glob("lessons/[0-9]*.md"))
 # the most words of the README

@@ -72,6 +72,10 @@ REFUSED = [
     (["--reads", "draw", "-"], "unexpected argument '--reads' found", "'draw --reads' exists", ANY),
     (["draw", "--reads"], "the following required arguments were not provided:\n  <FILE>", "", "draw --reads <FILE>"),
     (["draw", "--read", "-"], "unexpected argument '--read' found", "a similar argument exists: '--reads'", "draw --reads <FILE>"),
+    (["draw", "--from", "1", "--from", "2", "-"], "the argument '--from <from>' cannot be used multiple times", "", "draw [OPTIONS] <FILE>"),
+    (["draw-svg", "--to=1", "-", "--to=1"], "the argument '--to <to>' cannot be used multiple times", "", "draw-svg [OPTIONS] <FILE>"),
+    (["replay", "--from", "1", "-"], "unexpected argument '--from' found", "to pass '--from' as a value, use '-- --from'", "replay [OPTIONS] <FILE>"),
+    (["judge", "--to", "1", "-"], "unexpected argument '--to' found", "to pass '--to' as a value, use '-- --to'", "judge [OPTIONS] <FILE>"),
     (["plain", b"\xff"], "an argument is not UTF-8 (to read a file of such a name: bakerystore COMMAND - < FILE)", "", ANY),
 ]
 

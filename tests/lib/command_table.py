@@ -15,8 +15,8 @@ ROW_TYPE = ["(", "&", "str", ",", "Engine", ",", "Intake", ",", "&", "[", "&", "
 TOKEN = re.compile(r'\s*(?:(?P<comment>//[^\n]*)|(?P<token>"(?:[^"\\]|\\.)*"|\w+(?:::\w+)*|[^\s\w"]))', re.S)
 ESCAPES = {r"\"": '"', r"\\": "\\", r"\n": "\n", r"\t": "\t"}
 OPTION = re.compile(r"  --(?P<name>[a-z][a-z-]*)(?: (?P<value>[A-Z]+))?  +(?P<text>\S.*)")
-# the words that an option takes as its value, besides a number
-VALUE_WORDS = {"at": ("end",)}
+# the options that have a value, each with the words that it takes besides a number
+VALUE_WORDS = {"at": ("end",), "from": (), "to": ()}
 
 
 class Command(NamedTuple):
@@ -203,7 +203,7 @@ def described(match):
     if owners and before.split(", ") != owners:
         raise ValueError(f"help.rt: --{name} is an option of {', '.join(owners)}, and its description begins with {before!r}")
     words = VALUE_WORDS.get(name, ())
-    if bool(match["value"]) != bool(words) or any(f"`{word}`" not in match["text"] for word in words):
+    if bool(match["value"]) != (name in VALUE_WORDS) or any(f"`{word}`" not in match["text"] for word in words):
         raise ValueError(f"help.rt: the value of --{name} is not understood: {match[0]!r}")
     return Option(name, match["value"] or "", words, text if owners else match["text"])
 

@@ -301,7 +301,9 @@ def zsh_option(name):
     """Returns what `_arguments` reads of an option."""
     option = command_table.options()[name]
     summary = zsh_text(option.summary())
-    value = f"=[{summary}]:{zsh_text(option.value)}:({' '.join(option.words)})" if option.value else f"[{summary}]"
+    # the action of one space offers nothing, and shows the name of the value
+    action = f"({' '.join(option.words)})" if option.words else " "
+    value = f"=[{summary}]:{zsh_text(option.value)}:{action}" if option.value else f"[{summary}]"
     return in_quotes(f"--{name}{value}")
 
 

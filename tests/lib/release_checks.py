@@ -154,9 +154,10 @@ def cases_of(command, files):
 def cases_of_option(command, option):
     """Returns the cases of an option of a command."""
     word, values = f"--{option}", command_table.options()[option].words
+    has_value = command_table.options()[option].value != ""
     own = [*long(command_table.options_of(command)), HELP]
     others = [each for each in own if each != word]
-    if not values:
+    if not has_value:
         return [Case([command.name, word, "--"], others)]
     return [
         Case([command.name, word, ""], [*values]),

@@ -19,12 +19,13 @@ MOST_PROCESSES = 16
 
 
 class Change(NamedTuple):
-    """The change of a wave: its row, its value before and after the entry, and whether a write is open after it."""
+    """The change of a wave: its row, its value before and after the entry, and whether a write is open after it and was open before it."""
 
     row: int
     old: int
     value: int
     is_open: bool
+    was_open: bool = False
 
 
 class Shown(NamedTuple):
