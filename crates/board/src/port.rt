@@ -99,7 +99,7 @@ impl Port {
     }
 
     /// Returns its finished calls, in order. They are consistent with the changes that it has seen, which are the first
-    /// changes of one list that all ports see.
+    /// changes of some record.
     pub fn answers(&self) -> &[Placed]
         ensures list { result.now ≡ self.now.view.own.calls.done }
         ensures stands { StandInSeen self.now result.now }

@@ -54,10 +54,10 @@ pub fn ask_tells_of_changes()
 {}
 
 /// The main theorem. It holds of every record, whatever overlapped reads return. No two processes are inside the
-/// critical section together. No process overtakes another whose doorway finished first. Every store answer is the
-/// sequential store's at its place in one history, which keeps the order of calls that do not overlap. No read of
-/// the data overlaps a write, and an image that is read is that of the store after the history so far.
-/// `TicketsFull`, `StampsFull` and the answer to `Ask` are true.
+/// critical section together. No process enters before a waiting one whose doorway ended before its own began. Every
+/// store answer is the sequential store's at its place in one history, which keeps the order of calls that do not
+/// overlap. No read of the data overlaps a write, and an image that is read is that of the store after the history so
+/// far. `TicketsFull`, `StampsFull` and the answer to `Ask` are true.
 ///
 /// The theorem is about each entry and the past that it is added to, and so about each entry of a past. Mutual
 /// exclusion and no overtaking also hold if names and values are not what their types allow.

@@ -254,7 +254,7 @@ TellsOfCutCalls s past = s.version ≡ 2 → (k m : ℕ) (t : Taken) → slice_g
 abbrev pub AskTellsOfCutCalls : Type 0
 AskTellsOfCutCalls = EachPastGiven TellsOfCutCalls
 
--- The main theorem, of one entry and the past that it is added to. The processes go inside one at a time and in the order of their doorways. Their replies are those of one thread that takes the commands of one history. The data that they read is whole. The answers `TicketsFull`, `StampsFull` and the replies to `Ask` are true.
+-- The main theorem, of one entry and the past that it is added to. The processes go inside one at a time, and not before a waiting process whose doorway ended before their own began. Their replies are those of one thread that takes the commands of one history. The data that they read is whole. The answers `TicketsFull`, `StampsFull` and the replies to `Ask` are true.
 pub record KeepsHeadline (s : Setup) (past : Past) (e : Entry) : Type 0 where
   pub alone : IsAlone (e ∷ past)  -- no two are inside together, a failed one among them until its unit lets go
   pub overtakes : OvertakesNobody past e  -- no process enters past one that waits and had finished its doorway before the other began its own

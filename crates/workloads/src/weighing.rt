@@ -1,4 +1,4 @@
-//! The time that the linearizability check (weighing) takes for the largest lists of finished calls.
+//! The time that the check of sequential consistency (weighing) takes for the largest lists of finished calls.
 ghost use Rattle.std.specs.Prelude.{◌≡◌, ◌≤◌, All, IsTrue, List, Ok, length};
 ghost use Rattle.plain_store.specs.{checked};
 ghost use Rattle.record.specs.declared.calls.Placed.{Placed as Finished};

@@ -68,9 +68,9 @@ impl World {
     /// Makes one event and returns the act of the entry that it adds to the record. A call reserves the memory that its
     /// later steps need.
     ///
-    /// The act keeps the main theorem. No two processes are inside the critical section at once. No process overtakes one
-    /// whose doorway ended first. Every store reply is that of the sequential specification at its position in one
-    /// history, which keeps the order of calls that do not overlap.
+    /// The act keeps the main theorem. No two processes are inside the critical section at once. No process enters before a
+    /// waiting one whose doorway ended before its own began. Every store reply is that of the sequential specification at
+    /// its position in one history, which keeps the order of calls that do not overlap.
     ///
     /// # Errors
     ///
