@@ -10,7 +10,8 @@ A file of runs has these lines; a comment begins with `#`:
     rounds               the processes make an entry each in turn, until no call is left
     flick V              from here on a read that a write overlaps gives V, if it may
 
-`go` and `rounds` give up after `MOST` entries of a process, and then the run has failed.
+`go` and `rounds` give up after `MOST` entries of a process, or once a state is repeated, since the processes then make the same entries
+for ever. The run has failed, and its trace ends there with a comment.
 """
 
 import random
@@ -68,14 +69,27 @@ class Walk:
         self.exercise, self.lock, self.choose = exercise, Lock(lock, processes=processes, calls=calls), choose
         self.search = CellSearch(self.lock, exercise.memory, has_wait=exercise.is_ordered)
         self.state, self.entries = self.search.first(), []
+        # of each state of a line, the number of entries before it
+        self.seen = {}
 
     def stage(self, me):
         """Returns the stage of a process."""
         return self.search.stages(self.state)[me]
 
-    def trace(self):
-        """Returns the trace of the run so far."""
-        return trace_of(self.lock, self.exercise.memory, self.search.registers(), self.entries)
+    def trace(self, comment=""):
+        """Returns the trace of the run so far, which may end with a comment."""
+        return trace_of(self.lock, self.exercise.memory, self.search.registers(), self.entries) + comment
+
+    def is_repeated(self, position=None):
+        """Notes the state, and returns whether the run was in it before, at the same position of its schedule."""
+        return self.seen.setdefault((self.state, position), len(self.entries)) < len(self.entries)
+
+    def repeated(self, position=None):
+        """Returns which entries are repeated for ever, in words, or an empty text if no state was repeated."""
+        first, last = self.seen.get((self.state, position), len(self.entries)), len(self.entries) - 1
+        if first > last:
+            return ""
+        return f"entry {last} is repeated for ever" if first == last else f"entries {first} to {last} are repeated for ever"
 
     def options(self, me):
         """Yields what `CellSearch.steps` yields of one process."""
@@ -119,14 +133,17 @@ class Walk:
     def made(self, words):
         """Makes a line, and returns whether the processes got where it says."""
         numbers = [int(word) for word in words if word.isdigit()]
+        self.seen.clear()
         if words[0] == "rounds":
-            return any(self.has_ended() or not self.round() for _ in range(MOST)) or self.has_ended()
+            any(self.has_ended() or self.is_repeated() or not self.round() for _ in range(MOST))
+            return self.has_ended()
         me = numbers[0]
         if words[0] == "call":
             return self.stage(me) != "idle" or self.step(me)
         if words[0] == "step":
             return all(self.stage(me) == "idle" or self.step(me) for _ in range(numbers[1]))
-        return any(self.stage(me) in STAGES[words[2]] or not self.moves(me) for _ in range(MOST)) and self.stage(me) in STAGES[words[2]]
+        is_there = lambda: self.stage(me) in STAGES[words[2]]
+        return any(is_there() or self.is_repeated() or not self.moves(me) for _ in range(MOST)) and is_there()
 
     def moves(self, me):
         """Makes an entry of a process that has a call, and returns whether it has one."""
@@ -158,14 +175,15 @@ def check_known(exercise, lock, check_kinds):
         flick = [0]
         walk = Walk(exercise, lock, run.processes, CALLS, by_flick(flick))
         for number, words in run.lines:
-            line = f"{exercise.stem}.runs, line {number}, `{' '.join(words)}`"
+            line = f"run {run.name} ({exercise.stem}.runs, line {number}, `{' '.join(words)}`)"
             try:
                 flick[0] = int(words[1]) if words[0] == "flick" else flick[0]
                 is_made = words[0] == "flick" or walk.made(words)
             except Failed as failed:
                 raise Failed(failed.law, f"{line}: {failed.reason}".rstrip(": "), failed.trace) from None
             if not is_made:
-                raise Failed("turns", f"{line}: not reached in {MOST} entries of a process", walk.trace())
+                why = walk.repeated() or f"not reached in {MOST} entries of a process"
+                raise without_end(walk, f"{line}: {why}")
             check_kinds(walk.search)
 
 
@@ -191,10 +209,18 @@ def made_of(exercise, lock, processes, choices):
     for me, picks[0] in choices:
         walk.step(me)
     for number in range(ROUNDS):
-        picks[0] = number * 7 % 840
+        # (in atomic memory an entry has no alternatives)
+        picks[0] = number * 7 % 840 if exercise.memory == "safe" else 0
+        if walk.is_repeated(picks[0]):
+            raise without_end(walk, f"not all calls end: {walk.repeated(picks[0])}")
         if not any([not walk.search.processes[me].is_over(walk.state.at[me]) and walk.step(me) for me in range(processes)]):
             return walk
-    raise Failed("turns", f"not all calls have ended after {ROUNDS} rounds", walk.trace())
+    raise without_end(walk, f"not all calls have ended after {ROUNDS} rounds")
+
+
+def without_end(walk, why):
+    """Returns the failure of a run that does not get where it should. Its trace ends with the reason, as a comment."""
+    return Failed("turns", why, walk.trace(f"# {why}\n"))
 
 
 def failure_of(exercise, lock, processes, choices):
