@@ -1,9 +1,11 @@
 #!/usr/bin/env python3
 """Grades the locks that students hand in: grade.py FOLDER writes FOLDER.grades/grades.csv.
 
-A file of FOLDER is named NAME-EXERCISE.py for a lock, or NAME-EXERCISE.trace or NAME-EXERCISE.record for one run of a lock that is
-not written in Python. The exercises, 1 to 5, are in exercises/README.md. A row of the table has the points, of 10; the part that
-failed; the law that is broken, the reason, and the limit that was reached; and the files of the counterexample: a trace and a picture.
+A file of FOLDER is named STUDENT-EXERCISE.py for a lock, or STUDENT-EXERCISE.trace or STUDENT-EXERCISE.record for one run of a lock
+that is not written in Python. The exercises, 1 to 5, are in exercises/README.md. A row of the table has the points, of 10; the part
+that failed; the law that is broken, the reason, and the limit that was reached; and the files of the counterexample: a trace and a
+picture. A file that cannot be read as a lock or a run has no points. If a fault of the installation prevents the grading of a file,
+it has no points either, and the exit status is 1.
 
 Nothing in FOLDER is trusted: GRADING.md describes the limits, and what they do not protect from.
 """
@@ -33,18 +35,26 @@ import limits
 from exercises import EXERCISES, PARTS, TRACE_POINTS
 
 PROGRAMS = [TOP / "bin" / "bakerystore", TOP / "crates" / "bakerystore" / "out" / "bakerystore"]
-NAME = re.compile(r"\w[\w .-]{0,60}-(?P<exercise>[1-9])\.(?P<kind>py|trace|record)")
-COLUMNS = ["file", "exercise", "points", "part", "law", "reason", "limit", "trace", "picture"]
+NAME = re.compile(r"(?P<student>\w[\w .'’-]{0,60})-(?P<exercise>[1-9])\.(?P<kind>py|trace|record)")
+COLUMNS = ["file", "student", "exercise", "points", "part", "law", "reason", "limit", "trace", "picture"]
+# the part of a file that is no lock and no run, and that of a file that could not be graded; neither has points
+FILE, NOT_GRADED = "file", "not graded"
 MOST_BYTES = {"py": 1 << 16, "trace": 1 << 20, "record": 1 << 20}
 MOST_CELL = 400
 # what a spreadsheet takes for the begin of a formula
 FORMULA = ("=", "+", "-", "@")
 
 
+class Fault(Exception):
+    """A fault of the installation, because of which a file cannot be graded."""
+
+
 class Grade(NamedTuple):
-    """A row of the table. `run` is the counterexample as a trace, which is written to a file with its picture."""
+    """A row of the table. `run` is the counterexample as a trace, which is written to a file with its picture. The picture has the
+    verdict unless the judge calls the run good, as one that waits for ever."""
 
     file: str
+    student: str = ""
     exercise: str = ""
     points: int = 0
     part: str = ""
@@ -52,6 +62,13 @@ class Grade(NamedTuple):
     reason: str = ""
     limit: str = ""
     run: str | None = None
+    has_verdict: bool = True
+
+    @property
+    def row(self):
+        """Returns the cells of the table up to the limit."""
+        points = "" if self.part in (FILE, NOT_GRADED) else self.points
+        return [self.file, self.student, self.exercise, points, self.part, self.law, self.reason, self.limit]
 
 
 class Grader(NamedTuple):
@@ -117,14 +134,14 @@ def graded(grader, path):
     grade = Grade(path.name)
     named = NAME.fullmatch(path.name)
     if not named or int(named["exercise"]) not in EXERCISES:
-        return grade._replace(part="file", law="file", reason="the name is not NAME-EXERCISE.py, .trace or .record, with an exercise of 1 to 5")
-    grade, kind = grade._replace(exercise=named["exercise"]), named["kind"]
+        return grade._replace(part=FILE, law="file", reason="the name is not STUDENT-EXERCISE.py, .trace or .record, with an exercise of 1 to 5")
+    grade, kind = grade._replace(student=named["student"], exercise=named["exercise"]), named["kind"]
     try:
         content = content_of(path, MOST_BYTES[kind])
     except OSError as error:
         limit = "size" if str(error).startswith("more than") else ""
         reason = "a link, and not a file" if error.errno == errno.ELOOP else error.strerror or str(error)
-        return grade._replace(part="file", law="file", reason=reason, limit=limit)
+        return grade._replace(part=FILE, law="file", reason=reason, limit=limit)
     return graded_lock(grader, grade, content) if kind == "py" else graded_run(grader, grade, content, kind)
 
 
@@ -143,6 +160,8 @@ def with_parts(grader, grade, ended):
     """Returns a grade with what parts.py has printed: each part that was passed, and the failure."""
     left = list(PARTS)
     for line in lines_of(ended.output):
+        if "fault" in line:
+            raise Fault(f"the search does not start: {line['fault']}")
         if left and line.get("passed") == left[0]:
             grade = grade._replace(points=grade.points + PARTS[left.pop(0)])
         elif "law" in line:
@@ -171,18 +190,25 @@ def with_failure(grader, grade, line):
         return grade._replace(law="", reason="", limit="memory", run=None)
     if grade.run is None:
         return grade
-    verdict = grader.judged("run.trace", grade.run.encode(), "judge", "--why").output.decode(errors="replace").splitlines()
+    verdict = verdict_in(grader.judged("run.trace", grade.run.encode(), "judge", "--why"))
     is_bad = verdict[:1] and verdict[0].startswith("bad ")
     reasons = [grade.reason, *verdict] if is_bad else [grade.reason]
-    return grade._replace(reason="; ".join(it for it in reasons if it))
+    return grade._replace(reason="; ".join(it for it in reasons if it), has_verdict=bool(is_bad))
+
+
+def verdict_in(ended):
+    """Returns the lines of a verdict, or none if the file does not follow its format or a limit was reached."""
+    verdict = ended.output.decode(errors="replace").splitlines()
+    if not verdict and not ended.limit and ended.status != 1:
+        raise Fault(f"bakerystore does not judge, and ends with status {ended.status}")
+    return verdict
 
 
 def graded_run(grader, grade, content, kind):
     """Returns the grade of one run that was handed in: it must be good, and long enough."""
     name, options = f"run.{kind}", ["--any-lock"] if kind == "record" else []
     ended = grader.judged(name, content, "judge", *options, "--why")
-    verdict = ended.output.decode(errors="replace").splitlines()
-    run = content.decode(errors="replace")
+    verdict, run = verdict_in(ended), content.decode(errors="replace")
     if ended.limit or not verdict:
         return grade._replace(part="trace", law="" if ended.limit else "file", reason="the file does not follow its format", limit=ended.limit)
     if verdict[0].startswith("bad "):
@@ -216,11 +242,12 @@ def row_of(grader, grade, out):
         is_record = grade.file.endswith(".record")
         trace = grade.file if grade.file.endswith((".trace", ".record")) else f"{grade.file}.trace"
         put(out / trace, grade.run.encode())
-        ended = grader.judged(trace, grade.run.encode(), "draw-svg", *(["--any-lock", "--reads"] if is_record else ["--judge"]))
+        words = ["--any-lock", "--reads"] if is_record else ["--judge"] if grade.has_verdict else []
+        ended = grader.judged(trace, grade.run.encode(), "draw-svg", *words)
         if ended.output.rstrip().endswith(b"</svg>"):
             picture = f"{grade.file}.svg"
             put(out / picture, ended.output)
-    return [harmless(it) for it in (*grade[:7], trace, picture)]
+    return [harmless(it) for it in (*grade.row, trace, picture)]
 
 
 def options():
@@ -256,7 +283,10 @@ def row_or_error(grader, path, out):
     try:
         return row_of(grader, graded(grader, path), out)
     except Exception as error:
-        return row_of(grader, Grade(path.name, part="file", reason=f"not graded: {type(error).__name__}: {error}"), out)
+        named = NAME.fullmatch(path.name)
+        student, exercise = (named["student"], named["exercise"]) if named else ("", "")
+        reason = str(error) if isinstance(error, Fault) else f"{type(error).__name__}: {error}"
+        return row_of(grader, Grade(path.name, student, exercise, part=NOT_GRADED, reason=reason), out)
 
 
 def main():
@@ -280,8 +310,17 @@ def main():
     csv.writer(table, lineterminator="\n").writerows([COLUMNS, *rows])
     put(out / "grades.csv", table.getvalue().encode())
     for row in rows:
-        print(f"{row[0]}: {row[2]} points{': ' * bool(row[3])}{', '.join(filter(None, (row[3], row[4], row[6])))}")
+        print(line_of(row))
     print(f"{out / 'grades.csv'}: {len(rows)} submissions")
+    lost = [row for row in rows if row[4] == NOT_GRADED]
+    if lost:
+        sys.exit(f"grade.py: {len(lost)} of them could not be graded, and have no points: {lost[0][6]}")
+
+
+def line_of(row):
+    """Returns the line that is printed of a row."""
+    points, why = f"{row[3]} points" if row[3] else "no points", ", ".join(filter(None, (row[4], row[5], row[7])))
+    return f"{row[0]}: {points}{': ' * bool(why)}{why}"
 
 
 if __name__ == "__main__":

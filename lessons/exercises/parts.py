@@ -2,7 +2,8 @@
 """Grades one lock, part by part: parts.py EXERCISE SEED FILE. grade.py runs this script within limits.
 
 It prints a line of JSON for each part that the lock has passed, and one for the demand that it does not keep: the law, the reason, and
-the trace of a run if there is one. The first failure ends the grading.
+the trace of a run if there is one. The first failure ends the grading. If a file of the search is missing or at fault, no lock can be
+graded, and the line has this fault.
 """
 
 import json
@@ -12,14 +13,18 @@ import sys
 
 sys.path.insert(0, str(pathlib.Path(__file__).resolve().parent))
 
-import language
-from cell_search import FORMS, CellSearch, NeedsAtomic, searched, trace_of
-from driver import Mistake
-from exercises import EXERCISES
-from locks import Lock
-from schedules import Failed, check_hidden, check_known, checked_lock
-from search import names_in
-from stuck import states_stuck
+try:
+    import language
+    from cell_search import FORMS, CellSearch, NeedsAtomic, searched, trace_of
+    from driver import Mistake
+    from exercises import EXERCISES
+    from locks import Lock
+    from schedules import Failed, check_hidden, check_known, checked_lock
+    from search import names_in
+    from stuck import states_stuck
+except Exception as error:
+    print(json.dumps({"fault": f"{type(error).__name__}: {error}"}))
+    sys.exit(1)
 
 MOST_REASON = 300
 
@@ -62,7 +67,8 @@ def check_progress(exercise, lock):
         found = states_stuck(search.first(), steps, search.has_ended)
         if found.count:
             what = f"{found.count:,} of {found.states:,} states: not all calls can end after this run"
-            raise Failed("stuck", what, trace_of(own, exercise.memory, search.registers(), found.entries))
+            run = trace_of(own, exercise.memory, search.registers(), found.entries)
+            raise Failed("stuck", what, f"{run}# from here on not all calls can end\n")
         check_kinds(exercise, search)
         if exercise.is_ordered:
             check_doorways(search)
