@@ -28,18 +28,25 @@ from markdown import Block, Writer, name_of_heading, read
 OTHERS = {
     LESSONS / "README.md": "index.html",
     LESSONS / "LECTURE.md": "lecture.html",
+    LESSONS / "HANDOUT.md": "handout.html",
     LESSONS / "SEMESTER.md": "semester.html",
     LESSONS / "TEACHING.md": "teaching.html",
     LESSONS / "MEMORY.md": "memory.html",
     LESSONS / "SHEET.md": "sheet.html",
+    TOP / "docs" / "LOCKS.md": "locks.html",
     TOP / "docs" / "GLOSSARY.md": "glossary.html",
 }
 RUN, ANSWER = "The run", "Answer"
-# the width of the names of the lanes in a picture; where its groups begin, and its verdict
-NAMES_WIDTH = 52
+# the width of the names of the lanes in a picture, and the height at which they begin
+NAMES_WIDTH, NAMES_TOP = 52, 28
+# the groups of a picture, of which the last one is its legend; the names of bits, the box of the verdict, and the lines in it
 GROUP = re.compile(r'<g transform="translate\(0,(\d+)\)">')
-VERDICT = re.compile(r'<rect class="ruling[^>]* y="(\d+)"')
-SIZE = re.compile(r'<svg [^>]*width="(\d+)" height="(\d+)"')
+BIT = re.compile(r'<text class="cell" x="8" y="(\d+)">([^<]+)')
+VERDICT = re.compile(r'<rect class="ruling[^>]* y="(\d+)" [^>]*height="(\d+)"')
+VERDICT_LINE = re.compile(r'<text class="(?:sentence|rest)" x="18" y="\d+">([^<]+)')
+# the most that a letter is wide in a name, and in the first line of a verdict, and the lines above and below the foot of a name
+LETTER, LARGE_LETTER, ABOVE, BELOW = 7, 8, 11, 4
+SIZE = re.compile(r'<svg [^>]*width="(\d+)"')
 HEAD_OF_INDEX = ["Lesson", "What it shows", "Minutes", "Needs"]
 KEYS = """<p class="ui">Keys on a page: <kbd>Space</kbd> or <kbd>Page Down</kbd> goes on in the lesson and unfolds what it comes to,
 <kbd>Shift</kbd>+<kbd>Space</kbd> or <kbd>Page Up</kbd> goes back, <kbd>←</kbd> and <kbd>→</kbd> lead to the previous and the next
@@ -118,11 +125,32 @@ def parts_of(lesson):
     yield Part("answer", ANSWER, None, answer, after=end)
 
 
-def end_of_lanes(drawing):
-    """Returns the height at which the lanes of a picture end: that of its verdict, or of its legend, which is its last group."""
-    verdict = VERDICT.search(drawing)
-    group = int(GROUP.findall(drawing[: verdict.start() if verdict else None])[-1])
-    return group + int(verdict[1]) if verdict else group
+def names_in(drawing):
+    """Returns the widths that stay in sight at the left of a picture, from top to bottom, each with its first and its last height:
+    those of the names of lanes and of bits, and of the text of the verdict. The last height is that of the verdict's end or, if there is
+    none, of the legend."""
+    groups, found, at, verdict = [*GROUP.finditer(drawing)], [], NAMES_TOP, None
+    for group, after in zip(groups, groups[1:]):
+        top, text = int(group[1]), drawing[group.end() : after.start()]
+        rows = [(top + int(y) - ABOVE, top + int(y) + BELOW, 8 + LETTER * len(html.unescape(name))) for y, name in BIT.findall(text)]
+        if verdict := VERDICT.search(text):
+            y, height = map(int, verdict.groups())
+            longest = max(len(html.unescape(line)) for line in VERDICT_LINE.findall(text[verdict.end() :]))
+            rows.append((top + y - 1, top + y + height + 1, 18 + LARGE_LETTER * longest))
+        for first, last, width in sorted(rows):
+            found += [(at, first, NAMES_WIDTH), (first, last, max(width, NAMES_WIDTH))]
+            at = last
+    return found if verdict else [*found, (at, int(groups[-1][1]), NAMES_WIDTH)]
+
+
+def outline(rows):
+    """Returns the outline of the names of a picture, for the style sheet."""
+    length = lambda number: f"calc({number} * var(--unit))"
+    corners = [("0", length(rows[0][0]))]
+    for first, last, width in rows:
+        corners += [(length(width), length(first)), (length(width), length(last))]
+    corners.append(("0", length(rows[-1][1])))
+    return f"polygon({','.join(map(' '.join, corners))})"
 
 
 class Pages:
@@ -228,11 +256,13 @@ class Pages:
         return "\n".join(self.figure(lesson, block) if block.kind == "picture" else writer.html([block]) for block in blocks)
 
     def figure(self, lesson, block):
-        """Returns the picture of a lesson. Where it is wider than its frame, the names of its lanes stay in sight."""
+        """Returns a picture of a lesson. Where it is wider than its frame, the names of its lanes and its verdict stay in sight."""
         drawing = (LESSONS / block.more).read_text()
-        width, height = map(int, SIZE.search(drawing).groups())
+        width = int(SIZE.search(drawing)[1])
         source, words = self.address(LESSONS / "README.md", block.more), html.escape(block.text)
-        sizes = f"--wide:{width};--high:{height};--names:{NAMES_WIDTH};--lanes:{end_of_lanes(drawing)}"
+        rows = names_in(drawing)
+        names = f"--names:{max(width for _, _, width in rows)};--outline:{outline(rows)}"
+        sizes = f"--wide:{width};--lanes:{rows[-1][1]};{names}"
         return (
             f'<div class="view" tabindex="0" role="group" aria-label="{words}" style="{sizes}">\n'
             f'<div class="names" aria-hidden="true"><img src="{source}" alt=""></div>\n'

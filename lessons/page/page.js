@@ -13,8 +13,8 @@
   }
 
   function show(at) {
-    var part = parts[at], fold = part.querySelector('details');
-    if (fold && fold.parentNode === part) fold.open = true;
+    var part = parts[at], heading = part.querySelector('details > summary > h2');
+    if (heading) heading.closest('details').open = true;
     part.scrollIntoView();
     part.focus({ preventScroll: true });
     mark(at);
@@ -28,26 +28,34 @@
     });
   }
 
-  // What of a part is below the window, without the bar.
-  function below(part) {
-    return part.getBoundingClientRect().bottom - innerHeight + document.querySelector('.bar').offsetHeight;
+  // The height of the window above the bar.
+  function room() { return innerHeight - document.querySelector('.bar').offsetHeight; }
+
+  function remaining(view) { return view.scrollWidth - view.clientWidth - view.scrollLeft; }
+
+  // The first picture of a part that is in sight and can be moved to the right.
+  function movable(part) {
+    return [].find.call(part.querySelectorAll('details[open] .view'), function (view) {
+      var place = view.getBoundingClientRect();
+      return remaining(view) > 2 && place.bottom > 0 && place.top < room();
+    });
   }
 
-  // Moves the picture of a part to the right, and returns whether it could be moved.
-  function moved(part) {
-    var view = part.querySelector('details[open] .view');
-    var remaining = view ? view.scrollWidth - view.clientWidth - view.scrollLeft : 0;
-    if (remaining < 2) return false;
-    view.scrollLeft += remaining < view.clientWidth * 0.9 ? remaining : view.clientWidth * 0.7;
+  // Brings the lanes and the verdict of a picture into sight, as far as the window has room below its title, and returns whether they moved.
+  function brought(view) {
+    var lanes = view.querySelector('.names').getBoundingClientRect(), title = lanes.height * 36 / view.style.getPropertyValue('--lanes');
+    var hidden = Math.min(lanes.bottom + 4 - room(), lanes.top + title);
+    if (hidden < 2) return false;
+    scrollBy(0, hidden);
     return true;
   }
 
-  // Goes on: in the picture, further down in a part that is longer than the window, or to the next part.
+  // Goes on: in a picture, further down in a part that is longer than the window, or to the next part.
   function onward() {
-    var at = current();
-    if (parts[at].getBoundingClientRect().top > -5 && moved(parts[at])) return;
-    if (below(parts[at]) > 10) scrollBy(0, Math.min(below(parts[at]) + 10, innerHeight * 0.7));
-    else if (at + 1 < parts.length) show(at + 1);
+    var at = current(), view = movable(parts[at]), below = parts[at].getBoundingClientRect().bottom - room();
+    if (view && !brought(view)) view.scrollLeft += remaining(view) < view.clientWidth * 0.9 ? remaining(view) : view.clientWidth * 0.7;
+    else if (!view && below > 10) scrollBy(0, Math.min(below + 10, innerHeight * 0.7));
+    else if (!view && at + 1 < parts.length) show(at + 1);
   }
 
   function back() {
@@ -98,7 +106,7 @@
     button.addEventListener('click', function () {
       var isWhole = button.getAttribute('aria-pressed') !== 'true';
       button.setAttribute('aria-pressed', String(isWhole));
-      button.closest('details').querySelector('.view').classList.toggle('fitted', isWhole);
+      button.closest('p').previousElementSibling.classList.toggle('fitted', isWhole);
     });
   });
 
