@@ -36,8 +36,8 @@
   // The first picture of a part that is in sight and can be moved to the right.
   function movable(part) {
     return [].find.call(part.querySelectorAll('details[open] .view'), function (view) {
-      var place = view.getBoundingClientRect();
-      return remaining(view) > 2 && place.bottom > 0 && place.top < room();
+      var lanes = view.querySelector('.names').getBoundingClientRect();
+      return remaining(view) > 2 && lanes.bottom > room() / 6 && lanes.top < room();
     });
   }
 
@@ -45,9 +45,9 @@
   function brought(view) {
     var lanes = view.querySelector('.names').getBoundingClientRect(), title = lanes.height * 36 / view.style.getPropertyValue('--lanes');
     var hidden = Math.min(lanes.bottom + 4 - room(), lanes.top + title);
-    if (hidden < 2) return false;
-    scrollBy(0, hidden);
-    return true;
+    var before = scrollY;
+    if (hidden > 2) scrollBy(0, hidden);
+    return Math.abs(scrollY - before) > 1;
   }
 
   // Goes on: in a picture, further down in a part that is longer than the window, or to the next part.
