@@ -76,7 +76,9 @@ cur.setAttribute('class','cur');\n\
 function text(m){return m.querySelector('title').textContent;}\n\
 function place(m){return +m.getAttribute('data-x');}\n\
 function source(m){return +m.getAttribute('data-l');}\n\
-function by(m){return lines[lines.length-1+source(m)-source(marks[marks.length-1])];}\n\
+var heads=lines.filter(function(item){return /^[ \\t]*(bakery|processes|tickets|stamps|slots)[ \\t]/.test(item.textContent);}).length,\n\
+skip=lines.some(function(item){return item.textContent==='(entries)';})?1:6-heads;\n\
+function by(m){return lines[source(m)-skip];}\n\
 function spelled(item){var words=item.textContent;return (words[0]==='('?'':items.indexOf(item)+1+': ')+words;}\n\
 function line(name,value){var b=document.createElement('b');b.textContent=name;said.appendChild(b);\n\
 said.appendChild(document.createTextNode(value+'\\n'));}\n\
@@ -150,7 +152,9 @@ cur.setAttribute('class','cur');\n\
 function text(m){return m.querySelector('title').textContent;}\n\
 function place(m){return +m.getAttribute('data-x');}\n\
 function source(m){return +m.getAttribute('data-l');}\n\
-function by(m){return lines[lines.length-1+source(m)-source(marks[marks.length-1])];}\n\
+var heads=lines.filter(function(item){return /^[ \\t]*(bakery|processes|tickets|stamps|slots)[ \\t]/.test(item.textContent);}).length,\n\
+skip=lines.some(function(item){return item.textContent==='(entries)';})?1:6-heads;\n\
+function by(m){return lines[source(m)-skip];}\n\
 function spelled(item){var words=item.textContent;return (words[0]==='('?'':items.indexOf(item)+1+': ')+words;}\n\
 function line(name,value){var b=document.createElement('b');b.textContent=name;said.appendChild(b);\n\
 said.appendChild(document.createTextNode(value+'\\n'));}\n\
