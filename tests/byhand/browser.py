@@ -3,7 +3,7 @@
 
 The proved program draws the pages of four worked examples. In a copy of each a script moves the slider to each place, goes on by
 an event with the arrow keys, and then opens the place of an event by the page's address; what the page has said each time stands
-at its end. In a narrow window it measures letters, moves the picture within its frame, and looks where the names of the lanes are
+at its end. The page of a part of each run says the same at each of its marks. In a narrow window it measures letters, moves the picture within its frame, and looks where the names of the lanes are
 then. The pages of all records of other locks, judged by the laws of any lock, are measured alike, 390 and 1280 pixels wide: the
 names of the lanes are seen above all else at the left, an address leads to its event, and the line that is run is marked and seen in
 the list.
@@ -288,16 +288,27 @@ def shown(browser, page, *options):
         return subprocess.run(words, capture_output=True, text=True, timeout=120).stdout
 
 
-def told_by(browser, name, script, *options):
-    """What a script tells that runs at the end of the page of an example."""
-    page = subprocess.run([PROGRAM, "draw", WORKED / name / "scenario"], capture_output=True, check=True).stdout.decode()
+def told_by(browser, name, script, *options, words=()):
+    """What a script tells that runs at the end of the page of an example, which is drawn with these words."""
+    page = subprocess.run([PROGRAM, "draw", *words, WORKED / name / "scenario"], capture_output=True, check=True).stdout.decode()
     end = re.search(r'<pre id="heard">(.*?)</pre>', shown(browser, page.replace("</body>", script + "</body>"), *options), re.S)
     return json.loads(html.unescape(end.group(1))) if end else None
 
 
-def heard(browser, name):
+def heard(browser, name, words=()):
     """What the page of an example says at each place of its slider, and at its event."""
-    return told_by(browser, name, MOVES.replace("EVENT", str(EVENTS[name][0])))
+    return told_by(browser, name, MOVES.replace("EVENT", str(EVENTS[name][0])), words=words)
+
+
+def part_faults(browser, name):
+    """What is wrong with the page of a part of an example, without its first and last events: each mark says what it says in the whole."""
+    lines = (WORKED / name / "replay").read_text().splitlines()
+    numbers = [int(line.split()[0]) for line in lines if line[0].isdigit()]
+    first, last = (numbers[1], numbers[-2]) if len(numbers) > 2 else (0, max(numbers, default=0))
+    told = heard(browser, name, ["--from", str(first), "--to", str(last)])
+    part, (whole, _) = told[0] if told else [], wanted(name)
+    if not part or not any(whole[at : at + len(part)] == part for at in range(len(whole))):
+        yield f"the part says {part[:2]} .. {part[-1:]}"
 
 
 def measured(browser, name):
@@ -405,6 +416,8 @@ def main():
     counter = Counter()
     for name in SAID:
         counter.compare(name, heard(browser, name), wanted(name))
+        faults = list(part_faults(browser, name))
+        counter.count(not faults, f"{name}, from its second event to its last but one: {faults}")
     for name, told in MEASURED.items():
         counter.compare(f"{name}, in a narrow window", measured(browser, name), told)
     pages = dict(drawn_records())
