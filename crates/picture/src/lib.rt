@@ -6,6 +6,7 @@ mod accesses;
 mod bands;
 mod bars;
 mod constants;
+mod headings;
 mod lanes;
 mod laws;
 mod legends;

@@ -5,9 +5,10 @@ ghost use Rattle.std.specs.String.{string_bytes};
 ghost use Rattle.markup.specs.{lines_in, opens_in, reading};
 ghost use Rattle.picture.specs.Pages.{page_names, picture_names};
 ghost use Rattle.picture.specs.declared.constants.TheConstants.{PATTERNS, STYLE};
-ghost use Rattle.picture.specs.Sheets.{body_front, counted_of, ground_of, heading_of, item_of, legend_front, legend_tag, list_of, page_back, page_back_by, page_begun, page_front, page_front_by, paper_of, picture_back, picture_back_by, picture_front, picture_front_by, plural_of, setup_words, slider_of, styles_of, svg_front, svg_tag, titles_of, view_of};
+ghost use Rattle.picture.specs.Sheets.{body_front, ground_of, item_of, legend_front, legend_tag, list_of, page_back, page_back_by, page_begun, page_front, page_front_by, paper_of, picture_back, picture_back_by, picture_front, picture_front_by, slider_of, styles_of, svg_front, svg_tag, titles_of, view_of};
 
 use crate::constants::{PAGE_STYLE, PATTERNS, STYLE};
+use crate::headings::heading;
 use crate::reads::{Reads, legend_height};
 use crate::subjects::Subject;
 use bstr::ByteSlice;
@@ -366,48 +367,4 @@ pub(crate) fn end_picture(
     subject.add_legend(reads, &mut markup)?;
     markup.frame("\n</g></svg>\n")?;
     Ok(markup)
-}
-
-/// Returns the ending of the word *process* for this number.
-fn plural(processes: u8) -> &'static str
-    ensures { result.now ≡ plural_of processes }
-{
-    if processes == 1 { "" } else { "es" }
-}
-
-/// Returns how a heading begins: what the picture is of, and its number of processes.
-#[tactic(auto, using(crate::proofs::Sheetings::counted_is))]
-fn counted(alloc: Global, subject: Subject, processes: u8) -> Result<String, AllocError>
-    ensures { IfOk result (λ text. string_bytes text ≡ counted_of subject processes) }
-{
-    let kind = subject.word();
-    let many = plural(processes);
-    format!(in alloc; "{kind} of {processes} process{many}")
-}
-
-/// Returns how it ends: the first word of the file, and the numbers of the setup.
-fn numbers(alloc: Global, subject: Subject, setup: &Setup) -> Result<String, AllocError>
-    ensures { IfOk result (λ text. string_bytes text ≡ setup_words subject setup.now) }
-{
-    let Setup {
-        version,
-        ticket_bits,
-        stamp_bits,
-        slots,
-        ..
-    } = *setup;
-    let file = subject.file_word();
-    format!(in alloc;
-        " ({file} {version}, tickets {ticket_bits}, stamps {stamp_bits}, slots {slots})"
-    )
-}
-
-/// Returns the heading of a page or a picture.
-fn heading(alloc: Global, subject: Subject, setup: &Setup) -> Result<Vec<u8>, AllocError>
-    ensures { IfOk result (λ heading. heading.items ≡ heading_of subject setup.now) }
-{
-    let numbers = numbers(alloc, subject, setup)?;
-    let mut heading = counted(alloc, subject, setup.processes)?.into_bytes();
-    heading.extend_from_slice(numbers.as_bytes())?;
-    Ok(heading)
 }

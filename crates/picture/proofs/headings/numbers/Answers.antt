@@ -1,7 +1,7 @@
 use Rattle.std.specs.String.{string_bytes}
 use Rattle.picture.proofs.Sheetings.{numbers_are}
 use Rattle.columns.proofs.Texts.{ok_along}
-use Rattle.picture.proofs.sheets.numbers.Goals as goal
+use Rattle.picture.proofs.headings.numbers.Goals as goal
 
 pub returns : goal.returns
 returns c =
