@@ -49,7 +49,7 @@ CITED = re.compile(r"\bclaims? (\d+)(?: and (\d+))?", re.I)
 TRIES = re.compile(r" \| ([\d,]+) \| \d+ \|$", re.M)
 LEMMA = re.compile(r"`([\w'-]+(?:\.antt)?)`")
 # the crates whose lemmas a page on a proof names
-PROOFS = {"PROOF_OF_THE_LOCK.md": ["laws", "record"], "PROOF_OF_THE_HISTORY.md": ["history_laws", "laws", "record", "plain_store"]}
+PROOFS = {"PROOF_OF_THE_LOCK.md": ["laws", "model"], "PROOF_OF_THE_HISTORY.md": ["history_laws", "laws", "model", "plain_store"]}
 STRENGTHS = {"proved", "tested", "measured"}
 PATHS = {"program", "library", "reference"}
 # the crates of the reference calls, as far as the program does not run them

@@ -6,12 +6,12 @@ use Rattle.std.proofs.lemmas.Bool.Decides.{Decides-int_eq}
 use Rattle.plain_store.specs.{Reply, Setup}
 use Rattle.plain_store.specs.declared.Reply.TheVariants as reply
 use Rattle.plain_store.proofs.Changes.{same_value-Decides}
-use Rattle.record.specs.{Entry, IsAlone, Mark, Past, TakesItsPlace, has, history, inside, inside_after, is_before, is_entered, is_waiting_stage, stage as stage_at, stage_after, takings}
-use Rattle.record.specs.declared.marks.Mark.TheVariants as mark
-use Rattle.record.specs.declared.stages.Stage.TheVariants as stage
+use Rattle.model.specs.{Entry, IsAlone, Mark, Past, TakesItsPlace, has, history, inside, inside_after, is_before, is_entered, is_waiting_stage, stage as stage_at, stage_after, takings}
+use Rattle.model.specs.declared.marks.Mark.TheVariants as mark
+use Rattle.model.specs.declared.stages.Stage.TheVariants as stage
 use Rattle.any_lock.specs.declared.any_lock_law.AnyLockLaw.TheVariants as law
 use Rattle.any_lock.specs.{AnyLockLaw, Verdict, OvertakesNobody, breaks_access, breaks_history, breaks_marks, breaks_overtaken, breaks_together, first_broken, is_that, passage_in, refusal_of_access, refusal_of_marks, right_reply, same_reply, verdict_after, verdict_with}
-use Rattle.read_law.specs.declared.verdicts.Verdict.TheVariants.{Good, Bad}
+use Rattle.safe_monitor.specs.declared.verdicts.Verdict.TheVariants.{Good, Bad}
 use Rattle.any_lock.proofs.Breaks.{none_else, none_if, process_there, unbroken, unrefused}
 use Rattle.lock_stages.proofs.Entering.{none_ahead, none_inside}
 use Rattle.lock_stages.proofs.Lowest.{unsome}

@@ -2,11 +2,11 @@
 use Rattle.std.proofs.Common.{◌≡◌, ℕ, ◌<◌, Bool, true, false, not, ◌&&◌, List, [], ◌∷◌, Option, None, Some, is_some, refl, sym, ap, ◌∙◌, subst, true≢false}
 use Rattle.std.specs.Prelude.{nat_lt, if◌then◌else◌}
 use Rattle.std.proofs.lemmas.Bool.{and_parts, ltb-true}
-use Rattle.record.specs.safe_bit.{Move, before_read, is_overlapped, last_written}
-use Rattle.record.specs.safe_bit.declared.Move.TheVariants as move
+use Rattle.model.specs.safe_bit.{Move, before_read, is_overlapped, last_written}
+use Rattle.model.specs.safe_bit.declared.Move.TheVariants as move
 use Rattle.plain_store.specs.{Setup}
-use Rattle.record.specs.{Access, Entry, Past, begins_read, moves_of, opening_bit, width}
-use Rattle.read_law.specs.{IsOfThere, KeepsSafe, MatchBool}
+use Rattle.model.specs.{Access, Entry, Past, begins_read, moves_of, opening_bit, width}
+use Rattle.safe_monitor.specs.{IsOfThere, KeepsSafe, MatchBool}
 use Rattle.any_lock.specs.{AccessRefusal, access_refusal, breaks_access, breaks_history, breaks_marks, breaks_overtaken, breaks_safe, breaks_together, broken_inside, broken_later, ends_wrongly, first_broken, first_that, is_there, refusal_of_access, refusal_of_marks, same_truth, standing}
 use Rattle.lock_stages.proofs.Lowest.{unsome}
 use Rattle.any_lock.specs.declared.refusals.AccessRefusal.TheVariants as access

@@ -6,8 +6,8 @@ use Rattle.std.proofs.lemmas.Option.{slice_get-get_or, slice_get_past, slice_get
 use Rattle.std.proofs.lemmas.List.{get_or-replicate, get_or-set_same, get_or-set_other, length-replicate}
 use Rattle.std.proofs.lemmas.List.Sums.{fold-append}
 use Rattle.plain_store.specs.{Reply, Setup, after, opening_store}
-use Rattle.record.specs.{Entry, Mark, Past, Taken, history, last_call, own, reply_taken, store_after, takings}
-use Rattle.record.specs.declared.marks.Mark.TheVariants as mark
+use Rattle.model.specs.{Entry, Mark, Past, Taken, history, last_call, own, reply_taken, store_after, takings}
+use Rattle.model.specs.declared.marks.Mark.TheVariants as mark
 use Rattle.any_lock.specs.{KeptState, Knows, Standing, is_taken, is_taken_as, is_that, standing}
 use Rattle.any_lock.proofs.Steps.{standing-other}
 

@@ -1,7 +1,7 @@
 -- A good verdict implies the main theorem.
 use Rattle.std.proofs.Common.{[], ◌∷◌, ◌++◌, reverse, subst}
 use Rattle.plain_store.specs.{Setup}
-use Rattle.record.specs.{Past}
+use Rattle.model.specs.{Past}
 use Rattle.any_lock.specs.{GoodSaysTheHeadline, KeepsHeadlineThroughout}
 use Rattle.any_lock.proofs.Alone.{AllKeep, all_alone, all_keep, overtakes_nobody, takes_its_place}
 use Rattle.any_lock.proofs.Cuts.{answers_no_cut_call}

@@ -1,5 +1,5 @@
 pub use Rattle.lock_stages.proofs as lock_stages
-pub use Rattle.read_law.proofs as read_law
+pub use Rattle.safe_monitor.proofs as safe_monitor
 pub mod Steps
 pub mod Markings
 pub mod Whole

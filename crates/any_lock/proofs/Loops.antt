@@ -2,7 +2,7 @@
 use Rattle.std.proofs.Common.{◌≡◌, ℕ, suc, ◌+◌, ◌<◌, ◌≤◌, Bool, true, false, List, [], ◌∷◌, ◌++◌, Option, None, Some, length, get_or, drop, refl, sym, ap, ◌∙◌, add-one, drop-cons}
 use Rattle.std.proofs.lemmas.List.{drop_all}
 use Rattle.plain_store.specs.{Setup}
-use Rattle.record.specs.{Mark}
+use Rattle.model.specs.{Mark}
 use Rattle.any_lock.specs.{MarkRefusal, Standing, first_that, mark_refusal, marked, refusal_on}
 
 -- the rest of a list is its first item, followed by a shorter rest

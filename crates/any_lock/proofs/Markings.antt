@@ -4,9 +4,9 @@ use Rattle.std.specs.List.{list_any}
 use Rattle.std.proofs.lemmas.List.Folds.{list_any-append}
 use Rattle.std.proofs.lemmas.List.Sums.{fold-append}
 use Rattle.plain_store.specs.{Command, Reply, Setup}
-use Rattle.record.specs.{Access, Entry, Mark, Past, Stage, call_number, called_in, calls_in, first_of, has, inside, inside_after, is_called, is_entered, is_failed, is_waiting, is_waiting_stage, last_command, number_in_call, own, reply_taken, since, stage as stage_at, stage_after}
-use Rattle.record.specs.declared.marks.Mark.TheVariants as mark
-use Rattle.record.specs.declared.stages.Stage.TheVariants as stages
+use Rattle.model.specs.{Access, Entry, Mark, Past, Stage, call_number, called_in, calls_in, first_of, has, inside, inside_after, is_called, is_entered, is_failed, is_waiting, is_waiting_stage, last_command, number_in_call, own, reply_taken, since, stage as stage_at, stage_after}
+use Rattle.model.specs.declared.marks.Mark.TheVariants as mark
+use Rattle.model.specs.declared.stages.Stage.TheVariants as stages
 use Rattle.lock_stages.specs.{with_call, with_enter, with_wait, without_wait}
 use Rattle.any_lock.specs.{Passage, Standing, begun_by, first_that, has_access, is_withdrawal, left_open, mark_refusal, marked, opened, passage_in, reply_in, standing, stands_alone}
 use Rattle.any_lock.specs.declared.refusals.MarkRefusal.TheVariants as refusal

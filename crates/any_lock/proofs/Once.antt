@@ -3,7 +3,7 @@ use Rattle.std.proofs.Common.{◌≡◌, ◌≢◌, ℕ, ◌<◌, ◌==◌, Bool
 use Rattle.std.specs.List.{list_any}
 use Rattle.std.proofs.lemmas.Bool.{cases_eq}
 use Rattle.plain_store.specs.{Reply, Setup}
-use Rattle.record.specs.{CallsTakeOnce, Entry, Past, all_takings, entries_of_call, has, is_called, own, since, until}
+use Rattle.model.specs.{CallsTakeOnce, Entry, Past, all_takings, entries_of_call, has, is_called, own, since, until}
 use Rattle.any_lock.specs.{its_call, reply_in}
 use Rattle.any_lock.proofs.Alone.{AllKeep}
 use Rattle.any_lock.proofs.Cuts.{own-other}

@@ -5,9 +5,9 @@ use Rattle.std.proofs.lemmas.Bool.{cases_eq}
 use Rattle.std.proofs.lemmas.List.{length-append}
 use Rattle.std.proofs.lemmas.List.Elements.{Contains-append_cases}
 use Rattle.plain_store.specs.{Reply, Setup}
-use Rattle.record.specs.{Access, Entry, Mark, Past, PlacesKeepOrder, Stage, all_takings, ends_span, has, has_ended, history, is_called, is_waiting_stage, own, reply_taken, takings, takings_of_call, until}
-use Rattle.record.specs.declared.marks.Mark.TheVariants as mark
-use Rattle.record.specs.declared.stages.Stage.TheVariants as stage
+use Rattle.model.specs.{Access, Entry, Mark, Past, PlacesKeepOrder, Stage, all_takings, ends_span, has, has_ended, history, is_called, is_waiting_stage, own, reply_taken, takings, takings_of_call, until}
+use Rattle.model.specs.declared.marks.Mark.TheVariants as mark
+use Rattle.model.specs.declared.stages.Stage.TheVariants as stage
 use Rattle.any_lock.specs.declared.refusals.MarkRefusal.TheVariants as refusal
 use Rattle.any_lock.specs.{Standing, accessed_by, is_in_doorway, is_leaving, is_settling, mark_refusal, marked, marked_all, refusal_on, standing}
 use Rattle.any_lock.proofs.Alone.{AllKeep, Keeps, takes_its_place}

@@ -1,6 +1,6 @@
 -- The kept state of a process, looked up by its number.
 use Rattle.std.proofs.Common.{◌≡◌, ℕ, ◌<◌, get_or, length, option_map, slice_get, ap, subst, ◌∙◌}
-use Rattle.record.specs.{Past}
+use Rattle.model.specs.{Past}
 use Rattle.lock_stages.specs.{HavePassages}
 use Rattle.any_lock.specs.{KeptState, Knows, Standing, passage_in, standing}
 use Rattle.any_lock.proofs.Unmarked.{given_at}

@@ -2,7 +2,7 @@
 use Rattle.std.proofs.Common.{◌≡◌, ℕ, ◌==◌, Bool, true, false, cond, [], ◌∷◌, Option, None, Some, fold, length, refl, ap, ◌∙◌, eq-eqb}
 use Rattle.std.specs.List.{list_any}
 use Rattle.plain_store.specs.{Setup}
-use Rattle.record.specs.{Access, Entry, Past, call_number, first_of, has, inside, inside_after, is_called, is_entered, is_failed, is_waiting, is_waiting_stage, last_command, number_in_call, own, since, stage as stage_at, stage_after}
+use Rattle.model.specs.{Access, Entry, Past, call_number, first_of, has, inside, inside_after, is_called, is_entered, is_failed, is_waiting, is_waiting_stage, last_command, number_in_call, own, since, stage as stage_at, stage_after}
 use Rattle.lock_stages.specs.{with_access}
 use Rattle.any_lock.specs.{Begun, Passage, Standing, accessed_by, at_rest, begun_by, has_access, is_withdrawal, left_open, opened, passage_in, reply_in, standing, torn, torn_after, write_of}
 

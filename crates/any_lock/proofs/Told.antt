@@ -2,10 +2,10 @@
 use Rattle.std.proofs.Common.{◌≡◌, ℕ, ◌+◌, ◌++◌, Bool, not, List, [], ◌∷◌, length, reverse, Option, Some, None, refl, ap, sym, subst, ◌∙◌}
 use Rattle.std.proofs.lemmas.List.{length-append, length-reverse, reverse-append}
 use Rattle.plain_store.specs.{Setup}
-use Rattle.record.specs.{Entry, Past}
-use Rattle.read_law.specs.{AllAreOfThere, HasHeard as HasWatched, WatchState}
+use Rattle.model.specs.{Entry, Past}
+use Rattle.safe_monitor.specs.{AllAreOfThere, HasHeard as HasWatched, WatchState}
 use Rattle.any_lock.specs.{AnyLockLaw, Verdict, AreReasonsAt, AreReasonsIf, AreReasonsOf, BothHeard, HasJudged, JudgeState, KeptState, Knows, breaks_safe, first_broken, verdict_after, verdict_of, verdict_with}
-use Rattle.read_law.specs.declared.verdicts.Verdict.TheVariants.{Good, Bad}
+use Rattle.safe_monitor.specs.declared.verdicts.Verdict.TheVariants.{Good, Bad}
 use Rattle.any_lock.specs.declared.reasons.Reasons.{Reasons}
 use Rattle.any_lock.proofs.Breaks.{access_there, unbroken, unrefused}
 

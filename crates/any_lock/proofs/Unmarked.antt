@@ -2,7 +2,7 @@
 use Rattle.std.proofs.Common.{◌≡◌, ℕ, ◌<◌, false, List, [], ◌∷◌, Some, length, get_or, slice_get, refl, sym, ap, ◌∙◌, arith}
 use Rattle.std.proofs.lemmas.Option.{slice_get-get_or, slice_get_within}
 use Rattle.std.specs.List.{list_any}
-use Rattle.record.specs.{Access, Entry, Mark, Past}
+use Rattle.model.specs.{Access, Entry, Mark, Past}
 use Rattle.any_lock.specs.{KeptState, Knows, Standing, accessed, is_taken, standing}
 use Rattle.any_lock.proofs.Going.{kept_with, knows_on}
 use Rattle.any_lock.proofs.Steps.{bare, standing-access}

@@ -3,7 +3,7 @@ use Rattle.std.proofs.Common.{◌≡◌, ℕ, suc, ◌==◌, Bool, true, false, 
 use Rattle.std.proofs.lemmas.List.{append-nil}
 use Rattle.std.specs.List.{list_any}
 use Rattle.plain_store.specs.{Setup}
-use Rattle.record.specs.{Access, Mark, Past}
+use Rattle.model.specs.{Access, Mark, Past}
 use Rattle.any_lock.specs.{MarkRefusal, Standing, accessed_by, has_nothing, has_one_mark, mark_refusal, marked, marked_all, refusal_behind, refusal_of_marks, refusal_on, standing, stands_alone}
 use Rattle.any_lock.specs.declared.refusals.MarkRefusal.TheVariants as refusal
 use Rattle.any_lock.proofs.Markings.{ArePlain, or_false, or_left, or_right, plain-more, standing-alone, standing-marked, with_marks}

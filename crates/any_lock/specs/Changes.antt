@@ -2,12 +2,12 @@
 use Rattle.std.specs.Prelude.{◌≡◌, map, Option, None, Some}
 use Rattle.plain_store.specs.{Setup}
 use Rattle.plain_store.specs.declared.Answer.TheVariants.{Reply}
-use Rattle.record.specs.{Access, Entry, Mark, Past}
-use Rattle.record.specs.declared.marks.Mark.TheVariants.{Answered, Taken}
+use Rattle.model.specs.{Access, Entry, Mark, Past}
+use Rattle.model.specs.declared.marks.Mark.TheVariants.{Answered, Taken}
 use Rattle.any_lock.specs.declared.reasons.Remedy.{Remedy}
 use Rattle.any_lock.specs.declared.reasons.Remedy.TheVariants.{Value, Taking}
 use Rattle.any_lock.specs.declared.any_lock_law.AnyLockLaw.{AnyLockLaw}
-use Rattle.read_law.specs.declared.verdicts.Verdict.TheVariants.{Good}
+use Rattle.safe_monitor.specs.declared.verdicts.Verdict.TheVariants.{Good}
 use Rattle.any_lock.specs.Laws.{first_broken}
 use Rattle.any_lock.specs.Reasons.{change_of, ends_with}
 use Rattle.any_lock.specs.Verdicts.{verdict_after}

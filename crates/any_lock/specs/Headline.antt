@@ -1,12 +1,12 @@
 -- The meaning of a good verdict, for any record.
 use Rattle.std.specs.Prelude.{◌≡◌, ℕ, List, ◌∷◌, ◌++◌, reverse, IsTrue, IsFalse, Contains}
 use Rattle.plain_store.specs.{Answer, Setup}
-use Rattle.record.specs.{AnswersNoCutCall, CallsTakeOnce, Entry, IsAlone, IsAnswerTo, Past, PlacesKeepOrder, StandsInHistory, TakesItsPlace, all_takings, has, is_entered}
-use Rattle.record.specs.declared.marks.Mark.TheVariants.{Answered}
+use Rattle.model.specs.{AnswersNoCutCall, CallsTakeOnce, Entry, IsAlone, IsAnswerTo, Past, PlacesKeepOrder, StandsInHistory, TakesItsPlace, all_takings, has, is_entered}
+use Rattle.model.specs.declared.marks.Mark.TheVariants.{Answered}
 use Rattle.lock_stages.specs.{is_ahead}
-use Rattle.read_law.specs.declared.verdicts.Verdict.{Verdict}
+use Rattle.safe_monitor.specs.declared.verdicts.Verdict.{Verdict}
 use Rattle.any_lock.specs.declared.any_lock_law.AnyLockLaw.{AnyLockLaw}
-use Rattle.read_law.specs.declared.verdicts.Verdict.TheVariants.{Good}
+use Rattle.safe_monitor.specs.declared.verdicts.Verdict.TheVariants.{Good}
 use Rattle.any_lock.specs.Standings.{its_call, passage_in}
 use Rattle.any_lock.specs.Verdicts.{verdict_of}
 

@@ -1,18 +1,18 @@
 -- The state of a judge after the entries that it has observed.
 use Rattle.std.specs.Prelude.{◌≡◌, ◌<◌, ℕ, [], List, ◌∷◌, ◌++◌, length, reverse, Option, None, Some, Ok}
 use Rattle.plain_store.specs.{Setup, checked}
-use Rattle.record.specs.{Access, Entry, Past}
-use Rattle.read_law.specs.{AllAreOfThere, HasHeard as HasWatched, WatchState}
+use Rattle.model.specs.{Access, Entry, Past}
+use Rattle.safe_monitor.specs.{AllAreOfThere, HasHeard as HasWatched, WatchState}
 use Rattle.any_lock.specs.declared.reasons.Reasons.{Reasons}
 use Rattle.any_lock.specs.declared.standings.Standing.{Standing}
 use Rattle.any_lock.specs.declared.any_lock_law.AnyLockLaw.{AnyLockLaw}
-use Rattle.read_law.specs.declared.verdicts.Verdict.{Verdict}
-use Rattle.read_law.specs.declared.verdicts.Verdict.TheVariants.{Good, Bad}
+use Rattle.safe_monitor.specs.declared.verdicts.Verdict.{Verdict}
+use Rattle.safe_monitor.specs.declared.verdicts.Verdict.TheVariants.{Good, Bad}
 use Rattle.any_lock.specs.Keeping.{KeptState, Knows}
 use Rattle.any_lock.specs.Reasons.{AreReasons, doorway_with, entered}
 use Rattle.any_lock.specs.Standings.{standing}
 use Rattle.any_lock.specs.Laws.{first_broken}
-use Rattle.read_law.specs.Verdicts.{verdict_with}
+use Rattle.safe_monitor.specs.Verdicts.{verdict_with}
 use Rattle.any_lock.specs.Verdicts.{verdict_of}
 
 -- a monitor of the law `safe`, the state kept for the other laws, the verdict so far, the number of observed entries, and the reasons of the verdict

@@ -2,9 +2,9 @@
 use Rattle.std.specs.Prelude.{slice_set, Result, MatchResult, ◌≡◌, ℕ, ◌+◌, ◌==◌, ◌<◌, ◌≤◌, Bool, true, false, ◌&&◌, List, [], ◌∷◌, fold, length, slice_get, cond, Option, None, Some, Ok}
 use Rattle.plain_store.specs.declared.Command.TheVariants.{Ask}
 use Rattle.plain_store.specs.{Contents, Reply, Setup, after, checked}
-use Rattle.record.specs.{Access, Entry, Mark, Past, history, stage_after, store_after}
-use Rattle.record.specs.declared.marks.Mark.TheVariants as mark
-use Rattle.record.specs.declared.stages.Stage.TheVariants as stage
+use Rattle.model.specs.{Access, Entry, Mark, Past, history, stage_after, store_after}
+use Rattle.model.specs.declared.marks.Mark.TheVariants as mark
+use Rattle.model.specs.declared.stages.Stage.TheVariants as stage
 use Rattle.lock_stages.specs.{no_passage, with_access, with_call, with_enter, with_leave, with_wait, without_wait}
 use Rattle.any_lock.specs.declared.refusals.MarkRefusal.{MarkRefusal}
 use Rattle.any_lock.specs.declared.standings.Standing.{Standing}

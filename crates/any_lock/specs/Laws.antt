@@ -1,10 +1,10 @@
 -- The laws that each entry of the record of any lock keeps, computed from the entries before it.
 use Rattle.std.specs.Prelude.{◌≡◌, ℕ, ◌==◌, Bool, false, not, ◌&&◌, List, [], ◌∷◌, length, Option, None, Some, is_some, if◌then◌else◌}
 use Rattle.std.specs.List.{list_all}
-use Rattle.record.specs.safe_bit.{Move, before_read, is_overlapped, last_written}
-use Rattle.record.specs.safe_bit.declared.Move.TheVariants.{EndRead}
+use Rattle.model.specs.safe_bit.{Move, before_read, is_overlapped, last_written}
+use Rattle.model.specs.safe_bit.declared.Move.TheVariants.{EndRead}
 use Rattle.plain_store.specs.{Reply, Setup, reply_to}
-use Rattle.record.specs.{Entry, Mark, Past, begins_read, has, history, is_entered, moves_of, opening_bit, store_after, takings}
+use Rattle.model.specs.{Entry, Mark, Past, begins_read, has, history, is_entered, moves_of, opening_bit, store_after, takings}
 use Rattle.lock_stages.specs.{overtakes_another, joins_another}
 use Rattle.any_lock.specs.declared.any_lock_law.AnyLockLaw.{AnyLockLaw}
 use Rattle.any_lock.specs.declared.any_lock_law.AnyLockLaw.TheVariants as law

@@ -1,6 +1,6 @@
 pub use Rattle.lock_stages.specs.{Passage, is_ahead, is_other_inside, lowest_below, other_ahead, other_inside, waits_before}
-pub use Rattle.read_law.specs as read_law
-pub use Rattle.read_law.specs.{Verdict, is_good, verdict_with}
+pub use Rattle.safe_monitor.specs as safe_monitor
+pub use Rattle.safe_monitor.specs.{Verdict, is_good, verdict_with}
 pub mod Standings
 pub mod Refusals
 pub mod Laws

@@ -1,8 +1,8 @@
 -- The reasons of an entry that breaks a law, computed from the entries before it.
 use Rattle.std.specs.Prelude.{◌≡◌, ℕ, nat_lt, Bool, true, false, not, length, cond, Option, None, Some, is_none}
-use Rattle.record.specs.safe_bit.declared.Move.TheVariants.{BeginWrite, EndWrite, BeginRead, EndRead, Settle}
+use Rattle.model.specs.safe_bit.declared.Move.TheVariants.{BeginWrite, EndWrite, BeginRead, EndRead, Settle}
 use Rattle.plain_store.specs.{Setup}
-use Rattle.record.specs.{Access, Entry, Past, Stage, first_of, history}
+use Rattle.model.specs.{Access, Entry, Past, Stage, first_of, history}
 use Rattle.lock_stages.specs.{AreSince, ahead_since, other_inside}
 use Rattle.any_lock.specs.declared.reasons.Remedy.{Remedy}
 use Rattle.any_lock.specs.declared.reasons.Remedy.TheVariants.{Value, Taking}

@@ -1,11 +1,11 @@
 -- The state of a process, computed from a past.
 use Rattle.std.specs.Prelude.{ℕ, ◌==◌, Bool, true, false, [], ◌∷◌, length, fold, cond, Option, None, Some, is_some}
 use Rattle.std.specs.List.{list_any}
-use Rattle.record.specs.safe_bit.{Move}
-use Rattle.record.specs.safe_bit.declared.Move.TheVariants.{BeginWrite, EndWrite, BeginRead, EndRead, Settle}
+use Rattle.model.specs.safe_bit.{Move}
+use Rattle.model.specs.safe_bit.declared.Move.TheVariants.{BeginWrite, EndWrite, BeginRead, EndRead, Settle}
 use Rattle.plain_store.specs.{Reply, Setup}
-use Rattle.record.specs.{Access, Entry, Mark, Past, call_number, doorway_end, has, inside, is_called, is_entered, is_failed, is_waiting_stage, last_command, number_in_call, own, reply_taken, since, stage}
-use Rattle.record.specs.declared.marks.Mark.TheVariants.{Failed, Withdrew}
+use Rattle.model.specs.{Access, Entry, Mark, Past, call_number, doorway_end, has, inside, is_called, is_entered, is_failed, is_waiting_stage, last_command, number_in_call, own, reply_taken, since, stage}
+use Rattle.model.specs.declared.marks.Mark.TheVariants.{Failed, Withdrew}
 use Rattle.lock_stages.specs.{Passage}
 use Rattle.any_lock.specs.declared.standings.Begun.{Begun}
 use Rattle.any_lock.specs.declared.standings.Standing.{Standing}

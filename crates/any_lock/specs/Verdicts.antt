@@ -1,11 +1,11 @@
 -- The verdict on a record.
 use Rattle.std.specs.Prelude.{◌≡◌, List, [], ◌∷◌, length, reverse}
 use Rattle.plain_store.specs.{Setup}
-use Rattle.record.specs.{Entry, Past}
+use Rattle.model.specs.{Entry, Past}
 use Rattle.any_lock.specs.declared.any_lock_law.AnyLockLaw.{AnyLockLaw}
-use Rattle.read_law.specs.declared.verdicts.Verdict.{Verdict}
-use Rattle.read_law.specs.declared.verdicts.Verdict.TheVariants.{Good, Bad}
-use Rattle.read_law.specs.Verdicts.{verdict_with}
+use Rattle.safe_monitor.specs.declared.verdicts.Verdict.{Verdict}
+use Rattle.safe_monitor.specs.declared.verdicts.Verdict.TheVariants.{Good, Bad}
+use Rattle.safe_monitor.specs.Verdicts.{verdict_with}
 use Rattle.any_lock.specs.Laws.{first_broken}
 
 -- the verdict on a past: a bad one is unchanged; otherwise it is that of the newest entry

@@ -6,7 +6,7 @@ ghost use Rattle.any_lock.specs.Refusals.{access_refusal, begins_write, ends, fi
 use crate::refusals::AccessRefusal;
 use crate::standings::{Begun, Standing, is_settling};
 use plain_store::Setup;
-use record::{Access, Move, Stage, width_of};
+use model::{Access, Move, Stage, width_of};
 
 impl Standing {
     /// Returns why an access of its process, with this number, is refused, if it is.

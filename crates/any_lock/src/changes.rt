@@ -4,7 +4,7 @@ ghost use Rattle.any_lock.specs.Changes.{access_with, changed as entry_with, mar
 
 use crate::reasons::Remedy;
 use plain_store::{Answer, NestedTypes};
-use record::{Access, Act, Entry, Mark, Move};
+use model::{Access, Act, Entry, Mark, Move};
 use smallvec::SmallVec;
 use std::alloc::{AllocError, Global};
 

@@ -1,7 +1,7 @@
 //! One more entry: whether it keeps the laws after `Safe`, and how the judge's state changes.
 ghost use Rattle.std.specs.Prelude.{◌≡◌, ◌+◌, ◌-◌, ◌^◌, ◌<◌, ◌≤◌, [], IfOk, Some};
 ghost use Rattle.std.specs.List.{list_all, list_any};
-ghost use Rattle.record.specs.{is_entered};
+ghost use Rattle.model.specs.{is_entered};
 ghost use Rattle.any_lock.specs.declared.any_lock_law.AnyLockLaw.{AnyLockLaw as Named};
 ghost use Rattle.any_lock.specs.Keeping.{GoesOn, IsOfEntry, IsOfMarks, OfEntry, OfPast, StandsAfter, is_taken_as};
 ghost use Rattle.any_lock.specs.Laws.{IsFirst, breaks_overtaken, breaks_together, broken_inside, broken_later, takes_rightly};
@@ -11,7 +11,7 @@ use crate::kept::{Kept, takes};
 use crate::mark_rules::same_reply;
 use crate::standings::Standing;
 use plain_store::{NestedTypes, Reply};
-use record::{Access, Mark};
+use model::{Access, Mark};
 
 impl Kept {
     /// Returns the state of the process of an entry after it, if the entry keeps all laws after `Safe`.

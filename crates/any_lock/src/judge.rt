@@ -1,6 +1,6 @@
 ghost use Rattle.std.specs.Prelude.{◌≡◌, ◌+◌, ◌-◌, ◌^◌, ◌<◌, [], IfOk, Ok, length};
 ghost use Rattle.plain_store.specs.{checked};
-ghost use Rattle.read_law.specs.{entry_by};
+ghost use Rattle.safe_monitor.specs.{entry_by};
 ghost use Rattle.any_lock.specs.Headline.{SaysHeadline};
 ghost use Rattle.any_lock.specs.Judging.{HasJudged, HearOn, IsExplained, JudgesOn, OfJudged, TellsReasons, Finds};
 ghost use Rattle.any_lock.specs.Verdicts.{verdict_of};
@@ -9,8 +9,8 @@ use crate::any_lock_law::AnyLockLaw;
 use crate::kept::Kept;
 use crate::reasons::Reasons;
 use plain_store::{NestedTypes, Setup};
-use read_law::{Audited, Verdict, Watch};
-use record::{Access, Mark};
+use safe_monitor::{Audited, Verdict, Watch};
+use model::{Access, Mark};
 use std::alloc::{AllocError, Global};
 use std::marker::Model;
 

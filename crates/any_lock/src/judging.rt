@@ -7,8 +7,8 @@ ghost use Rattle.any_lock.specs.Verdicts.{verdict_of};
 use crate::any_lock_law::AnyLockLaw;
 use crate::judge::Judge;
 use plain_store::Setup;
-use read_law::{Audited, parts};
-use record::Entry;
+use safe_monitor::{Audited, parts};
+use model::Entry;
 use std::alloc::{AllocError, Global};
 
 /// Returns the verdict on a record, and the number of its entries. The verdict is the lowest entry that breaks a law, and the

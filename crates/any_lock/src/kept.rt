@@ -3,7 +3,7 @@
 ghost use Rattle.std.specs.Prelude.{◌≡◌, ℕ, ◌+◌, ◌-◌, ◌^◌, ◌<◌, cond, [], IfOk, Ok, Some, option_map, slice_get};
 ghost use Rattle.std.specs.List.{list_any};
 ghost use Rattle.plain_store.specs.{checked};
-ghost use Rattle.read_law.specs.{entry_by};
+ghost use Rattle.safe_monitor.specs.{entry_by};
 ghost use Rattle.lock_stages.specs.{AreSince, ahead_since as wait_ahead, other_ahead as lowest_ahead, other_inside as lowest_inside};
 ghost use Rattle.any_lock.specs.Keeping.{IsOfAccess, Knows, KnowsOn, KnowsOnAt, OfEntry, OfPast, StandsAfter, TakesInto, made_at, is_taken, with_standing};
 ghost use Rattle.any_lock.specs.Laws.{right_reply};
@@ -15,7 +15,7 @@ use crate::refusals::{AccessRefusal, MarkRefusal};
 use crate::standings::Standing;
 use lock_stages::{MOST_PROCESSES, ahead_since, other_ahead, other_inside};
 use plain_store::{Caller, NestedTypes, Reply, Setup, Store, opened};
-use record::{Access, Mark};
+use model::{Access, Mark};
 use std::alloc::{AllocError, Global};
 use std::marker::Model;
 use store_image::Image;

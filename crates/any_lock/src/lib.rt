@@ -20,7 +20,7 @@ pub use any_lock_law::AnyLockLaw;
 pub use changes::changed;
 pub use judge::Judge;
 pub use judging::{changed_entries_keep_all_laws, good_says_the_headline, judge_all};
-pub use read_law::{Audited, NamedLaw, Verdict, parts};
+pub use safe_monitor::{Audited, NamedLaw, Verdict, parts};
 pub use reasons::{Reasons, Refused, Remedy};
 pub use refusals::{AccessRefusal, MarkRefusal};
 pub use standings::{Begun, Standing};

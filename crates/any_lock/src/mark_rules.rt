@@ -2,15 +2,15 @@
 ghost use Rattle.std.specs.Prelude.{◌≡◌, ◌||◌, ◌∷◌, [], ℕ, Bool};
 ghost use Rattle.plain_store.specs.declared.Command.{Command as Asked};
 ghost use Rattle.plain_store.specs.declared.Reply.{Reply as Replied};
-ghost use Rattle.record.specs.declared.marks.Mark.TheVariants.{Answered, Called, Down, Settled, Taken};
-ghost use Rattle.record.specs.{is_waiting_stage};
+ghost use Rattle.model.specs.declared.marks.Mark.TheVariants.{Answered, Called, Down, Settled, Taken};
+ghost use Rattle.model.specs.{is_waiting_stage};
 ghost use Rattle.any_lock.specs.Refusals.{first_that, has_other_reply, is_down, is_in_doorway, is_leaving, is_reply as answers_reply, is_settling, is_withdrawn, mark_refusal, same_reply, stands_alone as is_alone};
 
 use crate::access_rules::{is_running, settles};
 use crate::refusals::MarkRefusal;
 use crate::standings::Standing;
 use plain_store::{Answer, NestedTypes, Reply};
-use record::{Mark, Stage};
+use model::{Mark, Stage};
 
 /// The most calls of a process in version 2.
 const MOST_CALLS: u16 = 65_535;

@@ -12,7 +12,7 @@ use crate::refusals::{AccessRefusal, MarkRefusal};
 use crate::standings::{Begun, Standing};
 use lock_stages::MOST_PROCESSES;
 use plain_store::{NestedTypes, Reply};
-use record::{Access, Mark, Move, Stage};
+use model::{Access, Mark, Move, Stage};
 
 /// The change after which an entry keeps all laws.
 #[derive(Clone, Copy)]

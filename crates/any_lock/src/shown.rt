@@ -3,7 +3,7 @@ ghost use Rattle.any_lock.specs.Shown.{access_refusal_text, law_text, mark_refus
 
 use crate::any_lock_law::AnyLockLaw;
 use crate::refusals::{AccessRefusal, MarkRefusal};
-use read_law::NamedLaw;
+use safe_monitor::NamedLaw;
 use std::fmt;
 
 impl fmt::Display for AnyLockLaw {

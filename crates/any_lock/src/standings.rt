@@ -1,7 +1,7 @@
 //! The state of a process, updated access by access and mark by mark.
 ghost use Rattle.std.specs.Prelude.{◌≡◌, ◌<◌, ℕ, None, Some, IfErr, OnOk};
 ghost use Rattle.plain_store.specs.declared.Setup.{Setup as Given};
-ghost use Rattle.record.specs.declared.marks.Mark.TheVariants.{Called, Left};
+ghost use Rattle.model.specs.declared.marks.Mark.TheVariants.{Called, Left};
 ghost use Rattle.lock_stages.specs.{without_wait};
 ghost use Rattle.any_lock.specs.Keeping.{IsRefusedFor, accessed, at_rest, marked, marked_all, refusal_on};
 ghost use Rattle.any_lock.specs.Refusals.{mark_refusal};
@@ -10,7 +10,7 @@ ghost use Rattle.any_lock.specs.Standings.{begins as begins_access, settles as s
 use crate::refusals::MarkRefusal;
 use lock_stages::{HasPassage, Passage};
 use plain_store::{Command, NestedTypes, Reply, Setup};
-use record::{Access, Mark, Move, Stage};
+use model::{Access, Mark, Move, Stage};
 
 /// An access that begins, and the number of its entry.
 #[derive(Clone, Copy)]

@@ -2,10 +2,10 @@
 use Rattle.std.proofs.Common.{◌≡◌, ℕ, suc, ◌<◌, Bool, true, false, List, [], ◌∷◌, ◌++◌, length, reverse, take, drop, slice_index_or, ap, ◌∙◌, arith, append_assoc}
 use Rattle.std.proofs.lemmas.List.{reverse-append, length-reverse, length-take-le}
 use Rattle.plain_store.specs.{Setup}
-use Rattle.record.specs.{Entry, Past}
-use Rattle.read_law.specs.Safe.{TellsSafe}
+use Rattle.model.specs.{Entry, Past}
+use Rattle.safe_monitor.specs.Safe.{TellsSafe}
 use Rattle.auditor.specs.{AllKeep, BreaksFirst, BreaksNext, IsBadAt, Keeps, Law, number_of}
-use Rattle.read_law.specs.declared.verdicts.Law.TheVariants as law
+use Rattle.safe_monitor.specs.declared.verdicts.Law.TheVariants as law
 use Rattle.auditor.proofs.Entries.{entries_split}
 
 pub breaks_safe : (s : Setup) (past : Past) (e : Entry) (told : Bool) → told ≡ false → TellsSafe told s past e → BreaksFirst law.Safe s past e

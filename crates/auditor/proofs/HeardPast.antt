@@ -2,7 +2,7 @@
 use Rattle.std.proofs.Common.{◌≡◌, ◌≤◌, ◌<◌, ◌^◌, ℕ, suc, List, [], ◌∷◌, ◌++◌, length, Option, Some, None, ap, subst, arith}
 use Rattle.std.proofs.lemmas.List.{length_push}
 use Rattle.plain_store.specs.{Reply, Setup}
-use Rattle.record.specs.{Event, Past, Taken, history, last_call, own, past_of, reply_taken}
+use Rattle.model.specs.{Event, Past, Taken, history, last_call, own, past_of, reply_taken}
 use Rattle.world.specs.{CoreState, with_history}
 use Rattle.world.specs.Shows.{Shows}
 use Rattle.auditor.specs.{AuditorState, HasHeard, IsCount}

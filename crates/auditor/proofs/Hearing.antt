@@ -2,11 +2,11 @@
 use Rattle.std.proofs.Common.{◌≡◌, ℕ, nat_lt, Bool, true, false, List, [], ◌∷◌, length, map, Option, Some, None, Ok, refl, sym, ap, subst, ◌∙◌, true≢false, arith, IsTrue}
 use Rattle.std.specs.List.{list_any}
 use Rattle.plain_store.specs.{Reply, Setup, checked}
-use Rattle.record.specs.{Access, AreGiven, Entry, Event, Mark, Past, Refusal, Taken, entry_of, has, history, past_of, placed, process_of, reply_taken, stage}
-use Rattle.record.specs.declared.events.Event.TheVariants as event
-use Rattle.record.specs.declared.marks.Mark.TheVariants as mark
-use Rattle.record.specs.declared.stages.Stage.TheVariants as stages
-use Rattle.record.proofs.World.{entry-accepted}
+use Rattle.model.specs.{Access, AreGiven, Entry, Event, Mark, Past, Refusal, Taken, entry_of, has, history, past_of, placed, process_of, reply_taken, stage}
+use Rattle.model.specs.declared.events.Event.TheVariants as event
+use Rattle.model.specs.declared.marks.Mark.TheVariants as mark
+use Rattle.model.specs.declared.stages.Stage.TheVariants as stages
+use Rattle.model.proofs.World.{entry-accepted}
 use Rattle.std.specs.Prelude.{◌↔◌, zero, suc}
 use Rattle.std.proofs.lemmas.List.{length_push}
 use Rattle.world.specs.process.{Effect, StepTold, act_of, marks_of, marks_told}
@@ -15,7 +15,7 @@ use Rattle.world.specs.process.declared.told.StepTold.TheVariants.{Nothing, Wait
 use Rattle.world.specs.{Adds, CoreMakes, CoreRefuses, CoreState, CoreSteps, call_in, entry_with, with_history, with_taken}
 use Rattle.world.specs.Shows.{Shows, WorldState}
 use Rattle.world.proofs.WorldShows.{past-after}
-use Rattle.read_law.specs.declared.verdicts.Law.TheVariants as law
+use Rattle.safe_monitor.specs.declared.verdicts.Law.TheVariants as law
 use Rattle.auditor.specs.{AreAt, AuditorState, BreaksNext, HasHeard, IsAlike, IsCount, IsHeard, KeepsAll, event_in, event_marked, flick_in, law_of_misplaced, law_of_wrong, step_told, stepped_as, tells_event, with_reply}
 use Rattle.auditor.proofs.Events.{told-adds}
 use Rattle.auditor.proofs.Marks.{all_placed-again}
@@ -23,7 +23,7 @@ use Rattle.auditor.proofs.Obeys.{obeys}
 use Rattle.auditor.proofs.Tried.{IsTried, refused_step, refused_event, tried, right_place, wrong_event, wrong_place, wrong_step, wrong_unit}
 
 -- The auditor observes an entry that keeps all laws.
-pub heard_on : (old new : CoreState) (before after : Option ℕ) (past : Past) (h : HasHeard (record { core = old; taken = before }) past) (w : Event) (e : Entry) (taken : List Rattle.record.specs.declared.history.Taken.Taken) →
+pub heard_on : (old new : CoreState) (before after : Option ℕ) (past : Past) (h : HasHeard (record { core = old; taken = before }) past) (w : Event) (e : Entry) (taken : List Rattle.model.specs.declared.history.Taken.Taken) →
     new.setup ≡ old.setup → entry_of old.setup (past_of old.setup h.events) w ≡ Some e → Shows (with_history new taken) (w ∷ h.events) → IsCount after (length taken) →
     IsHeard old.setup past e (record { core = new; taken = after }) None
 heard_on old new before after past h w e taken same adds shows counted = (
@@ -32,7 +32,7 @@ heard_on old new before after past h w e taken same adds shows counted = (
     events = w ∷ h.events;
     past_is = now;
     shows = subst (λ t. Shows (with_history new t) (w ∷ h.events)) taken_is shows;
-    counted = subst (λ (t : List Rattle.record.specs.declared.history.Taken.Taken). IsCount after (length t)) taken_is counted;
+    counted = subst (λ (t : List Rattle.model.specs.declared.history.Taken.Taken). IsCount after (length t)) taken_is counted;
   },
 )
   where

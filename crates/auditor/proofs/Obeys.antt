@@ -1,19 +1,19 @@
 -- The entry of an event keeps each law.
 use Rattle.std.proofs.Common.{◌≡◌, ℕ, ◌==◌, Bool, true, false, cond, List, ◌∷◌, Some, None, Ok, refl, sym, ap, subst, ◌∙◌, true≢false, eqb-true, fold}
 use Rattle.plain_store.specs.{Setup, checked}
-use Rattle.record.specs.{AreGiven, Entry, Event, Past, Stage, added, entry_of, has, inside, inside_after, past_of, process_of, refused_at, stage, stepped}
-use Rattle.record.specs.declared.events.Event.TheVariants as event
-use Rattle.record.specs.declared.stages.Stage.TheVariants as stages
-use Rattle.record.proofs.Width.{IsGood, is_good}
-use Rattle.record.proofs.World.{entry-accepted}
-use Rattle.read_law.specs.laws.{doing, is_inside}
-use Rattle.read_law.proofs.laws.FrameEvents.{Accepted, accepted}
-use Rattle.read_law.proofs.laws.FrameInside.{inside-is}
-use Rattle.read_law.proofs.laws.FrameMarks.{entered-is}
-use Rattle.read_law.proofs.laws.SafeRecords.{ends_as_it_may}
+use Rattle.model.specs.{AreGiven, Entry, Event, Past, Stage, added, entry_of, has, inside, inside_after, past_of, process_of, refused_at, stage, stepped}
+use Rattle.model.specs.declared.events.Event.TheVariants as event
+use Rattle.model.specs.declared.stages.Stage.TheVariants as stages
+use Rattle.model.proofs.Width.{IsGood, is_good}
+use Rattle.model.proofs.World.{entry-accepted}
+use Rattle.safe_monitor.specs.laws.{doing, is_inside}
+use Rattle.safe_monitor.proofs.laws.FrameEvents.{Accepted, accepted}
+use Rattle.safe_monitor.proofs.laws.FrameInside.{inside-is}
+use Rattle.safe_monitor.proofs.laws.FrameMarks.{entered-is}
+use Rattle.safe_monitor.proofs.laws.SafeRecords.{ends_as_it_may}
 use Rattle.world.proofs.history_laws_proofs.Headlines.{alone, history_is_one, in_turn}
 use Rattle.world.proofs.WorldShows.{past-after}
-use Rattle.read_law.specs.declared.verdicts.Law.TheVariants as law
+use Rattle.safe_monitor.specs.declared.verdicts.Law.TheVariants as law
 use Rattle.auditor.specs.{IsMade, IsOfEvent, KeepsAll, KeepsProgram, KeepsUnit, KeepsTogether, OwesAt, tells_event}
 
 -- an entry of a step is made by that step

@@ -2,12 +2,12 @@
 use Rattle.std.proofs.Common.{◌≡◌, ℕ, ◌<◌, nat_lt, Bool, true, false, cond, List, [], ◌∷◌, length, map, Option, Some, None, refl, sym, ap, ◌∙◌, arith}
 use Rattle.std.proofs.lemmas.Bool.Decides.{nat_tests}
 use Rattle.plain_store.specs.{Setup}
-use Rattle.record.specs.declared.events.Event.TheVariants as event
-use Rattle.record.specs.{Entry, Mark, Next, Past, Refusal, Stage, TakesItsPlace, entry_made, entry_of, has, history, marks_at, nth, own, placed, program, refused_at, since, stage, starts, stepped, valued}
-use Rattle.record.specs.declared.refusals.Refusal.TheVariants.{NoProcess}
-use Rattle.record.specs.declared.stages.Stage.TheVariants as stages
-use Rattle.record.proofs.Local.{option_map-some}
-use Rattle.read_law.specs.declared.verdicts.Law.TheVariants as law
+use Rattle.model.specs.declared.events.Event.TheVariants as event
+use Rattle.model.specs.{Entry, Mark, Next, Past, Refusal, Stage, TakesItsPlace, entry_made, entry_of, has, history, marks_at, nth, own, placed, program, refused_at, since, stage, starts, stepped, valued}
+use Rattle.model.specs.declared.refusals.Refusal.TheVariants.{NoProcess}
+use Rattle.model.specs.declared.stages.Stage.TheVariants as stages
+use Rattle.model.proofs.Local.{option_map-some}
+use Rattle.safe_monitor.specs.declared.verdicts.Law.TheVariants as law
 use Rattle.auditor.specs.{IsAlike, IsMade, IsOfEvent, KeepsAll, OwesAt, tells_event}
 use Rattle.auditor.proofs.Marks.{same_marks}
 

@@ -1,9 +1,9 @@
 -- A stretch of steps of a process within a register access, made on the auditor's own core.
 use Rattle.std.proofs.Common.{◌≡◌, ℕ, zero, suc, List, ◌∷◌, None, Some, length, ap, subst, sym, ◌∙◌}
 use Rattle.plain_store.specs.{Setup}
-use Rattle.record.specs.{Access, Event, Past, Taken, entry_of, history, past_of}
-use Rattle.record.specs.declared.events.Event.TheVariants.{Step}
-use Rattle.world.specs.flicks.{FlickState, after_flick, flick_of, flicks_after}
+use Rattle.model.specs.{Access, Event, Past, Taken, entry_of, history, past_of}
+use Rattle.model.specs.declared.events.Event.TheVariants.{Step}
+use Rattle.world.specs.choices.{FlickState, after_flick, flick_of, flicks_after}
 use Rattle.world.specs.{CoreState, CoreWalks, with_history}
 use Rattle.world.specs.Shows.{Shows, WorldState}
 use Rattle.world.specs.Walks.{Walks}

@@ -3,15 +3,15 @@ use Rattle.std.proofs.Common.{◌≡◌, ℕ, ◌<◌, nat_lt, Bool, true, false
 use Rattle.std.specs.List.{list_any}
 use Rattle.std.proofs.lemmas.Bool.Decides.{nat_tests}
 use Rattle.plain_store.specs.{Setup, checked}
-use Rattle.record.specs.{AreGiven, Entry, Event, Mark, Past, Refusal, Stage, added, entry_of, has, history, is_entered, past_of, placed, process_of, refused, refused_at, stage, stepped}
-use Rattle.record.specs.declared.events.Event.TheVariants as event
-use Rattle.record.specs.declared.marks.Mark.TheVariants as mark
-use Rattle.record.specs.declared.refusals.Refusal.TheVariants.{NoProcess}
-use Rattle.record.specs.declared.stages.Stage.TheVariants as stages
-use Rattle.record.proofs.Width.{is_good}
-use Rattle.record.proofs.World.{entry-accepted}
+use Rattle.model.specs.{AreGiven, Entry, Event, Mark, Past, Refusal, Stage, added, entry_of, has, history, is_entered, past_of, placed, process_of, refused, refused_at, stage, stepped}
+use Rattle.model.specs.declared.events.Event.TheVariants as event
+use Rattle.model.specs.declared.marks.Mark.TheVariants as mark
+use Rattle.model.specs.declared.refusals.Refusal.TheVariants.{NoProcess}
+use Rattle.model.specs.declared.stages.Stage.TheVariants as stages
+use Rattle.model.proofs.Width.{is_good}
+use Rattle.model.proofs.World.{entry-accepted}
 use Rattle.auditor.specs.{AreAt, BreaksNext, IsAlike, IsMade, IsOfEvent, Keeps, KeepsAll, KeepsProgram, Law, OwesAt, event_in, flick_in, number_of, tells_event}
-use Rattle.read_law.specs.declared.verdicts.Law.TheVariants as law
+use Rattle.safe_monitor.specs.declared.verdicts.Law.TheVariants as law
 use Rattle.auditor.proofs.Events.{IsNoStep, calls, fails, withdraws, restarts, step-tells-none, tells-it}
 use Rattle.auditor.proofs.ToldAgain.{told_again}
 use Rattle.auditor.proofs.Marks.{same_marks}
@@ -226,7 +226,7 @@ wrong_place s events e m t alike plain wrong = record {
       (plain-program s past e (less e.process s.processes known.0) plain (owed-made s past e e.process (flick_in e.access) (stage e.process past) known.1 made))
       (λ st. made)
       (λ enters j inside. kept law.Together (sym (same_entering e m alike) ∙ enters) j inside ∙ sym alike.process)
-      (λ enters j. subst (λ q. Rattle.record.specs.Doorways.is_ahead past j q ≡ false) (sym alike.process) (kept law.Overtaken (sym (same_entering e m alike) ∙ enters) j));
+      (λ enters j. subst (λ q. Rattle.model.specs.Doorways.is_ahead past j q ≡ false) (sym alike.process) (kept law.Overtaken (sym (same_entering e m alike) ∙ enters) j));
 }
   where
     past : Past

@@ -1,10 +1,10 @@
 -- A record has one verdict.
 use Rattle.std.proofs.Common.{◌≡◌, ◌⊎◌, ℕ, zero, suc, ◌<◌, List, [], ◌∷◌, ◌++◌, length, reverse, length-append, refl, sym, ap, subst, ◌∙◌, arith, inl, inr}
 use Rattle.plain_store.specs.{Setup}
-use Rattle.record.specs.{Entry, Past}
+use Rattle.model.specs.{Entry, Past}
 use Rattle.auditor.specs.{AllKeep, BreaksFirst, IsBadAt, IsVerdict, KeepsAll, Law, Verdict, number_of}
-use Rattle.read_law.specs.declared.verdicts.Law.TheVariants as law
-use Rattle.read_law.specs.declared.verdicts.Verdict.TheVariants.{Good, Bad}
+use Rattle.safe_monitor.specs.declared.verdicts.Law.TheVariants as law
+use Rattle.safe_monitor.specs.declared.verdicts.Verdict.TheVariants.{Good, Bad}
 
 -- an entry in a past in which all laws are kept keeps all laws
 keeps-in : (s : Setup) (later : Past) (e : Entry) (past : Past) → AllKeep s (later ++ e ∷ past) → KeepsAll s past e

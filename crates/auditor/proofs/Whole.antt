@@ -2,9 +2,9 @@
 use Rattle.std.proofs.Common.{◌≡◌, List, [], ◌∷◌, reverse, Option, Some, None, Ok, refl, sym, ap, subst, ◌∙◌}
 use Rattle.std.proofs.lemmas.List.{reverse-reverse}
 use Rattle.plain_store.specs.{Setup, checked}
-use Rattle.record.specs.{AreGiven, Entry, Event, KeepsHeadlineThroughout, Past, entry_of, past_of}
-use Rattle.record.proofs.Width.{is_good}
-use Rattle.read_law.proofs.laws.HeldThere.{access_there}
+use Rattle.model.specs.{AreGiven, Entry, Event, KeepsHeadlineThroughout, Past, entry_of, past_of}
+use Rattle.model.proofs.Width.{is_good}
+use Rattle.safe_monitor.proofs.laws.HeldThere.{access_there}
 use Rattle.world.proofs.WorldShows.{past-after}
 use Rattle.auditor.specs.{AllKeep, AuditorState, GoodAccessesAreThere, GoodIsOfEvents, HasHeard, IsGoodOfEvents, IsOfEvent, IsTrueRecord, IsVerdict, OfEventsIsGood, Law, Verdict}
 use Rattle.world.proofs.history_laws_proofs.Given.{given_before}

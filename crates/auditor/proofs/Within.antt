@@ -1,13 +1,13 @@
 -- An entry with an access and without a mark, of a process that is within a register access.
 use Rattle.std.proofs.Common.{◌≡◌, ◌<◌, ℕ, Bool, false, true≢false, List, [], Option, None, Some, refl, sym, ap, subst, ◌∙◌}
 use Rattle.std.specs.Prelude.{unwrap_or}
-use Rattle.record.specs.{Access, Entry, Past, Taken, history}
-use Rattle.record.specs.declared.events.Event.TheVariants as event
+use Rattle.model.specs.{Access, Entry, Past, Taken, history}
+use Rattle.model.specs.declared.events.Event.TheVariants as event
 use Rattle.world.specs.process.declared.told.StepTold.TheVariants.{Nothing}
 use Rattle.world.specs.{CoreAddsQuietly, CoreState, MakesQuietly, left_in, with_history}
 use Rattle.world.specs.Walks.{AddsQuietly}
 use Rattle.world.proofs.WithinStages.{within-unsettled}
-use Rattle.read_law.specs.declared.verdicts.Law.TheVariants as law
+use Rattle.safe_monitor.specs.declared.verdicts.Law.TheVariants as law
 use Rattle.auditor.specs.{AuditorState, BreaksNext, HasHeard, IsHeard, flick_in}
 use Rattle.auditor.proofs.Hearing.{heard_on, heard_wrong}
 

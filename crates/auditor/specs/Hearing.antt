@@ -1,18 +1,18 @@
 -- The state of an auditor, and its result for an entry or for a stretch of accesses.
 use Rattle.std.specs.Prelude.{◌≡◌, ◌↔◌, ℕ, zero, suc, ◌+◌, ◌-◌, ◌<◌, ◌≤◌, ◌^◌, IsTrue, map, nat_lt, Bool, true, false, Contains, List, [], ◌∷◌, length, Option, None, Some}
-use Rattle.record.specs.safe_bit.declared.Move.TheVariants.{BeginWrite, EndWrite, BeginRead, EndRead, Settle}
-use Rattle.record.specs.{Access, Entry, Event, Mark, Past, Taken, entry_of, history, past_of, placed, reply_taken, stage, takings}
+use Rattle.model.specs.safe_bit.declared.Move.TheVariants.{BeginWrite, EndWrite, BeginRead, EndRead, Settle}
+use Rattle.model.specs.{Access, Entry, Event, Mark, Past, Taken, entry_of, history, past_of, placed, reply_taken, stage, takings}
 use Rattle.plain_store.specs.{Reply, Setup}
-use Rattle.record.specs.declared.events.Event.TheVariants.{Call, Step, Fail, Withdraw, Restart}
-use Rattle.record.specs.declared.marks.Mark.TheVariants.{Called, Failed, Withdrew, Restarted}
-use Rattle.record.specs.declared.stages.Stage.TheVariants.{Settling}
-use Rattle.read_law.specs.{entry_by}
+use Rattle.model.specs.declared.events.Event.TheVariants.{Call, Step, Fail, Withdraw, Restart}
+use Rattle.model.specs.declared.marks.Mark.TheVariants.{Called, Failed, Withdrew, Restarted}
+use Rattle.model.specs.declared.stages.Stage.TheVariants.{Settling}
+use Rattle.safe_monitor.specs.{entry_by}
 use Rattle.world.specs.{CoreState, left_in, with_history}
-use Rattle.world.specs.flicks.{FlickState, flick_of, flicks_after}
+use Rattle.world.specs.choices.{FlickState, flick_of, flicks_after}
 use Rattle.world.specs.Shows.{Shows}
 use Rattle.world.specs.process.{StepTold, marks_told}
-use Rattle.read_law.specs.declared.verdicts.Law.{Law}
-use Rattle.read_law.specs.declared.verdicts.Law.TheVariants as law
+use Rattle.safe_monitor.specs.declared.verdicts.Law.{Law}
+use Rattle.safe_monitor.specs.declared.verdicts.Law.TheVariants as law
 use Rattle.auditor.specs.Verdicts.{IsAlike, Keeps, KeepsAll, number_of}
 
 -- the flick that an access determines: the value with which a read ends, or a write begins or is settled

@@ -1,14 +1,14 @@
 -- The laws that an entry keeps, decided by the entries before it, and the verdict on a record.
 use Rattle.std.specs.Prelude.{◌≡◌, ℕ, ◌<◌, Bool, true, false, List, [], ◌∷◌, ◌++◌, length, map, reverse, Some, Ok, IsTrue}
 use Rattle.plain_store.specs.{Setup, checked}
-use Rattle.record.specs.{AreGiven, Entry, Event, KeepsHeadlineThroughout, Mark, OvertakesNobody, Past, Stage, TakesItsPlace, entry_of, has, inside, is_entered, past_of, placed, record_of, stage, stepped}
-use Rattle.record.specs.declared.marks.Mark.TheVariants.{Called, Failed, Withdrew, Restarted}
-use Rattle.record.specs.declared.stages.Stage.TheVariants.{Idle, Settling, Down}
-use Rattle.read_law.specs.{AllAreOfThere, KeepsSafe}
-use Rattle.read_law.specs.declared.verdicts.Law.{Law}
-use Rattle.read_law.specs.declared.verdicts.Law.TheVariants as law
-use Rattle.read_law.specs.declared.verdicts.Verdict.{Verdict}
-use Rattle.read_law.specs.declared.verdicts.Verdict.TheVariants.{Good, Bad}
+use Rattle.model.specs.{AreGiven, Entry, Event, KeepsHeadlineThroughout, Mark, OvertakesNobody, Past, Stage, TakesItsPlace, entry_of, has, inside, is_entered, past_of, placed, record_of, stage, stepped}
+use Rattle.model.specs.declared.marks.Mark.TheVariants.{Called, Failed, Withdrew, Restarted}
+use Rattle.model.specs.declared.stages.Stage.TheVariants.{Idle, Settling, Down}
+use Rattle.safe_monitor.specs.{AllAreOfThere, KeepsSafe}
+use Rattle.safe_monitor.specs.declared.verdicts.Law.{Law}
+use Rattle.safe_monitor.specs.declared.verdicts.Law.TheVariants as law
+use Rattle.safe_monitor.specs.declared.verdicts.Verdict.{Verdict}
+use Rattle.safe_monitor.specs.declared.verdicts.Verdict.TheVariants.{Good, Bad}
 
 -- The laws.
 

@@ -1,14 +1,14 @@
 ghost use Rattle.std.specs.Prelude.{◌≡◌, IfOk, Ok, reverse};
 ghost use Rattle.plain_store.specs.{checked};
-ghost use Rattle.read_law.specs.Safe.{TellsSafe};
+ghost use Rattle.safe_monitor.specs.Safe.{TellsSafe};
 ghost use Rattle.auditor.specs.Hearing.{BreaksNext};
-ghost use Rattle.read_law.specs.declared.verdicts.Verdict.TheVariants.{Good};
+ghost use Rattle.safe_monitor.specs.declared.verdicts.Verdict.TheVariants.{Good};
 ghost use Rattle.auditor.specs.Verdicts.{AllKeep, BreaksFirst, IsGoodOfEvents, IsTrueRecord, IsVerdict};
 
 use crate::auditor::Auditor;
 use plain_store::Setup;
-use read_law::{Law, Verdict, Watch, parts};
-use record::{Entry, Record};
+use safe_monitor::{Law, Verdict, Watch, parts};
+use model::{Entry, Record};
 use std::alloc::{AllocError, Global};
 
 /// Returns the verdict on a record: the lowest entry that breaks a law, and the first law that it breaks. The one fault is an

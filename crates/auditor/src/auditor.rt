@@ -1,18 +1,18 @@
 ghost use Rattle.std.specs.Prelude.{◌≡◌, ◌↔◌, ◌<◌, ◌≤◌, ◌+◌, IfOk, IsTrue, Ok, Some, None, []};
 ghost use Rattle.std.specs.List.{list_any};
 ghost use Rattle.plain_store.specs.{checked};
-ghost use Rattle.record.specs.declared.stages.Stage.TheVariants.{Settling};
-ghost use Rattle.read_law.specs.declared.verdicts.Law.{Law as Named};
-ghost use Rattle.read_law.specs.declared.verdicts.Law.TheVariants.{Program};
-ghost use Rattle.read_law.specs.{entry_by};
+ghost use Rattle.model.specs.declared.stages.Stage.TheVariants.{Settling};
+ghost use Rattle.safe_monitor.specs.declared.verdicts.Law.{Law as Named};
+ghost use Rattle.safe_monitor.specs.declared.verdicts.Law.TheVariants.{Program};
+ghost use Rattle.safe_monitor.specs.{entry_by};
 ghost use Rattle.world.specs.{left_in};
 ghost use Rattle.auditor.specs.Hearing.{HasHeard, Hears, HearsBefore, HearsEvent, HearsRun, HearsSteps, TellsSettling, event_in, law_of_misplaced, law_of_wrong};
 ghost use Rattle.auditor.specs.Verdicts.{tells_event};
 
 use crate::matching::{are_at, event_in, flick_in, flick_of, is_alike, is_that, more, tells_event};
 use plain_store::Setup;
-use read_law::Law;
-use record::{Access, Event, Mark, Stage};
+use safe_monitor::Law;
+use model::{Access, Event, Mark, Stage};
 use std::alloc::{AllocError, Global};
 use std::marker::Model;
 use world::{Core, Effect, Flicks, StepTold};
@@ -65,7 +65,7 @@ impl Auditor {
 
     /// Observes one more entry, by its parts. Returns the first law after `Safe` that it breaks, or `None` if it keeps all
     /// laws. An entry that breaks a law changes nothing, so the auditor has still observed just the entries before it. An entry
-    /// that breaks `Safe` breaks `Program` or `Unit` too; a [`Watch`](read_law::Watch) decides whether it breaks `Safe`.
+    /// that breaks `Safe` breaks `Program` or `Unit` too; a [`Watch`](safe_monitor::Watch) decides whether it breaks `Safe`.
     ///
     /// The marks are borrowed. An `Entry` has room for three, all cleared and moved for each step, though few steps have one.
     #[inline]
@@ -86,7 +86,7 @@ impl Auditor {
     }
 
     /// Observes a stretch: `steps` unmarked accesses of a process within one register access, of which `newest` is the last.
-    /// The auditor makes the others on its own core, each by the next of `flicks`. It then observes `newest` as
+    /// The auditor makes the others on its own core, each by the next of `choices`. It then observes `newest` as
     /// [`hear`](Auditor::hear) does.
     ///
     /// Returns what observing each access by itself returns. The accesses before `newest` break no law, because the

@@ -22,6 +22,6 @@ pub use laws_of_verdicts::{
     records_of_events_are_good,
 };
 pub use matching::{event_in, tells_event};
-pub use read_law::{Audited, Law, NamedLaw, Verdict, Watch, parts};
-pub use record::{Entry, Record};
+pub use safe_monitor::{Audited, Law, NamedLaw, Verdict, Watch, parts};
+pub use model::{Entry, Record};
 pub use world::{Core, Flicks, World};

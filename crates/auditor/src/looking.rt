@@ -1,12 +1,12 @@
 //! The reports of an auditor on the entries that it has observed. They leave it unchanged.
 ghost use Rattle.std.specs.Prelude.{◌≡◌};
-ghost use Rattle.record.specs.{refused};
+ghost use Rattle.model.specs.{refused};
 ghost use Rattle.world.specs.{stage_in};
 ghost use Rattle.auditor.specs.Hearing.{IsAddedByStep, OfHeard};
 
 use crate::auditor::Auditor;
 use plain_store::NestedTypes;
-use record::{Entry, Event, Refusal, Stage};
+use model::{Entry, Event, Refusal, Stage};
 use world::Core;
 
 impl Auditor {

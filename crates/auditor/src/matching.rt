@@ -1,15 +1,15 @@
 //! Comparison of an entry with the entry that is expected.
 ghost use Rattle.std.specs.Prelude.{◌≡◌, ◌↔◌, ℕ, true, false, IsTrue, Option, Some, None, map};
 ghost use Rattle.std.specs.List.{list_any};
-ghost use Rattle.record.specs.{placed};
+ghost use Rattle.model.specs.{placed};
 ghost use Rattle.world.specs.process.{marks_told};
 ghost use Rattle.auditor.specs.Hearing.{CountsOn, IsCount, TellsAlike, event_in, flick_in};
 ghost use Rattle.auditor.specs.Verdicts.{tells_event};
 ghost use Rattle.auditor.specs.Hearing.{AreAt};
-ghost use Rattle.read_law.specs.{entry_by};
+ghost use Rattle.safe_monitor.specs.{entry_by};
 
 use plain_store::{Answer, Command, Name, Reply, Text, Value};
-use record::{Access, Entry, Event, Field, Mark, Move};
+use model::{Access, Entry, Event, Field, Mark, Move};
 use std::alloc::Global;
 use world::{StepTold, step_marks};
 

@@ -1,8 +1,8 @@
 -- At the door it makes no difference which command a call has, and which number.
 use Rattle.std.proofs.Common.{◌≡◌, ℕ, ◌+◌, ◌==◌, ◌&&◌, Bool, cond, List, [], ◌∷◌, ◌++◌, length, refl, ap, ◌∙◌}
 use Rattle.plain_store.specs.declared.Command.TheVariants.{Ask}
-use Rattle.record.specs.{Call, Field, Place, Reading, Run, Wait, Writing, bits_with, enter, is_fresh, is_last, lets_by, marks_of, new_run, others, place_after, run_after, waits_of, width, write_moved}
-use Rattle.record.specs.Parts.{Part, Raises, first_marks, last_marks, part_after, read_at, to_b, to_d, written_at}
+use Rattle.model.specs.{Call, Field, Place, Reading, Run, Wait, Writing, bits_with, enter, is_fresh, is_last, lets_by, marks_of, new_run, others, place_after, run_after, waits_of, width, write_moved}
+use Rattle.model.specs.Parts.{Part, Raises, first_marks, last_marks, part_after, read_at, to_b, to_d, written_at}
 use Rattle.process.specs.laws.{call}
 use Rattle.bakery.proofs.AtDoor.{AtDoor, raises, asks, takes, lowers, refuses, waits}
 

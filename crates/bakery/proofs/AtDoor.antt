@@ -1,10 +1,10 @@
 -- The parts of a call at the door, and the results of its accesses there.
 use Rattle.std.proofs.Common.{◌≡◌, ℕ, ◌+◌, ◌==◌, Bool, true, false, cond, List, [], ◌∷◌, ◌++◌, refl, sym, ap, subst}
-use Rattle.record.specs.{Call, Mark, Place, Stage, Wait, bits_with, enter, entered_if_none, first_full, greatest, is_fresh, is_last, is_queued, is_waiting_stage, lets_by, marks_of, max_of, new_run, others, place_after, processes, run_after, stage_at, waits_of}
-use Rattle.record.specs.declared.marks.Mark.TheVariants as mark
-use Rattle.record.specs.declared.stages.Stage.TheVariants as stage
+use Rattle.model.specs.{Call, Mark, Place, Stage, Wait, bits_with, enter, entered_if_none, first_full, greatest, is_fresh, is_last, is_queued, is_waiting_stage, lets_by, marks_of, max_of, new_run, others, place_after, processes, run_after, stage_at, waits_of}
+use Rattle.model.specs.declared.marks.Mark.TheVariants as mark
+use Rattle.model.specs.declared.stages.Stage.TheVariants as stage
 use Rattle.plain_store.specs.{Command}
-use Rattle.record.specs.Parts.{Part, Raises, Asks, TakesTicket, Lowers, Refuses, Waits, AsksCommit, AsksStamp, AsksImage, WritesImage, WritesStamp, WritesCommit, Clears, Over, first_marks, last_marks, part_after, stage_of, to_b, to_d, to_e}
+use Rattle.model.specs.Parts.{Part, Raises, Asks, TakesTicket, Lowers, Refuses, Waits, AsksCommit, AsksStamp, AsksImage, WritesImage, WritesStamp, WritesCommit, Clears, Over, first_marks, last_marks, part_after, stage_of, to_b, to_d, to_e}
 use Rattle.process.specs.laws.{runs}
 use Rattle.process.specs.{full_at, stage_doing, ticket_at}
 use Rattle.bakery.specs.Doors.{goes_on, marks_told, tells_wait, told_at}

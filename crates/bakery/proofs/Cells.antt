@@ -3,8 +3,8 @@ use Rattle.std.proofs.Common.{ℕ, ◌<◌, List, length, inl, inr, subst, arith
 use Rattle.std.proofs.lemmas.Bool.{cases_lt}
 use Rattle.std.proofs.lemmas.List.{get_or_past}
 use Rattle.reader_copies.specs.{HasCell}
-use Rattle.record.specs.{Field}
-use Rattle.record.specs.declared.access.Field.TheVariants.{Choosing}
+use Rattle.model.specs.{Field}
+use Rattle.model.specs.declared.access.Field.TheVariants.{Choosing}
 use Rattle.bakery.specs.Locks.{LockRows, no_lock, row_in, lock_of}
 
 no-cell : (f : Field) (bit reader : ℕ) → HasCell (row_in no_lock f) bit reader → ⊥

@@ -1,6 +1,6 @@
 -- The committed versions, off the registers.
 use Rattle.std.proofs.Common.{◌≡◌, ℕ, zero, suc, ◌<◌, true, List, [], ◌∷◌, length, get_or, refl, ◌∙◌, arith}
-use Rattle.record.specs.{Field, width}
+use Rattle.model.specs.{Field, width}
 use Rattle.plain_store.specs.{Setup}
 use Rattle.bakery.specs.{IsReadable, IsQuiet, values_of}
 use Rattle.bakery.specs.Registers.{Data, DataRow, FitsSetup, register_at, data_of, no_data, is_data}

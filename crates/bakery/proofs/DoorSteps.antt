@@ -1,9 +1,9 @@
 -- A step of a door, at a place of any call.
 use Rattle.std.proofs.Common.{◌≡◌, ℕ, Bool, true, Option, refl, sym, ap, subst, ◌∙◌}
 use Rattle.plain_store.specs.declared.Command.TheVariants.{Ask}
-use Rattle.record.specs.{Call, Place, Stage, is_fresh, is_queued, is_waiting_stage, marks_of, place_after, stage_at}
+use Rattle.model.specs.{Call, Place, Stage, is_fresh, is_queued, is_waiting_stage, marks_of, place_after, stage_at}
 use Rattle.process.specs.laws.{Doing, Rests, Lies, Runs, Closes, call, runs}
-use Rattle.record.specs.Closings as closing
+use Rattle.model.specs.Closings as closing
 use Rattle.process.specs.{ProcessState, full_at, full_of, marks_on, may_step, stage_doing, stepped, ticket_at, ticket_of}
 use Rattle.bakery.specs.{DoorProgress}
 use Rattle.bakery.specs.Doors.{door_at, goes_on, is_going, is_waiting, marks_told, progress_on, tells_wait, told_at}

@@ -6,7 +6,7 @@ use Rattle.reader_copies.specs.safe_bit.Cell.{Cell, new_cell}
 use Rattle.reader_copies.specs.{cell_at}
 use Rattle.safe_number.specs.{number_of_bits}
 use Rattle.safe_number.proofs.Bits.{number-fits}
-use Rattle.record.specs.{bytes_of_bits}
+use Rattle.model.specs.{bytes_of_bits}
 use Rattle.bakery.specs.{values_of}
 use mir.Val.{bool_byte}
 

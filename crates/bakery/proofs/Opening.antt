@@ -5,8 +5,8 @@ use Rattle.std.specs.List.{range_with_len}
 use Rattle.reader_copies.specs.safe_bit.Cell.{Cell, new_cell}
 use Rattle.reader_copies.specs.{new_row, cell_at, IsClosed}
 use Rattle.safe_number.specs.{bit_in, bits_in, preset_number}
-use Rattle.record.specs.{Field, width}
-use Rattle.record.specs.declared.access.Field.TheVariants.{Image0}
+use Rattle.model.specs.{Field, width}
+use Rattle.model.specs.declared.access.Field.TheVariants.{Image0}
 use Rattle.safe_number.proofs.Numbers.{range_same, get-bits}
 use Rattle.store_image.specs.{image_of}
 use Rattle.plain_store.specs.{Setup, opening_store}

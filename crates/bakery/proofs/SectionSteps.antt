@@ -2,9 +2,9 @@
 use Rattle.std.proofs.Common.{◌≡◌, ℕ, ◌==◌, Bool, true, false, cond, List, [], ◌∷◌, ◌++◌, Option, is_some, refl, sym, ap, subst, ◌∙◌}
 use Rattle.plain_store.specs.{Answer, Contents, changes}
 use Rattle.plain_store.specs.declared.Answer.TheVariants as answer
-use Rattle.record.specs.{Call, Mark, Place, Version, bits_with, enter, is_fresh, is_last, marks_of, max_of, newest_stamp, pending_at, place_after, reply, run_after, store_read}
-use Rattle.record.specs.declared.marks.Mark.TheVariants as mark
-use Rattle.record.specs.Parts.{Part, Raises, Asks, TakesTicket, Lowers, Refuses, Waits, AsksCommit, AsksStamp, AsksImage, WritesImage, WritesStamp, WritesCommit, Clears, Over, first_marks, is_over, last_marks, part_after, to_e, to_g}
+use Rattle.model.specs.{Call, Mark, Place, Version, bits_with, enter, is_fresh, is_last, marks_of, max_of, newest_stamp, pending_at, place_after, reply, run_after, store_read}
+use Rattle.model.specs.declared.marks.Mark.TheVariants as mark
+use Rattle.model.specs.Parts.{Part, Raises, Asks, TakesTicket, Lowers, Refuses, Waits, AsksCommit, AsksStamp, AsksImage, WritesImage, WritesStamp, WritesCommit, Clears, Over, first_marks, is_over, last_marks, part_after, to_e, to_g}
 use Rattle.process.specs.laws.{Doing, Rests, Lies, Runs, Closes, call, runs}
 use Rattle.process.specs.{ProcessState, answer_at, answer_of, change_of, changes_at, changes_read, marks_on, may_step, stepped}
 use Rattle.bakery.specs.{SectionProgress}

@@ -1,7 +1,7 @@
 -- The registers of a process are those of its lock and those of its versions.
 use Rattle.std.proofs.Common.{◌≡◌, ◌⊎◌, refl, ap, sym, ◌∙◌, inl, inr}
-use Rattle.record.specs.{Field}
-use Rattle.record.specs.declared.access.Field.TheVariants.{Choosing, Ticket}
+use Rattle.model.specs.{Field}
+use Rattle.model.specs.declared.access.Field.TheVariants.{Choosing, Ticket}
 use Rattle.bakery.specs.Locks.{LockRows, row_in}
 use Rattle.bakery.specs.Registers.{Data, register_of}
 use Rattle.bakery.specs.Memory.{register_in}

@@ -1,11 +1,11 @@
 -- A unit's steps are those of the closing machine, at each closing that the unit shows.
 use Rattle.std.proofs.Common.{◌≡◌, ℕ, Bool, true, false, cond, List, [], ◌∷◌, Option, None, Some, option_map, refl, sym, ap, ◌∙◌}
 use Rattle.reader_copies.specs.{settled_at, settle_after}
-use Rattle.record.specs.{Call, Change, Field, Mark, Next, TornBit, cut, is_commit, taken_with, write_moved}
-use Rattle.record.specs.safe_number.{new_write}
+use Rattle.model.specs.{Call, Change, Field, Mark, Next, TornBit, cut, is_commit, taken_with, write_moved}
+use Rattle.model.specs.safe_number.{new_write}
 use Rattle.plain_store.specs.declared.Command.TheVariants.{Ask}
-use Rattle.record.specs.declared.Mark.TheVariants as mark
-use Rattle.record.specs.Closings.{Closing, Withdraws, Settles, Frees, Lowers, Quit, Ended, closing_after, closing_next, freeing, is_last_settled, is_last_written, no_ticket, settled_marks}
+use Rattle.model.specs.declared.Mark.TheVariants as mark
+use Rattle.model.specs.Closings.{Closing, Withdraws, Settles, Frees, Lowers, Quit, Ended, closing_after, closing_next, freeing, is_last_settled, is_last_written, no_ticket, settled_marks}
 use Rattle.process.specs.laws.{Doing, Closes, call, closes}
 use Rattle.process.specs.{ProcessState, may_step, next_at, stepped, unit_with}
 use Rattle.bakery.specs.Units.{marks_told, remains, unit_at, work_at}

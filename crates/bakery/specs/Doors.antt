@@ -2,9 +2,9 @@
 use Rattle.std.specs.Prelude.{◌≡◌, ◌<◌, ℕ, Bool, true, false, List, [], ◌∷◌, length, IfSome, Option, None, Some}
 use Rattle.plain_store.specs.declared.Answer.TheVariants as answer
 use Rattle.plain_store.specs.declared.Command.TheVariants.{Ask}
-use Rattle.record.specs.{Access, Call, Field, Mark, Place, Raises, Stage, TornBit, access_at, enter, is_queued, is_waiting_stage, marks_of, place_after, stage_at, torn_at}
-use Rattle.record.specs.declared.marks.Mark.TheVariants as mark
-use Rattle.record.specs.declared.stages.Stage.TheVariants as stage
+use Rattle.model.specs.{Access, Call, Field, Mark, Place, Raises, Stage, TornBit, access_at, enter, is_queued, is_waiting_stage, marks_of, place_after, stage_at, torn_at}
+use Rattle.model.specs.declared.marks.Mark.TheVariants as mark
+use Rattle.model.specs.declared.stages.Stage.TheVariants as stage
 use Rattle.process.specs.laws.{Runs, reads_of, runs}
 use Rattle.process.specs.{ProcessState, full_of, next_at, stage_doing, ticket_of}
 use Rattle.bakery.specs.declared.door_progress.DoorProgress.{DoorProgress}

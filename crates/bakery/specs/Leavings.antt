@@ -2,7 +2,7 @@
 use Rattle.std.specs.Prelude.{◌≡◌, ℕ, Bool, Option}
 use Rattle.plain_store.specs.{Answer, Setup}
 use Rattle.plain_store.specs.declared.Command.TheVariants.{Ask}
-use Rattle.record.specs.{Access, Call, Clears, Part, Place, Run, TornBit, Withdraws, Writing, access_at, enter, place_after, torn_at}
+use Rattle.model.specs.{Access, Call, Clears, Part, Place, Run, TornBit, Withdraws, Writing, access_at, enter, place_after, torn_at}
 use Rattle.process.specs.laws.{Doing, Closes, Rests}
 use Rattle.process.specs.{ProcessState}
 

@@ -8,7 +8,7 @@ use Rattle.bakery.specs.contracts.data_row.DataRow as row
 use Rattle.bakery.specs.contracts.lock.Lock.{the_row as lock}
 use Rattle.bakery.specs.contracts.lock.Locks.{the_row as locks}
 use Rattle.reader_copies.specs.safe_bit.Cell.{Cell}
-use Rattle.record.specs.{Field}
+use Rattle.model.specs.{Field}
 use Rattle.safe_number.specs.contracts.register.Register as register
 
 -- the locks with p's lock as it was left, and the others as before

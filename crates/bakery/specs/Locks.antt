@@ -2,8 +2,8 @@
 use Rattle.std.specs.Prelude.{ℕ, Bool, List, [], replicate, slice_index_or, slice_set}
 use Rattle.reader_copies.specs.safe_bit.Cell.{Cell}
 use Rattle.reader_copies.specs.{CanMake, HasCell, Made, answer_at, new_row, row_after, without_reads}
-use Rattle.record.specs.{Access, Field, ended_with, width}
-use Rattle.record.specs.declared.access.Field.TheVariants.{Choosing, Ticket}
+use Rattle.model.specs.{Access, Field, ended_with, width}
+use Rattle.model.specs.declared.access.Field.TheVariants.{Choosing, Ticket}
 use Rattle.plain_store.specs.{Setup}
 
 -- the two registers of one process's lock, each with its copies, reader by reader

@@ -2,8 +2,8 @@
 use Rattle.std.specs.Prelude.{List}
 use Rattle.reader_copies.specs.safe_bit.Cell.{Cell}
 use Rattle.reader_copies.specs.{row_after, CanMake}
-use Rattle.record.specs.{Access, Field}
-use Rattle.record.specs.declared.access.Field.TheVariants.{Choosing, Ticket}
+use Rattle.model.specs.{Access, Field}
+use Rattle.model.specs.declared.access.Field.TheVariants.{Choosing, Ticket}
 use Rattle.bakery.specs.Locks.{LockRows, made_by}
 use Rattle.bakery.specs.Registers.{Data, register_of, with_register}
 

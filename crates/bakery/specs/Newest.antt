@@ -2,7 +2,7 @@
 use Rattle.std.specs.Prelude.{◌≡◌, ℕ, ◌*◌, ◌<◌, ◌≤◌, Bool, false, List, [], length, map, slice_index_or}
 use Rattle.reader_copies.specs.safe_bit.Cell.{Cell}
 use Rattle.reader_copies.specs.{cell_at, HasCell}
-use Rattle.record.specs.{Field, Version, bytes_of_bits, image_bytes, image_field, newest_process, processes, stamp_field, version_of}
+use Rattle.model.specs.{Field, Version, bytes_of_bits, image_bytes, image_field, newest_process, processes, stamp_field, version_of}
 use Rattle.safe_number.specs.{IsBytesOf, number_of_bits}
 use Rattle.store_image.specs.{store_in}
 use Rattle.plain_store.specs.{Contents, Setup, callers_of}

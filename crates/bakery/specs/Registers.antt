@@ -3,8 +3,8 @@ use Rattle.std.specs.Prelude.{◌≡◌, ℕ, ◌<◌, Bool, true, false, List, 
 use Rattle.std.specs.List.{range_with_len}
 use Rattle.reader_copies.specs.safe_bit.Cell.{Cell, new_cell, read_answer}
 use Rattle.reader_copies.specs.{CanMake, HasCell, IsRow, Made, cell_at, row_after, without_reads}
-use Rattle.record.specs.{Access, Field, copy, ended_with, opening_bit, processes, width}
-use Rattle.record.specs.declared.access.Field.TheVariants.{Choosing, Ticket, Commit, Stamp0, Stamp1, Image0, Image1}
+use Rattle.model.specs.{Access, Field, copy, ended_with, opening_bit, processes, width}
+use Rattle.model.specs.declared.access.Field.TheVariants.{Choosing, Ticket, Commit, Stamp0, Stamp1, Image0, Image1}
 use Rattle.plain_store.specs.{Setup}
 
 -- the registers of one process: its commit bit, its two stamps, its two images

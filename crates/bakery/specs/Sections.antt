@@ -2,8 +2,8 @@
 use Rattle.std.specs.Prelude.{◌≡◌, ◌<◌, ℕ, Bool, true, false, cond, List, [], ◌∷◌, Option, None, Some, is_some}
 use Rattle.plain_store.specs.{Answer, Setup}
 use Rattle.plain_store.specs.declared.Answer.TheVariants as answer
-use Rattle.record.specs.{Access, AsksCommit, AsksImage, AsksStamp, Mark, Part, WritesCommit, WritesImage, WritesStamp, width}
-use Rattle.record.specs.declared.marks.Mark.TheVariants as mark
+use Rattle.model.specs.{Access, AsksCommit, AsksImage, AsksStamp, Mark, Part, WritesCommit, WritesImage, WritesStamp, width}
+use Rattle.model.specs.declared.marks.Mark.TheVariants as mark
 use Rattle.process.specs.laws.{Doing, Runs, reads_of}
 use Rattle.process.specs.{ProcessState, answer_of, change_of, changes_read}
 use Rattle.bakery.specs.declared.section_progress.SectionProgress.{SectionProgress}

@@ -1,11 +1,11 @@
 -- The memory unit: its remaining work. Its accesses are those of any closing of the failure rule.
 use Rattle.std.specs.Prelude.{◌≡◌, ℕ, Bool, false, cond, List, [], ◌∷◌, Option, None, Some, option_map}
 use Rattle.reader_copies.specs.{settled_at}
-use Rattle.record.specs.{Access, Call, Change, Mark, Next, TornBit, cut}
+use Rattle.model.specs.{Access, Call, Change, Mark, Next, TornBit, cut}
 use Rattle.plain_store.specs.declared.Command.TheVariants.{Ask}
 use Rattle.plain_store.specs.{Setup}
-use Rattle.record.specs.declared.Mark.TheVariants as mark
-use Rattle.record.specs.Closings.{Closing, Settles, Frees, Lowers, closing_next, closing_after, settled_marks}
+use Rattle.model.specs.declared.Mark.TheVariants as mark
+use Rattle.model.specs.Closings.{Closing, Settles, Frees, Lowers, closing_next, closing_after, settled_marks}
 use Rattle.process.specs.laws.{Doing, Closes, Lies, is_inside_closing}
 use Rattle.process.specs.{ProcessState, may_step, settles}
 use Rattle.bakery.specs.declared.unit_progress.UnitProgress.{UnitProgress}

@@ -7,7 +7,7 @@ ghost use Rattle.bakery.specs.Registers.{is_data, register_of, data_after, data_
 use crate::held;
 use plain_store::Setup;
 use reader_copies::Made;
-use record::{Field, width_of};
+use model::{Field, width_of};
 use safe_number::{NumberFault, Register};
 use std::alloc::{AllocError, Global};
 use std::marker::Model;

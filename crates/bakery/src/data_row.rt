@@ -8,7 +8,7 @@ use crate::held;
 use plain_store::Setup;
 use process::NewestVersion;
 use reader_copies::{Made, Move};
-use record::{Access, Field, image_bytes};
+use model::{Access, Field, image_bytes};
 use std::alloc::{AllocError, Global};
 use std::marker::Model;
 use store_image::Image;

@@ -1,7 +1,7 @@
 ghost use Rattle.std.specs.Prelude.{◌≡◌, ◌<◌, true, Ok, IfOk, IfSome, IsOk, []};
 ghost use Rattle.plain_store.specs.{checked};
 ghost use Rattle.plain_store.specs.declared.Command.TheVariants.{Ask};
-ghost use Rattle.record.specs.{IsTornOf, value_of};
+ghost use Rattle.model.specs.{IsTornOf, value_of};
 ghost use Rattle.process.specs.{called, marks_on, next_at, process_after, restarted, stage_doing, stepped, torn_of};
 ghost use Rattle.bakery.specs.Doors.{BeginsCalls, CallGoesOn, CallTears, IsInTurn, IsNextOfCall, MarksOfCall, MayDrop, dropped, goes_on, is_going, is_waiting, marks_told, progress_on, tells_wait};
 ghost use Rattle.bakery.specs.Locks.{answered, locks_after};
@@ -10,7 +10,7 @@ use crate::door_progress::DoorProgress;
 use crate::lock::Locks;
 use plain_store::{Command, Setup};
 use process::{Process, given};
-use record::{Access, TornBit};
+use model::{Access, TornBit};
 use std::alloc::{AllocError, Global};
 use std::marker::Model;
 

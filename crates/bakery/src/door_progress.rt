@@ -1,7 +1,7 @@
 ghost use Rattle.std.specs.Prelude.{◌≡◌};
 ghost use Rattle.bakery.specs.Doors.{told_at};
 
-use record::Stage;
+use model::Stage;
 
 /// The result of an access of the doorway or of the waiting.
 #[derive(Clone, Copy)]

@@ -1,7 +1,7 @@
 //! The value of a register, from the copies of reader 0, without an access.
 ghost use Rattle.std.specs.Prelude.{◌≡◌, ◌+◌, ◌*◌, ◌≤◌, length, take, drop};
 ghost use Rattle.safe_number.specs.{number_of_bits};
-ghost use Rattle.record.specs.{bytes_of_bits};
+ghost use Rattle.model.specs.{bytes_of_bits};
 ghost use Rattle.bakery.specs.Newest.{values_of, IsReadable};
 
 use safe_number::Register;

@@ -1,7 +1,7 @@
 ghost use Rattle.std.specs.Prelude.{◌≡◌, ◌<◌, [], false, not, true, Ok, IfSome};
 ghost use Rattle.reader_copies.specs.{progress_of};
 ghost use Rattle.plain_store.specs.{checked};
-ghost use Rattle.record.specs.{IsTornOf, value_of};
+ghost use Rattle.model.specs.{IsTornOf, value_of};
 ghost use Rattle.process.specs.{may_step, next_at, process_after, stepped, torn_of, withdrawn};
 ghost use Rattle.bakery.specs.Leavings.{BeginsClearing, CallGoesOn, CallTears, IsNextOfCall};
 ghost use Rattle.bakery.specs.Locks.{CanAccess, lock_after};
@@ -10,7 +10,7 @@ use crate::lock::Lock;
 use plain_store::Setup;
 use process::{Process, given};
 use reader_copies::Progress;
-use record::{Access, TornBit};
+use model::{Access, TornBit};
 use std::marker::Model;
 
 /// The clearing of a process's ticket, with which a call ends (Lamport 1974): a write of 0. It serves a process

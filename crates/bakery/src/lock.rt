@@ -7,7 +7,7 @@ ghost use Rattle.bakery.specs.Lending.{LendsLock};
 
 use plain_store::Setup;
 use reader_copies::{Made, Move};
-use record::{Access, Field};
+use model::{Access, Field};
 use safe_number::{NumberFault, Register};
 use std::alloc::{AllocError, Global};
 use std::marker::Model;

@@ -1,6 +1,6 @@
 ghost use Rattle.std.specs.Prelude.{◌≡◌, ◌<◌, IfOk, IfSome, IsOk, Ok, [], false, true};
 ghost use Rattle.plain_store.specs.{checked};
-ghost use Rattle.record.specs.{IsTornOf, ended_with, value_of};
+ghost use Rattle.model.specs.{IsTornOf, ended_with, value_of};
 ghost use Rattle.process.specs.{called_inside, change_of, marks_on, next_at, process_after, restarted, stepped, torn_of};
 ghost use Rattle.bakery.specs.Registers.{after_access, answered, is_data, FitsSetup, MayMake};
 ghost use Rattle.bakery.specs.Sections.{dropped, goes_on, is_going, marks_told, progress_on, IsInRange};
@@ -9,7 +9,7 @@ use crate::data_row::DataRow;
 use crate::section_progress::SectionProgress;
 use plain_store::{Command, Reply, Setup};
 use process::{Process, given};
-use record::{Access, Field, Move, TornBit};
+use model::{Access, Field, Move, TornBit};
 use std::alloc::{AllocError, Global};
 use std::marker::Model;
 

@@ -1,6 +1,6 @@
 ghost use Rattle.std.specs.Prelude.{◌≡◌, ◌<◌, [], false, true, Ok, IfSome};
 ghost use Rattle.plain_store.specs.{checked};
-ghost use Rattle.record.specs.{IsTornOf};
+ghost use Rattle.model.specs.{IsTornOf};
 ghost use Rattle.process.specs.{may_step, next_at, process_after, settling_with, stepped};
 ghost use Rattle.bakery.specs.Locks.{lock_after};
 ghost use Rattle.bakery.specs.Memory.{CanAccess, versions_after};
@@ -12,7 +12,7 @@ use crate::unit_progress::UnitProgress;
 use plain_store::Setup;
 use process::Process;
 use reader_copies::Made;
-use record::{Access, Field, TornBit};
+use model::{Access, Field, TornBit};
 use std::marker::Model;
 
 /// The memory unit of a failed process. It settles the torn bit, if there is one: on each copy by begin and end of a

@@ -4,16 +4,16 @@ use Rattle.std.proofs.lemmas.Bool.{true≢false}
 use Rattle.std.specs.Prelude.{slice_index, fold}
 use mathlib.Core.Option.{some}
 use lib.ListN.{get_elem?}
-use Rattle.record.specs.safe_bit.Cell.{Cell, cell_after}
-use Rattle.record.specs.safe_bit.{Move, read_value}
-use Rattle.record.specs.{Access, Entry, Event, Mark, Past, Refusal, call_number, ended, ended_with, entry_of, history, last_command, moves_of, opening_bit, own, past_of, placed, same_bit, stage, stage_after, value_of, valued}
+use Rattle.model.specs.safe_bit.Cell.{Cell, cell_after}
+use Rattle.model.specs.safe_bit.{Move, read_value}
+use Rattle.model.specs.{Access, Entry, Event, Mark, Past, Refusal, call_number, ended, ended_with, entry_of, history, last_command, moves_of, opening_bit, own, past_of, placed, same_bit, stage, stage_after, value_of, valued}
 use Rattle.plain_store.specs.{Setup}
-use Rattle.record.specs.declared.events.Event.TheVariants as event
-use Rattle.record.proofs.Accepted.{accepted_adds}
-use Rattle.record.proofs.Local.{command-plain, calls-plain}
-use Rattle.record.proofs.Singles.{is_write}
-use Rattle.record.proofs.Staging.{no_called, stage-placed}
-use Rattle.record.proofs.Width.{IsGood, is_good}
+use Rattle.model.specs.declared.events.Event.TheVariants as event
+use Rattle.model.proofs.Accepted.{accepted_adds}
+use Rattle.model.proofs.Local.{command-plain, calls-plain}
+use Rattle.model.proofs.Singles.{is_write}
+use Rattle.model.proofs.Staging.{no_called, stage-placed}
+use Rattle.model.proofs.Width.{IsGood, is_good}
 use Rattle.laws.specs.{IsThere, cell_held, doing, marks_with, next_of}
 use Rattle.laws.proofs.Frame.{own-own}
 use Rattle.laws.proofs.FrameCells.{OnCopy, on-copy}

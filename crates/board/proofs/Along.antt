@@ -7,9 +7,9 @@ use mathlib.Core.Logic.{dite}
 use native.Mathlib.Decide.{ℕ_discrete}
 use lib.ListN.{get_elem?}
 use Rattle.atomic_table.proofs.Lists.{at_set, set_else}
-use Rattle.record.specs.{Access, AreGiven, Entry, Event, Past, Taken, call_number, count_changes, entry_of, has, history, is_called, last_command, own, past_of, reply_taken}
+use Rattle.model.specs.{Access, AreGiven, Entry, Event, Past, Taken, call_number, count_changes, entry_of, has, history, is_called, last_command, own, past_of, reply_taken}
 use Rattle.plain_store.specs.{Contents, Reply, Setup, changes, opening_store}
-use Rattle.record.proofs.Width.{IsGood}
+use Rattle.model.proofs.Width.{IsGood}
 use Rattle.laws.specs.{IsThere, cell_held, doing, is_inside}
 use Rattle.laws.proofs.Frame.{own-other, doing-other}
 use Rattle.laws.proofs.FrameInside.{inside-is}

@@ -1,15 +1,15 @@
 -- An access that ends a read or a write follows the access that begins it; no such access follows an event other than an access.
 use Rattle.std.proofs.Common.{◌≡◌, ◌≢◌, ℕ, ◌+◌, ◌*◌, ◌%◌, ◌==◌, ◌||◌, Bool, true, false, cond, if◌then◌else◌, List, [], ◌∷◌, refl, sym, ap, ◌∙◌, subst, arith, Some, None, eq-eqb}
 use Rattle.std.specs.Prelude.{unwrap_or}
-use Rattle.record.specs.safe_bit.{Move}
-use Rattle.record.specs.safe_bit.declared.Move.TheVariants.{BeginWrite, EndWrite, BeginRead, EndRead, Settle}
-use Rattle.record.specs.reader_copies.Runs as copies
-use Rattle.record.specs.{Access, Call, Event, Field, Part, Place, Raises, Reading, Run, Writing, access_at, access_of, bit_written, bits_with, enter, is_last, is_over, next_written, part_after, place_after, run_after, write_moved, written_at}
-use Rattle.record.specs.declared.access.Field.TheVariants.{Choosing, Ticket}
-use Rattle.record.specs.safe_number.{NumberWrite, new_write}
+use Rattle.model.specs.safe_bit.{Move}
+use Rattle.model.specs.safe_bit.declared.Move.TheVariants.{BeginWrite, EndWrite, BeginRead, EndRead, Settle}
+use Rattle.model.specs.reader_copies.Runs as copies
+use Rattle.model.specs.{Access, Call, Event, Field, Part, Place, Raises, Reading, Run, Writing, access_at, access_of, bit_written, bits_with, enter, is_last, is_over, next_written, part_after, place_after, run_after, write_moved, written_at}
+use Rattle.model.specs.declared.access.Field.TheVariants.{Choosing, Ticket}
+use Rattle.model.specs.safe_number.{NumberWrite, new_write}
 use Rattle.plain_store.specs.{Command, Setup}
-use Rattle.record.specs.declared.events.Event.TheVariants as event
-use Rattle.record.specs.Closings.{Closing, Withdraws, Settles, Frees, Lowers, Quit, Ended, closing_after, freeing, is_last_settled, is_last_written, no_ticket}
+use Rattle.model.specs.declared.events.Event.TheVariants as event
+use Rattle.model.specs.Closings.{Closing, Withdraws, Settles, Frees, Lowers, Quit, Ended, closing_after, freeing, is_last_settled, is_last_written, no_ticket}
 use Rattle.laws.specs.{Closes, Doing, Lies, Rests, Runs, being_written, call, closes, cut_of, does_then, next_of, runs}
 use Rattle.process.specs.{next_number}
 use Rattle.board.specs.{IsUnended, MayHappen, OwnView, with_event}

@@ -5,9 +5,9 @@ use Rattle.std.specs.List.{list_any}
 use Rattle.std.proofs.lemmas.Bool.{eqb-false}
 use Rattle.std.proofs.lemmas.List.{append-nil, length-append}
 use Rattle.plain_store.specs.{Answer, Command, Contents, Reply, Setup, changes, checked, opening_store, reply_to}
-use Rattle.record.specs.{AreGiven, Entry, Event, IsAnswerTo, Mark, Past, Stage, all_takings, calls_in, entry_of, has, history, is_called, last_command, own, past_of, reply_taken, since, stage, stage_after, store_after, takings, value_of}
-use Rattle.record.specs.declared.marks.Mark.TheVariants as mark
-use Rattle.record.proofs.Width.{IsGood, is_good}
+use Rattle.model.specs.{AreGiven, Entry, Event, IsAnswerTo, Mark, Past, Stage, all_takings, calls_in, entry_of, has, history, is_called, last_command, own, past_of, reply_taken, since, stage, stage_after, store_after, takings, value_of}
+use Rattle.model.specs.declared.marks.Mark.TheVariants as mark
+use Rattle.model.proofs.Width.{IsGood, is_good}
 use Rattle.laws.specs.{Doing, Rests, Lies, call, doing}
 use Rattle.laws.proofs.Frame.{Does, Happens, a_call, a_withdrawal, a_failure, a_restart, a_step, a_closing}
 use Rattle.laws.proofs.FrameEvents.{accepted, does_all}
@@ -78,7 +78,7 @@ own_called s past e command quiet is h = subst (λ (ms : List Mark). Stands s e.
 
 own_restarted : (s : Setup) (past : Past) (e : Entry) → is_quiet (stage e.process past) ≡ true → e.marks ≡ mark.Restarted ∷ [] → Stands s e.process (known s past e.process) → Stands s e.process (known_then s past e)
 own_restarted s past e quiet is h = subst (λ (ms : List Mark). Stands s e.process (known_then s past (record e { marks = ms }))) (sym is)
-    (subst (λ (taken : List (ℕ × Reply)). Stands s e.process (record k { stage = Rattle.record.specs.declared.stages.Stage.TheVariants.Idle; taken = taken })) (sym (append-nil k.taken))
+    (subst (λ (taken : List (ℕ × Reply)). Stands s e.process (record k { stage = Rattle.model.specs.declared.stages.Stage.TheVariants.Idle; taken = taken })) (sym (append-nil k.taken))
     (standing_on s e.process k.stage _ k.number k.command k.taken k.list k.calls.done k.calls.now (λ _. quiet) h))
   where
     k : Known

@@ -1,7 +1,7 @@
 -- The changes alone make the same store as the history.
 use Rattle.std.proofs.Common.{◌≡◌, ℕ, zero, suc, Bool, true, false, cond, List, [], ◌∷◌, ◌++◌, take, fold, refl, sym, ap, ◌∙◌}
 use Rattle.plain_store.specs.{Contents, Setup, changes, opening_store}
-use Rattle.record.specs.{Past, Taken, count_changes, history, store_after}
+use Rattle.model.specs.{Past, Taken, count_changes, history, store_after}
 use Rattle.history_laws.proofs.CountedChanges.{then}
 use Rattle.history_laws.proofs.Sounding.{after_is_same}
 use Rattle.board.specs.{changes_of, changing, store_at}

@@ -8,16 +8,16 @@ use native.Mathlib.Decide.{ℕ_discrete}
 use lib.ListN.{get_elem?}
 use Rattle.atomic_table.proofs.Lists.{set_else}
 use Rattle.atomic_table.specs.Table.{State, Joins}
-use Rattle.record.specs.safe_bit.Cell.{Cell}
-use Rattle.record.specs.{Event, Field, Past, Stage, Taken, Version, bits_held, bytes_of_bits, cell_after, copy, history, image_bytes, image_field, inside, is_running, is_somebody_inside, is_version, newest_bytes, newest_process, own, past_of, processes, stage, stamp_field, store_after, version_held, version_of, versions_held, width}
-use Rattle.record.specs.declared.access.Field.TheVariants.{Commit}
-use Rattle.record.specs.safe_number.{number_of_bits}
-use Rattle.record.proofs.safe_number.Numbers.{range_same}
+use Rattle.model.specs.safe_bit.Cell.{Cell}
+use Rattle.model.specs.{Event, Field, Past, Stage, Taken, Version, bits_held, bytes_of_bits, cell_after, copy, history, image_bytes, image_field, inside, is_running, is_somebody_inside, is_version, newest_bytes, newest_process, own, past_of, processes, stage, stamp_field, store_after, version_held, version_of, versions_held, width}
+use Rattle.model.specs.declared.access.Field.TheVariants.{Commit}
+use Rattle.model.specs.safe_number.{number_of_bits}
+use Rattle.model.proofs.safe_number.Numbers.{range_same}
 use Rattle.plain_store.specs.declared.Command.TheVariants.{Ask}
 use Rattle.plain_store.specs.{Contents, Setup, callers_of, changes, opening_store}
 use Rattle.store_image.specs.{store_in}
-use Rattle.record.specs.declared.stages.Stage.TheVariants as stage
-use Rattle.record.proofs.Width.{IsGood, is_good}
+use Rattle.model.specs.declared.stages.Stage.TheVariants as stage
+use Rattle.model.proofs.Width.{IsGood, is_good}
 use Rattle.laws.specs.{Doing, IsThere, call, cell_held, doing, is_inside}
 use Rattle.laws.proofs.Frame.{Does, at_rest, lying, running, leaving, settling}
 use Rattle.laws.proofs.FrameEvents.{does_all}

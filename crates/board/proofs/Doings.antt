@@ -1,11 +1,11 @@
 -- The call or closing of a process has not come to its end, and the process has a next access if its stage allows a step.
 use Rattle.std.proofs.Common.{◌≡◌, ℕ, Bool, true, false, cond, List, ◌∷◌, [], ◌==◌, refl, sym, ◌∙◌, arith}
 use Rattle.std.specs.Prelude.{Option, None, Some}
-use Rattle.record.specs.{Access, Call, Entry, Event, Mark, Past, Stage, call_number, last_call, last_command, last_write, own, past_of, refused_at, settling_from, stage, start_in, unfinished}
+use Rattle.model.specs.{Access, Call, Entry, Event, Mark, Past, Stage, call_number, last_call, last_command, last_write, own, past_of, refused_at, settling_from, stage, start_in, unfinished}
 use Rattle.plain_store.specs.{Command, Setup}
-use Rattle.record.specs.declared.events.Event.TheVariants as event
-use Rattle.record.specs.declared.marks.Mark.TheVariants as mark
-use Rattle.record.proofs.Width.{IsGood}
+use Rattle.model.specs.declared.events.Event.TheVariants as event
+use Rattle.model.specs.declared.marks.Mark.TheVariants as mark
+use Rattle.model.proofs.Width.{IsGood}
 use Rattle.laws.proofs.Doings as laws
 use Rattle.laws.proofs.FrameInside.{stage-is}
 use Rattle.laws.specs.{Closes, Doing, does_after, does_then, doing, goes_on, next_of}

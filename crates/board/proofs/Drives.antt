@@ -1,9 +1,9 @@
 -- Driving a port: word steps, one after the other.
 use Rattle.std.proofs.Common.{◌≡◌, ℕ, suc, ◌<◌, Bool, true, ap, ◌∙◌, subst, arith}
 use Rattle.plain_store.specs.{Answer, Setup}
-use Rattle.process.specs.flicks.{FlickState, after_flick, flick_of}
-use Rattle.record.specs.{Stage}
-use Rattle.record.specs.declared.stages.Stage.TheVariants as stage
+use Rattle.process.specs.choices.{FlickState, after_flick, flick_of}
+use Rattle.model.specs.{Stage}
+use Rattle.model.specs.declared.stages.Stage.TheVariants as stage
 use Rattle.process.specs.{StepTold}
 use Rattle.process.specs.declared.told.StepTold.TheVariants as tells
 use Rattle.board.specs.declared.driving.Driven.TheVariants as driven

@@ -2,13 +2,13 @@
 use Rattle.std.proofs.Common.{◌≡◌, ℕ, ◌&&◌, ◌||◌, Bool, true, false, cond, not, List, [], ◌∷◌, ◌++◌, Option, Some, None, map, refl, ap, subst, ◌∙◌, arith}
 use Rattle.std.specs.Prelude.{fold, if◌then◌else◌}
 use Rattle.std.specs.List.{list_any}
-use Rattle.record.specs.reader_copies.Runs as copies
+use Rattle.model.specs.reader_copies.Runs as copies
 use Rattle.plain_store.specs.{Answer, Reply, changes}
 use Rattle.plain_store.specs.declared.Answer.TheVariants as answer
-use Rattle.record.specs.{Call, Mark, Next, Part, Place, Stage, Wait, bits_with, entered_if_none, first_marks, is_called, is_fresh, is_last, last_marks, lets_by, marks_of, placed, reply, reply_taken, stage_after, store_read, takings, waits_of}
-use Rattle.record.specs.declared.marks.Mark.TheVariants.{Called, Taken, Left, Answered, Settled, Down, Restarted}
-use Rattle.record.specs.Closings.{Closing, Withdraws, Settles, Frees, Lowers, Quit, Ended, closing_next, is_last_settled, is_last_written, is_unwritten, no_ticket, settled_marks}
-use Rattle.record.specs.Parts as part
+use Rattle.model.specs.{Call, Mark, Next, Part, Place, Stage, Wait, bits_with, entered_if_none, first_marks, is_called, is_fresh, is_last, last_marks, lets_by, marks_of, placed, reply, reply_taken, stage_after, store_read, takings, waits_of}
+use Rattle.model.specs.declared.marks.Mark.TheVariants.{Called, Taken, Left, Answered, Settled, Down, Restarted}
+use Rattle.model.specs.Closings.{Closing, Withdraws, Settles, Frees, Lowers, Quit, Ended, closing_next, is_last_settled, is_last_written, is_unwritten, no_ticket, settled_marks}
+use Rattle.model.specs.Parts as part
 use Rattle.board.specs.Calls.{Calls, calls_after}
 use Rattle.board.proofs.Standing.{is_quiet}
 

@@ -5,15 +5,15 @@ use Rattle.std.specs.Prelude.{fold, nat_le}
 use mathlib.Core.Option.{some}
 use lib.ListN.{get_elem?}
 use Rattle.atomic_table.proofs.Lists.{set_again}
-use Rattle.record.specs.safe_bit.Cell.{Cell, without_read}
+use Rattle.model.specs.safe_bit.Cell.{Cell, without_read}
 use Rattle.plain_store.specs.{Command, Setup}
-use Rattle.record.specs.{AreGiven, Entry, Event, Mark, Past, Raises, Refusal, call_number, calls_full, calls_in, enter, entry_of, has, inside, inside_after, is_call, is_called, is_event, last_command, own, past_of, placed, process_of, refused, refused_at, reply_taken, stage, withdrawing}
-use Rattle.record.specs.declared.events.Event.TheVariants as event
-use Rattle.record.specs.declared.marks.Mark.TheVariants as mark
-use Rattle.record.specs.declared.refusals.Refusal.TheVariants.{NoProcess, CallsFull}
-use Rattle.record.proofs.Accepted.{accepted_adds}
-use Rattle.record.proofs.Width.{IsGood, is_good}
-use Rattle.record.proofs.World.{entry-accepted}
+use Rattle.model.specs.{AreGiven, Entry, Event, Mark, Past, Raises, Refusal, call_number, calls_full, calls_in, enter, entry_of, has, inside, inside_after, is_call, is_called, is_event, last_command, own, past_of, placed, process_of, refused, refused_at, reply_taken, stage, withdrawing}
+use Rattle.model.specs.declared.events.Event.TheVariants as event
+use Rattle.model.specs.declared.marks.Mark.TheVariants as mark
+use Rattle.model.specs.declared.refusals.Refusal.TheVariants.{NoProcess, CallsFull}
+use Rattle.model.proofs.Accepted.{accepted_adds}
+use Rattle.model.proofs.Width.{IsGood, is_good}
+use Rattle.model.proofs.World.{entry-accepted}
 use Rattle.laws.specs.{Closes, Doing, Rests, Runs, call, cell_held, cut_of, doing, drops, is_inside}
 use Rattle.laws.proofs.Cuts.{cut_is}
 use Rattle.laws.proofs.Frame.{doing-goes, own-own}

@@ -3,8 +3,8 @@ use Rattle.std.proofs.Common.{◌≡◌, ◌≢◌, ℕ, ◌==◌, true, false, 
 use Rattle.std.specs.Prelude.{fold}
 use Rattle.std.specs.List.{list_any}
 use Rattle.plain_store.specs.{Command, Reply, Setup}
-use Rattle.record.specs.{Entry, Mark, Past, Stage, Taken, all_takings, called_in, calls_in, has, is_called, last_command, own, since, stage, stage_after, takings}
-use Rattle.record.specs.declared.marks.Mark.TheVariants as mark
+use Rattle.model.specs.{Entry, Mark, Past, Stage, Taken, all_takings, called_in, calls_in, has, is_called, last_command, own, since, stage, stage_after, takings}
+use Rattle.model.specs.declared.marks.Mark.TheVariants as mark
 use Rattle.laws.proofs.Frame.{own-other, own-own}
 use Rattle.history_laws.specs.{changes_taken}
 use Rattle.history_laws.proofs.HistoryItems.{calls-uncalled}

@@ -1,8 +1,8 @@
 -- The outcome of a word step, by the stage and by the calls.
 use Rattle.std.proofs.Common.{◌≡◌, ℕ, Bool, true, Some, arith}
 use Rattle.std.specs.Prelude.{fold}
-use Rattle.record.specs.safe_bit.declared.Move.TheVariants.{BeginRead}
-use Rattle.record.specs.{Access, stage_after}
+use Rattle.model.specs.safe_bit.declared.Move.TheVariants.{BeginRead}
+use Rattle.model.specs.{Access, stage_after}
 use Rattle.plain_store.specs.{Setup}
 use Rattle.laws.specs.{Doing, marks_with, next_of}
 use Rattle.process.specs.{StepTold, marks_told}

@@ -1,10 +1,10 @@
 -- A port's list and the view of its seat, over a word step and over an event other than an access.
 use Rattle.std.proofs.Common.{◌≡◌, ℕ, Bool, true, false, List, [], ◌∷◌, length, sym, ap, subst, ◌∙◌, Option, Some}
 use Rattle.std.specs.Prelude.{IfSome, fold}
-use Rattle.record.specs.safe_bit.declared.Move.TheVariants.{BeginRead}
-use Rattle.record.specs.{Access, Taken}
+use Rattle.model.specs.safe_bit.declared.Move.TheVariants.{BeginRead}
+use Rattle.model.specs.{Access, Taken}
 use Rattle.plain_store.specs.{Command, Setup}
-use Rattle.record.specs.declared.events.Event.TheVariants as event
+use Rattle.model.specs.declared.events.Event.TheVariants as event
 use Rattle.laws.specs.{does_then, is_inside}
 use Rattle.process.specs.{ProcessState, StepTold, changes_pending, changes_read, changes_told, marks_on, marks_told, stepped}
 use Rattle.board.specs.declared.pending.Pending.{Pending}

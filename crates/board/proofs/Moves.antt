@@ -5,15 +5,15 @@ use Rattle.std.specs.Prelude.{Ok, fold, slice_index}
 use mathlib.Core.Option.{some}
 use lib.ListN.{get_elem?}
 use Rattle.atomic_table.specs.Table.{State, keeps, Allows}
-use Rattle.record.specs.safe_bit.Cell.{Cell, cell_after, read_answer}
-use Rattle.record.specs.safe_bit.{Move, read_value}
-use Rattle.record.specs.safe_bit.declared.Move.TheVariants.{EndWrite, BeginRead, EndRead}
-use Rattle.record.specs.reader_copies.{IsWrite}
-use Rattle.record.specs.{Access, AreGiven, Event, Past, Taken, ended, history, moves_of, opening_bit, past_of, placed, reply_taken, stage, stage_after, value_of, valued}
+use Rattle.model.specs.safe_bit.Cell.{Cell, cell_after, read_answer}
+use Rattle.model.specs.safe_bit.{Move, read_value}
+use Rattle.model.specs.safe_bit.declared.Move.TheVariants.{EndWrite, BeginRead, EndRead}
+use Rattle.model.specs.reader_copies.{IsWrite}
+use Rattle.model.specs.{Access, AreGiven, Event, Past, Taken, ended, history, moves_of, opening_bit, past_of, placed, reply_taken, stage, stage_after, value_of, valued}
 use Rattle.plain_store.specs.{Setup, checked}
-use Rattle.record.specs.declared.events.Event.TheVariants as event
-use Rattle.record.proofs.Singles.{is_write, is_write-true}
-use Rattle.record.proofs.Width.{IsGood, is_good}
+use Rattle.model.specs.declared.events.Event.TheVariants as event
+use Rattle.model.proofs.Singles.{is_write, is_write-true}
+use Rattle.model.proofs.Width.{IsGood, is_good}
 use Rattle.laws.specs.{being_written, cell_held, doing, is_inside, marks_with, next_of}
 use Rattle.laws.proofs.Ends.{ends_what_began}
 use Rattle.laws.proofs.FrameCells.{itself}

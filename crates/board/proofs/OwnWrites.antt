@@ -7,7 +7,7 @@ use Rattle.plain_store.specs.declared.Answer.TheVariants as answer
 use Rattle.plain_store.specs.declared.Command.TheVariants.{Read, Write}
 use Rattle.plain_store.specs.declared.Reply.TheVariants as reply
 use Rattle.plain_store.proofs.Changes.{value_at-put}
-use Rattle.record.specs.{Placed, Taken, store_after}
+use Rattle.model.specs.{Placed, Taken, store_after}
 use Rattle.history_laws.proofs.CountedChanges.{then}
 use Rattle.board.specs.{PlacedAsAnswered, StandsIn, caller_of, change_at, store_at}
 

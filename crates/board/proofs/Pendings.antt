@@ -2,10 +2,10 @@
 use Rattle.std.proofs.Common.{◌≡◌, ℕ, ◌==◌, arith, Bool, true, false, cond, [], ◌∷◌, refl, sym, ap, ◌∙◌, subst, Option, Some, None}
 use Rattle.std.specs.Prelude.{Ok, Err, Result}
 use Rattle.plain_store.specs.{Command, Setup, is_command}
-use Rattle.record.specs.{Event, Refusal, Stage, refused_at}
-use Rattle.record.specs.declared.events.Event.TheVariants as event
-use Rattle.record.specs.declared.stages.Stage.TheVariants as stage
-use Rattle.record.specs.declared.refusals.Refusal.TheVariants.{AlreadyFailed}
+use Rattle.model.specs.{Event, Refusal, Stage, refused_at}
+use Rattle.model.specs.declared.events.Event.TheVariants as event
+use Rattle.model.specs.declared.stages.Stage.TheVariants as stage
+use Rattle.model.specs.declared.refusals.Refusal.TheVariants.{AlreadyFailed}
 use Rattle.laws.specs.{next_of}
 use Rattle.process.specs.{ProcessState, next_number, process_after}
 use Rattle.process.specs.Places as places

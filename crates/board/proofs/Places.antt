@@ -1,13 +1,13 @@
 -- The effect of a word step on the list of a port: the position of the taken command.
 use Rattle.std.proofs.Common.{◌≡◌, ℕ, Bool, true, false, cond, List, [], ◌∷◌, ◌++◌, ◌&&◌, length, refl, sym, ap, ◌∙◌, Option, Some, None, arith}
 use Rattle.std.specs.Prelude.{IfSome, option_map}
-use Rattle.record.specs.safe_bit.declared.Move.TheVariants.{BeginRead}
-use Rattle.record.specs.{Access, Call, Change, Field, Mark, Part, Taken, TornBit, begun_at, begun_closing, bits_with, cut, first_marks, is_commit, is_fresh, is_last, last_marks, newest_stamp, pending_at, reply_taken, torn_at, torn_closing}
+use Rattle.model.specs.safe_bit.declared.Move.TheVariants.{BeginRead}
+use Rattle.model.specs.{Access, Call, Change, Field, Mark, Part, Taken, TornBit, begun_at, begun_closing, bits_with, cut, first_marks, is_commit, is_fresh, is_last, last_marks, newest_stamp, pending_at, reply_taken, torn_at, torn_closing}
 use Rattle.plain_store.specs.{Command, Reply, Setup}
-use Rattle.record.specs.reader_copies.Runs as copies
-use Rattle.record.specs.declared.marks.Mark.TheVariants as mark
-use Rattle.record.specs.Closings.{Closing, Withdraws, Settles, Frees, Lowers, Quit, Ended, is_last_settled, is_last_written, is_unwritten, no_ticket, settled_marks}
-use Rattle.record.specs.Parts as part
+use Rattle.model.specs.reader_copies.Runs as copies
+use Rattle.model.specs.declared.marks.Mark.TheVariants as mark
+use Rattle.model.specs.Closings.{Closing, Withdraws, Settles, Frees, Lowers, Quit, Ended, is_last_settled, is_last_written, is_unwritten, no_ticket, settled_marks}
+use Rattle.model.specs.Parts as part
 use Rattle.laws.specs.{Closes, Doing, Lies, Rests, Runs, call, cut_of, does_then, is_inside, is_inside_at, is_inside_closing, marks_with, next_of}
 use Rattle.history_laws.specs.{stamp_at, stamp_read}
 use Rattle.process.specs.{StepTold, changes_pending, changes_read, changes_told, marks_told}

@@ -1,7 +1,7 @@
 -- The begin of a read: the access after it, and the state that it leaves.
 use Rattle.std.proofs.Common.{◌≡◌, ℕ, Bool, true, false, map, Some, None, arith}
-use Rattle.record.specs.safe_bit.declared.Move.TheVariants.{BeginRead, EndRead}
-use Rattle.record.specs.{Access, placed, reply_taken}
+use Rattle.model.specs.safe_bit.declared.Move.TheVariants.{BeginRead, EndRead}
+use Rattle.model.specs.{Access, placed, reply_taken}
 use Rattle.plain_store.specs.{Setup}
 use Rattle.laws.specs.{Doing, does_then, is_inside, marks_with, next_of}
 use Rattle.board.specs.{IsUnended}

@@ -5,11 +5,11 @@ use mathlib.Core.Option.{some, some-injective, some-ne-none}
 use lib.ListN.{get_elem?}
 use Rattle.atomic_table.proofs.Lists.{at_set, at_snoc, set_else, at_longer}
 use Rattle.atomic_table.specs.Table.{State, Splits, Joins}
-use Rattle.record.specs.safe_bit.declared.Move.TheVariants.{BeginRead}
-use Rattle.record.specs.{Access, Entry, Event, Past, call_number, last_command, opening_bit, own, past_of}
-use Rattle.record.specs.declared.access.Field.TheVariants.{Choosing}
+use Rattle.model.specs.safe_bit.declared.Move.TheVariants.{BeginRead}
+use Rattle.model.specs.{Access, Entry, Event, Past, call_number, last_command, opening_bit, own, past_of}
+use Rattle.model.specs.declared.access.Field.TheVariants.{Choosing}
 use Rattle.plain_store.specs.{Setup, are_pairs, checked}
-use Rattle.record.proofs.Width.{is_good}
+use Rattle.model.proofs.Width.{is_good}
 use Rattle.laws.specs.{IsThere, Rests, doing}
 use Rattle.process.specs.registers.{BitCopy}
 use Rattle.board.specs.{Agree, IsIn, IsQuiet, Knows, KnowsSeats, OwnView, Shows, ViewState, access_to, calls_of, changes_of, closed_word, entries_of, first_view, new_own, new_view, no_calls, opening_word, own_view, spent_view, with_joined, with_made, word_of, words_in}

@@ -1,10 +1,10 @@
 -- The calls of a view are consistent with the changes that it has seen, after a word step and after an event other than an access; no change seen is forgotten.
 use Rattle.std.proofs.Common.{◌≡◌, ℕ, zero, suc, Bool, true, [], ◌∷◌, inl, inr, refl, sym, ap, ◌∙◌}
 use Rattle.std.proofs.lemmas.List.{append-nil}
-use Rattle.process.specs.flicks.{FlickState, flick_of}
+use Rattle.process.specs.choices.{FlickState, flick_of}
 use Rattle.plain_store.specs.{Answer, Command, Setup, are_pairs}
-use Rattle.record.specs.declared.events.Event.TheVariants as event
-use Rattle.record.specs.{past_of}
+use Rattle.model.specs.declared.events.Event.TheVariants as event
+use Rattle.model.specs.{past_of}
 use Rattle.board.specs.{Driven, Drives, EndsWith, IsPrefix, StandsInRecord, StandsInSeen, ViewState, Walks, WalksTo, WordStep, at_events, called, changes_of, flicks_after, new_view}
 use Rattle.board.specs.declared.driving.Driven.TheVariants as driven
 use Rattle.board.proofs.Along.{prefix-trans}

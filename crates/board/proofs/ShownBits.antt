@@ -7,11 +7,11 @@ use Rattle.std.proofs.lemmas.List.FromFn.{get_or-map-range_with_len, length-map-
 use mir.Val.{bool_byte}
 use mathlib.Core.Option.{some, some-injective, some-ne-none}
 use lib.ListN.{get_elem?}
-use Rattle.record.specs.{Field, Version, bytes_of_bits, copy, stamp_field, width}
-use Rattle.record.specs.declared.access.Field.TheVariants.{Commit}
-use Rattle.record.specs.safe_number.{number_of_bits}
+use Rattle.model.specs.{Field, Version, bytes_of_bits, copy, stamp_field, width}
+use Rattle.model.specs.declared.access.Field.TheVariants.{Commit}
+use Rattle.model.specs.safe_number.{number_of_bits}
 use Rattle.plain_store.specs.{Setup}
-use Rattle.record.proofs.safe_number.Bits.{number-fits}
+use Rattle.model.proofs.safe_number.Bits.{number-fits}
 use Rattle.board.specs.{bits_shown, version_shown, word_of}
 
 -- the word that is found at an index

@@ -4,8 +4,8 @@ use Rattle.std.specs.Prelude.{IfSome, option_map}
 use Rattle.std.proofs.lemmas.List.{length-append}
 use Rattle.plain_store.specs.{Answer, Caller, Command, Contents, Reply, Setup, changes, reply_to}
 use Rattle.plain_store.specs.declared.Answer.TheVariants as answer
-use Rattle.record.specs.{IsAnswerTo, Placed, Stage, Taken, store_after}
-use Rattle.record.specs.declared.stages.Stage.TheVariants as stage
+use Rattle.model.specs.{IsAnswerTo, Placed, Stage, Taken, store_after}
+use Rattle.model.specs.declared.stages.Stage.TheVariants as stage
 use Rattle.board.specs.{PlacedAsAnswered, StandsAt, StandsIn, and_then, called, caller_of, change_at, place_after, store_at}
 use Rattle.board.proofs.Stands.{ComesLast, behind_all, comes_last, last_is, stands_front, stands_longer, stands_push, store-longer}
 

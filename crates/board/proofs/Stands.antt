@@ -3,8 +3,8 @@ use Rattle.std.proofs.Common.{◌≡◌, ◌⊎◌, ℕ, zero, suc, ◌+◌, ◌
 use Rattle.std.proofs.lemmas.List.{length-append, take-append-le}
 use Rattle.std.proofs.lemmas.Option.{slice_get_within}
 use Rattle.plain_store.specs.{Caller, Contents, Setup, changes, reply_to}
-use Rattle.record.specs.{Placed, Taken, store_after}
-use Rattle.record.proofs.Singles.{get-left}
+use Rattle.model.specs.{Placed, Taken, store_after}
+use Rattle.model.proofs.Singles.{get-left}
 use Rattle.board.specs.{IsPrefix, PlacedAsAnswered, StandsAt, StandsIn, and_then, caller_of, place_after, store_at}
 
 -- In a longer list.

@@ -1,7 +1,7 @@
 -- The seat of a port whose process is idle or down.
 use Rattle.std.proofs.Common.{◌≡◌, Bool, true, false, refl, sym, ◌∙◌, inl, inr, Option, Some, None}
 use Rattle.plain_store.specs.{Command, Setup}
-use Rattle.record.specs.declared.stages.Stage.TheVariants as stage
+use Rattle.model.specs.declared.stages.Stage.TheVariants as stage
 use Rattle.process.specs.{ProcessState}
 use Rattle.board.specs.declared.pending.Pending.{Pending}
 use Rattle.board.specs.{IsStill, IsTied, ViewState, with_pending}

@@ -2,10 +2,10 @@
 use Rattle.std.proofs.Common.{◌≡◌, ℕ, Bool, true, false, refl, sym, ap, ◌∙◌, subst, Some, arith}
 use Rattle.std.specs.Prelude.{fold}
 use Rattle.atomic_table.specs.Table.{State, Me, Allows}
-use Rattle.record.specs.safe_bit.{Move}
-use Rattle.record.specs.safe_bit.declared.Move.TheVariants.{BeginWrite, EndWrite, BeginRead, EndRead, Settle}
-use Rattle.record.specs.reader_copies.{IsWrite}
-use Rattle.record.specs.{Access, stage_after}
+use Rattle.model.specs.safe_bit.{Move}
+use Rattle.model.specs.safe_bit.declared.Move.TheVariants.{BeginWrite, EndWrite, BeginRead, EndRead, Settle}
+use Rattle.model.specs.reader_copies.{IsWrite}
+use Rattle.model.specs.{Access, stage_after}
 use Rattle.plain_store.specs.{Setup}
 use Rattle.laws.specs.{IsThere, being_written, next_of}
 use Rattle.process.specs.{ProcessState, StepTold, marks_on, marks_told, may_step, next_at, stepped}

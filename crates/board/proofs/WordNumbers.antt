@@ -7,8 +7,8 @@ use Rattle.std.proofs.lemmas.Bool.{lt-ltb, le-ltb}
 use Rattle.std.proofs.lemmas.Bool.Decides.{nat_tests}
 use Rattle.std.proofs.lemmas.Nat.{div-mul-add}
 use Rattle.std.specs.Prelude.{nat_lt, slice_index, slice_index_or}
-use Rattle.record.specs.{Access, Field, field_number, fields, opening_bits, same_bit, width}
-use Rattle.record.specs.declared.access.Field.TheVariants.{Image0}
+use Rattle.model.specs.{Access, Field, field_number, fields, opening_bits, same_bit, width}
+use Rattle.model.specs.declared.access.Field.TheVariants.{Image0}
 use Rattle.plain_store.specs.{Setup}
 use Rattle.laws.specs.{IsThere}
 use Rattle.laws.proofs.FrameCells.{OnCopy, on-copy}

@@ -2,9 +2,9 @@
 use Rattle.std.specs.Prelude.{◌≡◌, ◌⊎◌, ℕ, ◌<◌, ◌≤◌, ◌==◌, ◌&&◌, not, Bool, true, false, List, [], ◌∷◌, length, slice_index, None, Some, Ok}
 use mathlib.Core.Option.{some}
 use lib.ListN.{get_elem?}
-use Rattle.record.specs.safe_bit.{Move}
-use Rattle.record.specs.safe_bit.declared.Move.TheVariants.{BeginRead, EndRead}
-use Rattle.record.specs.{Access, AreGiven, Entry, Event, Past, own, past_of, same_bit}
+use Rattle.model.specs.safe_bit.{Move}
+use Rattle.model.specs.safe_bit.declared.Move.TheVariants.{BeginRead, EndRead}
+use Rattle.model.specs.{Access, AreGiven, Entry, Event, Past, own, past_of, same_bit}
 use Rattle.plain_store.specs.{Setup, checked}
 use Rattle.laws.specs.{Doing, IsThere, Lies, Rests, cell_held, doing, is_inside}
 use Rattle.board.specs.Calls.{IsPrefix, changes_of}

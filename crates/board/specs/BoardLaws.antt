@@ -2,14 +2,14 @@
 use Rattle.std.specs.Prelude.{◌≡◌, ℕ, ◌+◌, ◌<◌, false, true, List, ◌++◌, take, slice_get, Ok, Some}
 use mathlib.Core.Option.{some}
 use lib.ListN.{get_elem?}
-use Rattle.record.specs.{EachPastGiven, Event, KeepsHeadlineThroughout, Past, Placed, Taken, count_changes, history, past_of, process_of, refused, stage, store_after}
+use Rattle.model.specs.{EachPastGiven, Event, KeepsHeadlineThroughout, Past, Placed, Taken, count_changes, history, past_of, process_of, refused, stage, store_after}
 use Rattle.plain_store.specs.{Answer, Setup, Value, changes, checked, opening_store}
 use Rattle.plain_store.specs.declared.Answer.TheVariants as answer
 use Rattle.plain_store.specs.declared.Command.TheVariants.{Read, Write}
 use Rattle.plain_store.specs.declared.Reply.TheVariants as reply
 use Rattle.laws.specs.{IsThere}
 use Rattle.board.specs.Agreement.{Agree, Shows, are_neighbours}
-use Rattle.process.specs.flicks.{FlickState}
+use Rattle.process.specs.choices.{FlickState}
 use Rattle.process.specs.registers.{BitCopy}
 use Rattle.board.specs.Driving.{Drives}
 use Rattle.board.specs.declared.driving.Driven.{Driven}

@@ -7,7 +7,7 @@ use Rattle.board.specs.declared.layout.WordLayout.{WordLayout}
 use Rattle.board.specs.Ports.{PortState}
 use Rattle.board.specs.Views.{new_own}
 use Rattle.board.specs.Words.{layout_of, words_in}
-use Rattle.record.specs.{Placed}
+use Rattle.model.specs.{Placed}
 
 -- the table of its words, and its setup
 pub record BoardState : Type 0 where

@@ -1,9 +1,9 @@
 -- The calls of a process, as its port lists them, and the changes of the store.
 use Rattle.std.specs.Prelude.{◌≡◌, ℕ, ◌==◌, cond, List, [], ◌∷◌, ◌++◌, fold, Option, None, Some, option_map}
 use Rattle.plain_store.specs.{Answer, Command, Contents, Setup, after, changes, opening_store}
-use Rattle.record.specs.{Mark, Past, Placed, Taken, history}
-use Rattle.record.specs.declared.marks.Mark.TheVariants.{Called, Answered, Down}
-use Rattle.record.specs.declared.marks.Mark.TheVariants as mark
+use Rattle.model.specs.{Mark, Past, Placed, Taken, history}
+use Rattle.model.specs.declared.marks.Mark.TheVariants.{Called, Answered, Down}
+use Rattle.model.specs.declared.marks.Mark.TheVariants as mark
 use Rattle.history_laws.specs.{changes_taken}
 
 -- the commands that change the store, when all are taken in this order

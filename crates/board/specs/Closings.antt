@@ -6,12 +6,12 @@ use Rattle.std.specs.Slots.{slots_items}
 use Rattle.std.specs.declared.alloc.Global.{Global}
 use Rattle.atomic_table.specs.declared.Closed.{Closed}
 use Rattle.atomic_table.specs.Seated.{TableId}
-use Rattle.record.specs.{AreGiven, Event, Field, KeepsHeadlineThroughout, Placed, Taken, Version, bytes_of_bits, copy, image_bytes, image_field, lists_of, newest_process, past_of, processes, stamp_field, store_after, version_of, width}
-use Rattle.record.specs.declared.access.Field.TheVariants.{Commit}
-use Rattle.record.specs.safe_number.{number_of_bits}
+use Rattle.model.specs.{AreGiven, Event, Field, KeepsHeadlineThroughout, Placed, Taken, Version, bytes_of_bits, copy, image_bytes, image_field, lists_of, newest_process, past_of, processes, stamp_field, store_after, version_of, width}
+use Rattle.model.specs.declared.access.Field.TheVariants.{Commit}
+use Rattle.model.specs.safe_number.{number_of_bits}
 use Rattle.plain_store.specs.{Contents, Setup, callers_of}
 use Rattle.store_image.specs.{store_in}
-use Rattle.record.specs.declared.stages.Stage.TheVariants.{Down, Idle}
+use Rattle.model.specs.declared.stages.Stage.TheVariants.{Down, Idle}
 use Rattle.laws.specs.{doing}
 use Rattle.board.specs.Agreement.{IsIn, IsQuiet}
 use Rattle.board.specs.Boards.{BoardState, IsOf}

@@ -1,8 +1,8 @@
 -- Driving a port: word steps, one after the other.
 use Rattle.std.specs.Prelude.{◌≡◌, ℕ, zero, suc, ◌≤◌, true}
 use Rattle.plain_store.specs.{Answer, Setup}
-use Rattle.process.specs.flicks.{FlickState, after_flick, flick_of}
-use Rattle.record.specs.declared.stages.Stage.TheVariants.{Down, Idle}
+use Rattle.process.specs.choices.{FlickState, after_flick, flick_of}
+use Rattle.model.specs.declared.stages.Stage.TheVariants.{Down, Idle}
 use Rattle.process.specs.declared.told.StepTold.TheVariants as told
 use Rattle.board.specs.declared.driving.Driven.{Driven}
 use Rattle.board.specs.declared.driving.Driven.TheVariants as driven

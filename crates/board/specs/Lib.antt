@@ -1,4 +1,4 @@
-pub use Rattle.process.specs.flicks as flicks
+pub use Rattle.process.specs.choices as choices
 pub use Rattle.laws.specs as laws
 pub use Rattle.process.specs as process
 pub mod Agreement

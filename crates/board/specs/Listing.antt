@@ -1,6 +1,6 @@
 -- The position of a call, as its port knows it, and the effect of a word step on the list of calls.
 use Rattle.std.specs.Prelude.{◌≡◌, ℕ, Bool, true, false, length, fold, Option, Some}
-use Rattle.record.specs.{Settles}
+use Rattle.model.specs.{Settles}
 use Rattle.laws.specs.{Doing, Closes, is_inside}
 use Rattle.history_laws.specs.{stamp_read}
 use Rattle.process.specs.{StepTold, marks_told}

@@ -2,7 +2,7 @@
 use Rattle.std.specs.Prelude.{◌≡◌, ℕ, ◌+◌, ◌<◌, ◌≤◌, ◌==◌, true, cond, List, length, take, slice_get, Option, None, Some}
 use Rattle.plain_store.specs.{Answer, Caller, Command, Contents, Reply, Setup, changes, reply_to}
 use Rattle.plain_store.specs.declared.Answer.TheVariants as answer
-use Rattle.record.specs.{AreGiven, Event, Placed, Taken, past_of, store_after}
+use Rattle.model.specs.{AreGiven, Event, Placed, Taken, past_of, store_after}
 use Rattle.board.specs.Calls.{IsPrefix, and_then, changes_of}
 use Rattle.board.specs.Views.{ViewState}
 

@@ -1,8 +1,8 @@
 -- The events of a process since the last word step of its port.
 use Rattle.std.specs.Prelude.{ℕ, Bool, true, false, List, [], ◌∷◌, ◌++◌, Option, None, Some}
 use Rattle.plain_store.specs.{Command}
-use Rattle.record.specs.{Event}
-use Rattle.record.specs.declared.events.Event.TheVariants as event
+use Rattle.model.specs.{Event}
+use Rattle.model.specs.declared.events.Event.TheVariants as event
 use Rattle.board.specs.declared.pending.Pending.{Pending}
 
 -- the event, if it has happened

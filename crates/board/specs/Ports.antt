@@ -1,10 +1,10 @@
 -- The model of a port, as its callers see it, and the invariant of its fields.
 use Rattle.std.specs.Prelude.{◌≡◌, ◌⊎◌, ℕ, Bool, false, List, [], ◌∷◌, Option, Result, Ok, Err, None, Some}
 use Rattle.atomic_table.specs.Seated.{TableId}
-use Rattle.record.specs.{Access, Ended, Event, Placed, Quit, Refusal, is_over}
+use Rattle.model.specs.{Access, Ended, Event, Placed, Quit, Refusal, is_over}
 use Rattle.plain_store.specs.{Command, Setup}
-use Rattle.record.specs.declared.events.Event.TheVariants.{Call}
-use Rattle.record.specs.declared.refusals.Refusal.TheVariants.{Memory}
+use Rattle.model.specs.declared.events.Event.TheVariants.{Call}
+use Rattle.model.specs.declared.refusals.Refusal.TheVariants.{Memory}
 use Rattle.laws.specs.{Closes, Doing, Runs, next_of}
 use Rattle.process.specs.{ProcessState}
 use Rattle.board.specs.declared.pending.Pending.{Pending}

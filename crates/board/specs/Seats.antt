@@ -3,9 +3,9 @@ use Rattle.std.specs.Prelude.{◌≡◌, ℕ, Bool, [], Option}
 use Rattle.atomic_table.specs.declared.Seat.{Seat}
 use Rattle.atomic_table.specs.Seated.{TableId}
 use Rattle.atomic_table.specs.Table.{Allows, State}
-use Rattle.record.specs.safe_bit.declared.Move.TheVariants.{BeginRead}
-use Rattle.record.specs.{Access}
-use Rattle.record.specs.reader_copies.{IsWrite}
+use Rattle.model.specs.safe_bit.declared.Move.TheVariants.{BeginRead}
+use Rattle.model.specs.{Access}
+use Rattle.model.specs.reader_copies.{IsWrite}
 use Rattle.plain_store.specs.{Setup}
 use Rattle.process.specs.{ProcessState, StepTold}
 use Rattle.board.specs.Agreement.{Agree}

@@ -2,9 +2,9 @@
 use Rattle.std.specs.Prelude.{◌≡◌, ℕ, ◌+◌, ◌==◌, Bool, true, false, cond, List, [], ◌∷◌, fold, map, Option, None, option_map}
 use Rattle.plain_store.specs.{Command, Setup}
 use Rattle.plain_store.specs.declared.Command.TheVariants.{Ask}
-use Rattle.record.specs.{Entry, Event, Mark, Past, Raises, Refusal, Stage, Taken, call_number, ended_with, enter, has, is_called, is_event, last_command, own, placed, process_of, withdrawing}
-use Rattle.record.specs.declared.events.Event.TheVariants as event
-use Rattle.record.specs.declared.marks.Mark.TheVariants.{Called, Failed, Withdrew, Restarted}
+use Rattle.model.specs.{Entry, Event, Mark, Past, Raises, Refusal, Stage, Taken, call_number, ended_with, enter, has, is_called, is_event, last_command, own, placed, process_of, withdrawing}
+use Rattle.model.specs.declared.events.Event.TheVariants as event
+use Rattle.model.specs.declared.marks.Mark.TheVariants.{Called, Failed, Withdrew, Restarted}
 use Rattle.laws.specs.{Closes, Doing, Rests, Runs, call, cut_of, does_then, doing, marks_with, next_of}
 use Rattle.process.specs.{ProcessState, next_number, refusal_of, stage_doing}
 use Rattle.history_laws.specs.{changes_taken}

@@ -1,12 +1,12 @@
 -- A word step of a port: the next access of its process, or of that process's memory unit; a read is begun and ended in one step.
 use Rattle.std.specs.Prelude.{◌≡◌, ◌⊎◌, ℕ, Bool, true, false, List, [], length, None, Some, fold}
-use Rattle.record.specs.safe_bit.declared.Move.TheVariants.{BeginRead, BeginWrite, EndRead, EndWrite}
-use Rattle.record.specs.safe_bit.{Move}
-use Rattle.record.specs.{Access, Stage, Taken, reply_taken, stage_after}
-use Rattle.record.specs.reader_copies.{IsWrite}
+use Rattle.model.specs.safe_bit.declared.Move.TheVariants.{BeginRead, BeginWrite, EndRead, EndWrite}
+use Rattle.model.specs.safe_bit.{Move}
+use Rattle.model.specs.{Access, Stage, Taken, reply_taken, stage_after}
+use Rattle.model.specs.reader_copies.{IsWrite}
 use Rattle.plain_store.specs.{Setup}
-use Rattle.record.specs.declared.marks.Mark.TheVariants.{Answered, Down}
-use Rattle.record.specs.declared.stages.Stage.TheVariants as stage
+use Rattle.model.specs.declared.marks.Mark.TheVariants.{Answered, Down}
+use Rattle.model.specs.declared.stages.Stage.TheVariants as stage
 use Rattle.laws.specs.{IsCallOf, IsLive, IsReached, being_written, is_inside, marks_with, next_of}
 use Rattle.history_laws.specs.{stamp_read}
 use Rattle.process.specs.{StepTold}

@@ -1,10 +1,10 @@
 -- The words of a board: one for each single-reader bit of each register, and the value that shows the bit.
 use Rattle.std.specs.Prelude.{◌≡◌, ◌<◌, slice_index, ℕ, ◌+◌, ◌-◌, ◌*◌, ◌/◌, ◌%◌, ◌==◌, nat_lt, Bool, true, false, cond, List, [], ◌∷◌, map, take}
-use Rattle.record.specs.safe_bit.Cell.{Cell}
-use Rattle.record.specs.safe_bit.{Move}
-use Rattle.record.specs.safe_bit.declared.Move.TheVariants.{BeginWrite, EndWrite, BeginRead, EndRead, Settle}
-use Rattle.record.specs.{Access, Field, copy, field_number, fields, opening_bit, width}
-use Rattle.record.specs.declared.access.Field.TheVariants.{Image1}
+use Rattle.model.specs.safe_bit.Cell.{Cell}
+use Rattle.model.specs.safe_bit.{Move}
+use Rattle.model.specs.safe_bit.declared.Move.TheVariants.{BeginWrite, EndWrite, BeginRead, EndRead, Settle}
+use Rattle.model.specs.{Access, Field, copy, field_number, fields, opening_bit, width}
+use Rattle.model.specs.declared.access.Field.TheVariants.{Image1}
 use Rattle.plain_store.specs.{Setup}
 use Rattle.process.specs.registers.{BitCopy, copy_named}
 use Rattle.board.specs.declared.layout.WordLayout.{WordLayout}

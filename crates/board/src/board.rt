@@ -12,7 +12,7 @@ use crate::steps::WordSeat;
 use atomic_table::Table;
 use plain_store::Setup;
 use process::Process;
-use record::Placed;
+use model::Placed;
 use std::alloc::{AllocError, Global};
 use std::marker::Model;
 

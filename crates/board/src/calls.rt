@@ -1,12 +1,12 @@
 //! The calls of a port: the finished ones, and the unfinished one.
 ghost use Rattle.std.specs.Prelude.{◌≡◌, OnErr, OnOk};
-ghost use Rattle.record.specs.declared.Mark.TheVariants.{Called};
+ghost use Rattle.model.specs.declared.Mark.TheVariants.{Called};
 ghost use Rattle.board.specs.Calls.{calls_after, finished, no_calls, with_answer, with_place};
 ghost use Rattle.board.specs.Listing.{GoOnBy};
 
 use plain_store::{Answer, Command, NestedTypes};
 use process::StepTold;
-use record::Placed;
+use model::Placed;
 use std::alloc::{AllocError, Global};
 use std::marker::Model;
 

@@ -1,7 +1,7 @@
 //! Closing a board.
 ghost use Rattle.std.specs.Prelude.{◌≡◌, ◌≤◌, ◌+◌, ◌<◌, ◌↔◌, ◌∷◌, IsOk, IfOk, IfErr, IsTrue, false, length, vec_capacity, vec_len};
 ghost use Rattle.board.specs.Closings.{AddsCallsOf, AreFirstPortsOf, AreListsOf, AreMadeWith, AreOthers, AreQuiet, CanClose, EachStandsInRecord, FirstLeaves, HasJoined, HeadLeaves, IsStill, Leaves, StandsInRecord, done_calls, lists_in};
-ghost use Rattle.record.specs.{lists_of};
+ghost use Rattle.model.specs.{lists_of};
 
 use crate::board::Board;
 use crate::order::{are_of_all, put_in_order};
@@ -9,7 +9,7 @@ use crate::port::Port;
 use crate::rule::Return;
 use crate::shown_image::image_shown;
 use crate::steps::{SharedWords, WordSeat};
-use record::Placed;
+use model::Placed;
 use store_image::Image;
 
 /// The result of closing a board: the image of its store, and the finished calls of each port, by process number.

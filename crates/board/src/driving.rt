@@ -6,7 +6,7 @@ use crate::board::Board;
 use crate::port::Port;
 use plain_store::Answer;
 use process::{Flicks, StepTold};
-use record::Stage;
+use model::Stage;
 
 /// The result of driving a port.
 #[derive(Clone, Copy)]

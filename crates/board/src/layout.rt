@@ -6,7 +6,7 @@ ghost use Rattle.board.specs.Words.{first_bit, layout_of, word_of_copy};
 use crate::words::{first_bit, row_bits};
 use plain_store::Setup;
 use process::BitCopy;
-use record::{Field, number_of_field};
+use model::{Field, number_of_field};
 
 /// The numbers from which the word of a bit is computed.
 #[derive(Clone, Copy)]

@@ -34,5 +34,5 @@ pub use laws_of_boards::{
 };
 pub use port::Port;
 pub use process::Flicks;
-pub use record::Placed;
+pub use model::Placed;
 pub use store_image::Image;

@@ -6,7 +6,7 @@ ghost use Rattle.board.specs.Words.{AreOpening, opening_word, row_bits, words_in
 
 use crate::words::{copy_of, row_bits, words_in};
 use plain_store::{Setup, opened};
-use record::{Field, bit_of};
+use model::{Field, bit_of};
 use std::alloc::{AllocError, Global};
 use store_image::Image;
 

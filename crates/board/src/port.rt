@@ -2,7 +2,7 @@
 ghost use Rattle.std.specs.Prelude.{◌≡◌, ◌↔◌, IsTrue, ℕ, OnErr, OnOk, true, []};
 ghost use Rattle.plain_store.specs.{are_pairs};
 ghost use Rattle.process.specs.{process_after};
-ghost use Rattle.record.specs.declared.Event.TheVariants.{Fail, Restart, Withdraw};
+ghost use Rattle.model.specs.declared.Event.TheVariants.{Fail, Restart, Withdraw};
 ghost use Rattle.board.specs.Boards.{IsOf};
 ghost use Rattle.board.specs.Closings.{IsSeatOf, IsStill, StandsInRecord};
 ghost use Rattle.board.specs.Lists.{AreFirstChanges};
@@ -17,7 +17,7 @@ use crate::pending::Pending;
 use crate::steps::{WordSeat, word_step};
 use plain_store::Command;
 use process::{Process, StepTold};
-use record::{Event, Placed, Refusal, Stage};
+use model::{Event, Placed, Refusal, Stage};
 use std::alloc::Global;
 use std::marker::Model;
 

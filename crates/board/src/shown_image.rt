@@ -3,7 +3,7 @@ ghost use Rattle.std.specs.Prelude.{◌≡◌, ◌+◌, ◌*◌, ◌<◌, ◌≤
 ghost use Rattle.std.specs.Slots.{slots_len, IsFull};
 ghost use Rattle.store_image.specs.{store_in};
 ghost use Rattle.plain_store.specs.{callers_of, checked};
-ghost use Rattle.record.specs.{width};
+ghost use Rattle.model.specs.{width};
 ghost use Rattle.board.specs.Closings.{bit_shown, bytes_of, number_shown, store_shown, version_shown, words_of};
 ghost use Rattle.board.specs.Words.{layout_of, words_in};
 
@@ -11,7 +11,7 @@ use crate::layout::WordLayout;
 use atomic_table::Closed;
 use plain_store::Setup;
 use process::{BitCopy, NewestVersion, RegisterName};
-use record::{Field, image_bytes};
+use model::{Field, image_bytes};
 use std::alloc::Global;
 use store_image::{Image, MOST_IMAGE_BYTES};
 

@@ -1,6 +1,6 @@
 //! One word step of a port: a load or a store of one word.
 ghost use Rattle.std.specs.Prelude.{◌≡◌, ◌<◌, Bool, true};
-ghost use Rattle.record.specs.reader_copies.{IsWrite};
+ghost use Rattle.model.specs.reader_copies.{IsWrite};
 ghost use Rattle.process.specs.{may_step};
 ghost use Rattle.board.specs.Lists.{StandsInSeen};
 ghost use Rattle.board.specs.Pending.{nothing};
@@ -15,7 +15,7 @@ use crate::rule::{Agreement, Load, Turn, View, WordStore};
 use atomic_table::{Seat, Shared};
 use plain_store::Setup;
 use process::{BitCopy, Process, StepTold};
-use record::Move;
+use model::Move;
 use std::marker::Brand;
 
 /// The words of a board, as its ports share them.

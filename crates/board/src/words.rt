@@ -2,12 +2,12 @@
 //! of the owner's registers in order. So the words of one read of a register are adjacent.
 ghost use Rattle.std.specs.Prelude.{◌≡◌, ◌+◌, ◌<◌, ◌≤◌, Ok};
 ghost use Rattle.plain_store.specs.{checked};
-ghost use Rattle.record.specs.{width};
+ghost use Rattle.model.specs.{width};
 ghost use Rattle.board.specs.Words.{copy_of, first_bit, row_bits, words_in};
 
 use plain_store::Setup;
 use process::{BitCopy, RegisterName};
-use record::{Field, width_of};
+use model::{Field, width_of};
 
 /// Returns the position in a row at which the bits of a register begin.
 #[inline]

@@ -2,7 +2,7 @@
 use crate::drives::Drive;
 use board::{Closing, Image};
 use plain_store::{NestedTypes, Setup};
-use record::Placed;
+use model::Placed;
 use std::fmt;
 
 /// The result of a scenario on a board. The text has the lines of the setup, a line for each drive, one for each finished call,

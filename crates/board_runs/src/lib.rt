@@ -11,6 +11,6 @@ pub use board::{Board, Closing, Driven, NotQuiet, Port};
 pub use drives::Drive;
 pub use left::Left;
 pub use lines::begin;
-pub use record::Placed;
+pub use model::Placed;
 pub use running::{Work, played, run, take_turns};
 pub use scenario::{Line, Scenario, read_scenario};

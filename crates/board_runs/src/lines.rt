@@ -2,9 +2,9 @@
 ghost use Rattle.board.specs.{IsOf, SamePort};
 
 use board::{Board, Driven, Port};
-use flicks::Flicks;
+use choices::Flicks;
 use plain_store::{Command, NestedTypes};
-use record::{Refusal, Stage};
+use model::{Refusal, Stage};
 use scenario::{Flick, Line, Target};
 
 /// More turns than any call takes, however long it waits.

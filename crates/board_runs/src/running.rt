@@ -7,7 +7,7 @@ use crate::drives::Drive;
 use crate::left::Left;
 use crate::lines::{carry_out, process_of, set_flicks};
 use board::{Board, Driven, Port};
-use flicks::Flicks;
+use choices::Flicks;
 use plain_store::{NestedTypes, Setup};
 use scenario::{Line, Scenario};
 use std::alloc::{AllocError, Global};

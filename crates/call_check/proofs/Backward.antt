@@ -7,7 +7,7 @@ use Rattle.std.proofs.lemmas.List.Folds.{Any-from_list_any}
 use Rattle.std.proofs.lemmas.Option.{get_or_from_slice_get, slice_get_within}
 use Rattle.plain_store.specs.{Contents, Setup, changes, reply_to}
 use Rattle.call_check.specs.{AreGood, Call, ComesBefore, HasWrongReply, IsBad, IsEnd, IsOfItsStore, NoneIsBad, above, all_calls, caller_of, changes_at, falling, falls, fits_place, is_above, is_change, is_past, is_place, number_of_changes, several, store_at, store_below, with_place, without_place, wrong_reply}
-use Rattle.record.specs.{Placed}
+use Rattle.model.specs.{Placed}
 use Rattle.call_check.proofs.Orders.{change_is, falls_is, fits_other, fits_reply, order_to, past_is}
 use Rattle.call_check.proofs.Positions.{call_of, call_at}
 use Rattle.call_check.proofs.StoresInTurn.{ends_there, stores_there}

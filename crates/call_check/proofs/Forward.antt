@@ -5,7 +5,7 @@ use Rattle.std.proofs.lemmas.Bool.{eqb-false}
 use Rattle.std.proofs.lemmas.Option.{slice_get-get_or}
 use Rattle.plain_store.specs.{Contents, Setup, reply_to}
 use Rattle.call_check.specs.{AreGood, Call, ComesBefore, IsBad, IsEnd, IsOfItsStore, NoneIsBad, above, all_calls, caller_of, changes_at, falling, fits_place, is_change, is_one_of_several, is_past, number_of_changes, several, store_at, store_below, with_place, without_place, wrong_reply}
-use Rattle.record.specs.{Placed}
+use Rattle.model.specs.{Placed}
 use Rattle.call_check.proofs.Counting.{none_above, number_is}
 use Rattle.call_check.proofs.Orders.{any_before, change_is, falls_is, fits_from, is_above-from, not_below, order_from, past_is}
 use Rattle.call_check.proofs.Positions.{call_of, each_call}

@@ -6,7 +6,7 @@ use Rattle.std.proofs.lemmas.List.Elements.{All-cons, All-filter, All-head, All-
 use Rattle.plain_store.specs.{Contents, Setup, changes, opening_store, reply_to}
 use Rattle.store_image.specs.{image_of}
 use Rattle.call_check.specs.{AreAnsweredFrom, AreGood, Call, GoodIsOneHistory, IsAnsweredBy, IsHistoryOf, IsImageAfter, IsOfItsStore, all_calls, call_lists, caller_of, changes_at, fits_place, is_place, number_of_changes, store_below, store_through}
-use Rattle.record.specs.{Placed}
+use Rattle.model.specs.{Placed}
 use Rattle.call_check.proofs.Answering.{answered_append, answered_from, one_answered, place_from, quiet_answered, quiet_through, through_append}
 use Rattle.call_check.proofs.Counting.{changing_is, changing_of}
 use Rattle.call_check.proofs.SecondReading.{good_is_said}

@@ -10,7 +10,7 @@ use Rattle.std.specs.List.{slice_get}
 use Rattle.std.specs.Prelude.{nat_le, nat_lt}
 use Rattle.plain_store.specs.{Contents, Setup}
 use Rattle.call_check.specs.{ArePart, Call, HasWrongReply, IsBad, IsBadIn, IsFollowed, IsJudged, IsLeast, IsNote, Note, above, falling, falls, is_above, is_one_of_several, is_other_with_place, is_past, is_reply_without_place, several, with_place, without_place, wrong_reply}
-use Rattle.record.specs.{Placed}
+use Rattle.model.specs.{Placed}
 use Rattle.call_check.proofs.Followed.{from_some}
 
 -- if no other condition holds, a call is bad exactly if it has another answer and a place

@@ -4,7 +4,7 @@ use Rattle.std.specs.List.{All, AllPairs, filter, flat_map}
 use Rattle.std.proofs.lemmas.List.Elements.{All-head, All-tail, filter-append}
 use Rattle.plain_store.specs.{Setup, changes}
 use Rattle.call_check.specs.{Call, ComesBefore, all_calls_from, call_lists_from, calls_from, is_change_from, store_below}
-use Rattle.record.specs.{Placed}
+use Rattle.model.specs.{Placed}
 use Rattle.call_check.proofs.InPlaces.{AreAbove, AreBelow, AreInOrder, AreSorted, least_after}
 use Rattle.call_check.proofs.Positions.{All-front, All-rest}
 

@@ -8,7 +8,7 @@ use Rattle.std.proofs.lemmas.List.Folds.{list_any_at}
 use Rattle.plain_store.specs.{Answer, Contents, Setup, changes}
 use Rattle.plain_store.specs.declared.Answer.TheVariants.{Reply, TicketsFull, StampsFull, Withdrawn}
 use Rattle.call_check.specs.{Call, changes_there, falls, fits_place, is_above, is_change_from, is_other_answer, is_past, is_reply, store_at, store_below}
-use Rattle.record.specs.{Placed}
+use Rattle.model.specs.{Placed}
 
 pub not_below : (c k : ℕ) → (c < k → ⊥) → k ≤ c
 not_below c k never = by (nat_lt c k) refl

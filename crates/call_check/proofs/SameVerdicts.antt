@@ -2,7 +2,7 @@
 use Rattle.std.proofs.Common.{◌≡◌, inl, inr, ℕ, suc, ◌<◌, ◌≤◌, List, Some, None, refl, sym, ap, subst, ◌∙◌, arith}
 use Rattle.plain_store.specs.{Contents, Setup}
 use Rattle.call_check.specs.{Call, IsEnd, IsLowestBad, IsVerdict, VerdictIsOne, Weighed, all_calls, store_at, store_below}
-use Rattle.record.specs.{Placed}
+use Rattle.model.specs.{Placed}
 use Rattle.call_check.specs.declared.verdicts.Weighed.TheVariants.{Good, Bad, BadEnd}
 use Rattle.call_check.proofs.Orders.{not_below}
 use Rattle.call_check.proofs.StoresInTurn.{store_is, stores_before}

@@ -7,7 +7,7 @@ use Rattle.std.specs.Global.{Vec}
 use Rattle.std.specs.List.{slice_get}
 use Rattle.plain_store.specs.{Contents, Setup, changes}
 use Rattle.call_check.specs.{AreChains, AreFew, AreNotedAt, AreNotedFrom, Call, IsFew, IsLast, IsLink, IsNoteBy, IsOf, Link, Note, all_calls, calls_at, is_place}
-use Rattle.record.specs.{Placed, lists_of}
+use Rattle.model.specs.{Placed, lists_of}
 use Rattle.call_check.proofs.AllCalls.{IsThere, there_in}
 use Rattle.call_check.proofs.Followed.{from_some, none_some}
 use Rattle.call_check.proofs.Places.{get_set_other, get_set_same, same_or_not}

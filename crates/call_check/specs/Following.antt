@@ -5,7 +5,7 @@ use Rattle.std.specs.Global.{Vec}
 use Rattle.plain_store.specs.declared.Answer.TheVariants as answer
 use Rattle.plain_store.specs.{Caller, Command, Contents, Reply, Setup, after, callers_of, changes, reply_to}
 use Rattle.call_check.specs.declared.calls.Call.{Call}
-use Rattle.record.specs.{Placed, lists_of}
+use Rattle.model.specs.{Placed, lists_of}
 use Rattle.call_check.specs.declared.chains.Chains.{Chains}
 use Rattle.call_check.specs.declared.chains.Link.{Link}
 use Rattle.call_check.specs.declared.notes.Changers.{Changers}

@@ -1,4 +1,4 @@
-pub use Rattle.record.specs as «record»
+pub use Rattle.model.specs as model
 pub mod Weighing
 pub mod Following
 pub mod Shown

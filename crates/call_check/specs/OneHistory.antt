@@ -4,7 +4,7 @@ use Rattle.plain_store.specs.declared.Answer.TheVariants as answer
 use Rattle.plain_store.specs.{Contents, Setup, after, opening_store, reply_to}
 use Rattle.store_image.specs.{image_of}
 use Rattle.call_check.specs.declared.calls.Call.{Call}
-use Rattle.record.specs.{Placed}
+use Rattle.model.specs.{Placed}
 use Rattle.call_check.specs.declared.verdicts.Weighed.TheVariants.{Good}
 use Rattle.call_check.specs.Merges.{IsMerge}
 use Rattle.call_check.specs.SaidOverLists.{store_through}

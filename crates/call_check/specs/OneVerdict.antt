@@ -1,7 +1,7 @@
 -- Weighing finds one thing alone.
 use Rattle.std.specs.Prelude.{◌≡◌, List}
 use Rattle.plain_store.specs.{Contents, Setup}
-use Rattle.record.specs.{Placed}
+use Rattle.model.specs.{Placed}
 use Rattle.call_check.specs.declared.verdicts.Weighed.{Weighed}
 use Rattle.call_check.specs.Weighing.{IsWeighed}
 

@@ -5,7 +5,7 @@ use Rattle.plain_store.specs.{Answer, Contents, Reply, Setup, after, changes, op
 use Rattle.plain_store.specs.declared.Answer.TheVariants as answer
 use Rattle.store_image.specs.{image_of}
 use Rattle.call_check.specs.declared.calls.Call.{Call}
-use Rattle.record.specs.{Placed}
+use Rattle.model.specs.{Placed}
 use Rattle.call_check.specs.declared.verdicts.Weighed.TheVariants.{Good, BadEnd}
 use Rattle.call_check.specs.Weighing.{all_calls, caller_of, changes_at, IsWeighed}
 

@@ -5,7 +5,7 @@ use Rattle.plain_store.specs.{Answer, Caller, Contents, Reply, Setup, after, cha
 use Rattle.plain_store.specs.declared.Answer.TheVariants as answer
 use Rattle.store_image.specs.{image_of}
 use Rattle.call_check.specs.declared.calls.Call.{Call}
-use Rattle.record.specs.{Placed}
+use Rattle.model.specs.{Placed}
 use Rattle.call_check.specs.declared.verdicts.Weighed.{Weighed}
 use Rattle.call_check.specs.declared.verdicts.Weighed.TheVariants.{Good, Bad, BadEnd}
 

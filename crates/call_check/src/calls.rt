@@ -1,5 +1,5 @@
 //! The calls of the ports' lists.
-use record::Placed;
+use model::Placed;
 
 /// A call of the ports' lists: its list, and its index there.
 #[derive(Clone, Copy)]

@@ -2,7 +2,7 @@
 ghost use Rattle.std.specs.Prelude.{◌≡◌, ◌+◌, Some, length, IfOk, OnOk};
 ghost use Rattle.call_check.specs.Following.{AreChainsOf, AreNothing, Puts, PutsList, calls_in};
 
-use record::Placed;
+use model::Placed;
 use std::alloc::{AllocError, Global};
 
 /// A call: its list, its index there, and the number of calls up to the one before it with an equal place; 0 if there is

@@ -6,7 +6,7 @@ ghost use Rattle.call_check.specs.Weighing.{is_above, is_other_with_place, is_re
 
 use crate::notes::{Followed, Note};
 use plain_store::Answer;
-use record::Placed;
+use model::Placed;
 use store_image::Image;
 
 impl Followed {

@@ -21,7 +21,7 @@ mod weighing;
 pub use laws_of_weighing::{
     bad_end_is_said_over_lists, good_is_one_history, good_is_said_over_lists, verdict_is_one,
 };
-pub use record::Placed;
+pub use model::Placed;
 pub use store_image::Image;
 pub use verdicts::Weighed;
 pub use weighing::weigh;

@@ -8,7 +8,7 @@ ghost use Rattle.call_check.specs.Weighing.{changes_at};
 use crate::calls::Call;
 use crate::chains::{Chains, Link, chain};
 use plain_store::{Answer, Caller, Command, NestedTypes, Reply, Setup, Store, opened};
-use record::Placed;
+use model::Placed;
 use std::alloc::{AllocError, Global};
 use store_image::Image;
 

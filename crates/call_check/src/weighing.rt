@@ -1,12 +1,12 @@
 ghost use Rattle.std.specs.Prelude.{◌≡◌, ◌≤◌, IfOk, Ok, length};
 ghost use Rattle.plain_store.specs.{checked};
-ghost use Rattle.record.specs.{lists_of};
+ghost use Rattle.model.specs.{lists_of};
 ghost use Rattle.call_check.specs.Weighing.{AreShort, IsWeighed};
 
 use crate::notes::Followed;
 use crate::verdicts::Weighed;
 use plain_store::Setup;
-use record::Placed;
+use model::Placed;
 use std::alloc::{AllocError, Global};
 use store_image::Image;
 

@@ -3,7 +3,7 @@ use Rattle.std.proofs.Common.{◌≡◌, ℕ, ◌-◌, ◌==◌, Bool, true, fal
 use Rattle.std.specs.Prelude.{option_map}
 use Rattle.std.proofs.lemmas.List.{reverse-reverse}
 use Rattle.plain_store.specs.{Setup}
-use Rattle.record.specs.{Entry, Past, has, is_called, past_of, processes}
+use Rattle.model.specs.{Entry, Past, has, is_called, past_of, processes}
 use Rattle.calls.specs.Lines.{header, line_of}
 use Rattle.world.specs.{ends_overlapped_read}
 use Rattle.calls.specs.{Called, called, count_in_call, ended_call, ended_of_process, ended_recorded, is_calling, more_if, open_call, open_recorded, overlaps_in, recorded, recorded_lines}

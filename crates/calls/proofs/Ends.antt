@@ -4,11 +4,11 @@ use Rattle.std.specs.List.{list_any}
 use Rattle.std.proofs.lemmas.Bool.{and_parts, cases_eq}
 use Rattle.std.proofs.lemmas.Bool.Decides.{nat_tests}
 use Rattle.plain_store.specs.{Command, Setup}
-use Rattle.record.specs.{Access, Entry, Mark, Past, Stage, field_number, has, is_called, moves_of, same_bit, stage_after}
-use Rattle.record.specs.declared.marks.Mark.TheVariants as mark
-use Rattle.record.specs.declared.stages.Stage.TheVariants as stage
-use Rattle.record.specs.safe_bit.{Move}
-use Rattle.record.specs.safe_bit.declared.Move.TheVariants.{BeginWrite, EndWrite, BeginRead, EndRead, Settle}
+use Rattle.model.specs.{Access, Entry, Mark, Past, Stage, field_number, has, is_called, moves_of, same_bit, stage_after}
+use Rattle.model.specs.declared.marks.Mark.TheVariants as mark
+use Rattle.model.specs.declared.stages.Stage.TheVariants as stage
+use Rattle.model.specs.safe_bit.{Move}
+use Rattle.model.specs.safe_bit.declared.Move.TheVariants.{BeginWrite, EndWrite, BeginRead, EndRead, Settle}
 use Rattle.world.specs.{ends_overlapped, ends_overlapped_read}
 use Rattle.calls.specs.{begins_read_of, ends_own_overlapped, goes_on_after, is_calling, is_read, is_there, last_access, later_access, overlaps_in}
 use Rattle.judge.specs.any_lock.{Begun, Standing, access_refusal, accessed_by, begins, begun_by, ends, is_down, is_end_of, is_running, is_settling, left_open, mark_refusal, marked, marked_all, may_move, opened, reads, refusal_of_access, refusal_on, same_truth, settles, standing, stands_alone}

@@ -1,8 +1,8 @@
 -- How marks change the state of a process, field by field.
 use Rattle.std.proofs.Common.{◌≡◌, ℕ, Bool, true, false, ◌||◌, List, [], ◌∷◌, Option, None, Some, fold, is_some, refl, sym, ap, ◌∙◌}
 use Rattle.std.specs.List.{list_any}
-use Rattle.record.specs.{Mark, called_in, first_of, is_called, is_entered, is_failed, is_waiting}
-use Rattle.record.specs.declared.marks.Mark.TheVariants as mark
+use Rattle.model.specs.{Mark, called_in, first_of, is_called, is_entered, is_failed, is_waiting}
+use Rattle.model.specs.declared.marks.Mark.TheVariants as mark
 use Rattle.calls.specs.{CallStanding, Marked, answer_after, ends_waiting, first_if, goes_on_after, is_answered, is_left, is_taken, is_withdrawal, marked_all, marked_on, place_after, ticket_after, with_mark}
 use Rattle.calls.proofs.InCall.{first_none, if_there}
 

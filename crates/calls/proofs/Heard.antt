@@ -6,8 +6,8 @@ use Rattle.std.proofs.lemmas.List.{get_or-set_same, get_or-set_other}
 use Rattle.std.proofs.lemmas.List.FromFn.{get_or-map-range_with_len, length-map-range_with_len, map-range_with_len_more}
 use Rattle.std.specs.List.{range_with_len}
 use Rattle.plain_store.specs.{Setup}
-use Rattle.record.specs.safe_bit.{Move}
-use Rattle.record.specs.{Access, Entry, Mark, Past}
+use Rattle.model.specs.safe_bit.{Move}
+use Rattle.model.specs.{Access, Entry, Mark, Past}
 use Rattle.calls.specs.{AreFew, CallStanding, Called, ComesInTurn, EntryKnown, GoesBy, GoesOn, HasHeard, HasNotFailed, HaveRoom, Passes, TableState, at_rest, ended_call, heard, is_read, is_write, makes_itself, passed, reads_begun, standing, writes_begun}
 use Rattle.world.specs.{ends_overlapped_read}
 use Rattle.calls.proofs.InCall.{calls-few, count-few}

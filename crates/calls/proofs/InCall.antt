@@ -1,6 +1,6 @@
 -- How the look-backs over a call go on with an entry.
 use Rattle.std.proofs.Common.{◌≡◌, ℕ, suc, ◌≤◌, ◌==◌, Bool, true, false, cond, [], ◌∷◌, Option, None, Some, length, refl, eq-eqb, arith}
-use Rattle.record.specs.{Entry, Past, calls_in, first_of, has, is_called, number_in_call, own}
+use Rattle.model.specs.{Entry, Past, calls_in, first_of, has, is_called, number_in_call, own}
 use Rattle.calls.specs.{count_in_call, first_if, first_in_call, more_if, over_call}
 
 -- the number of an entry, where a test holds

@@ -4,7 +4,7 @@ use Rattle.std.proofs.lemmas.Bool.{cases_eq, cases_lt}
 use Rattle.std.proofs.lemmas.Bool.Decides.{nat_tests}
 use Rattle.std.proofs.lemmas.Option.{slice_get_within}
 use Rattle.plain_store.specs.{Command, Setup}
-use Rattle.record.specs.{Access, Entry, Mark, Past, called_in, has, is_called}
+use Rattle.model.specs.{Access, Entry, Mark, Past, called_in, has, is_called}
 use Rattle.calls.specs.{AreFew, CallStanding, Called, EntryKnown, GoesOn, HasListed, IsKnown, Lists, TableState, accessed_by, begun, call_kept, count_in_call, ended_of_process, ended_recorded, ends_own_overlapped, heard, is_calling, is_read, is_write, listed, makes_itself, marked_all, marked_on, more_if, open_recorded, overlaps_in, recorded, standing}
 use Rattle.calls.proofs.Folds.{called_has}
 use Rattle.calls.proofs.Heard.{slice_get-set_other, slice_get-set_same, table_with}

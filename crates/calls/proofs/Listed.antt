@@ -2,7 +2,7 @@
 use Rattle.std.proofs.Common.{◌≡◌, ℕ, ◌<◌, Bool, List, [], ◌∷◌, ◌++◌, length, reverse, Option, ap, sym, subst, ◌∙◌, append_assoc}
 use Rattle.std.proofs.lemmas.List.{reverse-append}
 use Rattle.plain_store.specs.{Setup}
-use Rattle.record.specs.{Entry, Past}
+use Rattle.model.specs.{Entry, Past}
 use Rattle.calls.specs.Lines.{header, line_of}
 use Rattle.calls.specs.{Called, HasListed, Lists, TableState, ended_recorded, overlaps_in, recorded_lines}
 use Rattle.calls.specs.{HasListedAll, RecordCalls}

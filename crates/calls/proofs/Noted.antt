@@ -1,7 +1,7 @@
 -- The state of a call with one access more.
 use Rattle.std.proofs.Common.{◌≡◌, ℕ, Bool, true, false, ◌&&◌, not, cond, Option, None, Some, is_none, is_some, refl, ap, ◌∙◌}
 use Rattle.plain_store.specs.{Setup}
-use Rattle.record.specs.{Access}
+use Rattle.model.specs.{Access}
 use Rattle.calls.specs.{Accesses, EntryKnown, Marked, first_if, is_read, is_write, more_if, waits_by, with_access}
 
 none_told : (o : Option ℕ) (b : Bool) → is_some o ≡ not b → b ≡ is_none o

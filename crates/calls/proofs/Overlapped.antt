@@ -5,14 +5,14 @@ use Rattle.std.proofs.lemmas.Bool.Decides.{nat_tests}
 use Rattle.std.proofs.lemmas.List.{get_or-set_other, get_or-set_same}
 use Rattle.plain_store.specs.{Setup}
 use Rattle.plain_store.proofs.GoodSetups.{few-processes}
-use Rattle.record.specs.{Access, Mark, Past, begins_read, moves_of, same_bit}
-use Rattle.record.specs.safe_bit.{Move}
-use Rattle.record.specs.safe_bit.declared.Move.TheVariants.{BeginRead, EndRead}
+use Rattle.model.specs.{Access, Mark, Past, begins_read, moves_of, same_bit}
+use Rattle.model.specs.safe_bit.{Move}
+use Rattle.model.specs.safe_bit.declared.Move.TheVariants.{BeginRead, EndRead}
 use Rattle.world.specs.{ends_overlapped}
 use Rattle.calls.specs.{begins_read_of, ends_own_overlapped, entry_with, is_read, is_there, last_access, later_access}
-use Rattle.judge.specs.read_law.Looks as looks
-use Rattle.judge.specs.read_law.laws.{IsThere}
-use Rattle.judge.specs.read_law.{HasHeard}
+use Rattle.judge.specs.safe_monitor.Looks as looks
+use Rattle.judge.specs.safe_monitor.laws.{IsThere}
+use Rattle.judge.specs.safe_monitor.{HasHeard}
 use Rattle.calls.specs.{OverlapWatch, Watches}
 
 -- Reads that have begun.

@@ -1,9 +1,9 @@
 -- How many entries at once change the state of a process.
 use Rattle.std.proofs.Common.{◌≡◌, ℕ, zero, suc, ◌+◌, ◌≤◌, ◌==◌, Bool, true, false, ◌&&◌, cond, ◌∷◌, Option, None, Some, is_none, length, refl, sym, ap, subst, ◌∙◌, arith}
 use Rattle.plain_store.specs.{Setup}
-use Rattle.record.specs.safe_bit.{Move}
-use Rattle.record.specs.safe_bit.declared.Move.TheVariants.{BeginWrite, EndWrite, BeginRead, EndRead, Settle}
-use Rattle.record.specs.{Access, Past, first_of, width}
+use Rattle.model.specs.safe_bit.{Move}
+use Rattle.model.specs.safe_bit.declared.Move.TheVariants.{BeginWrite, EndWrite, BeginRead, EndRead, Settle}
+use Rattle.model.specs.{Access, Past, first_of, width}
 use Rattle.calls.specs.{Accesses, CallStanding, EntryKnown, HasNotFailed, IsKnown, Passes, begun_among, ends_number, first_if, follows, is_read, is_write, more_if, of_read, passed, quiet_entry, reads_begun, standing, with_access, with_passed, writes_begun}
 use Rattle.world.specs.{ends_overlapped_read}
 use Rattle.calls.proofs.Steps.{standing-heard, standing-other}

@@ -1,7 +1,7 @@
 -- The state of a process is what the look-backs find: an entry changes both in the same way.
 use Rattle.std.proofs.Common.{◌≡◌, ℕ, suc, ◌==◌, Bool, true, false, ◌&&◌, cond, ◌∷◌, Option, None, Some, fold, is_none, is_some, length, refl, sym, ap, ◌∙◌, eq-eqb, add-one}
 use Rattle.plain_store.specs.{Answer, Command, Setup}
-use Rattle.record.specs.{Access, Entry, Mark, Past, called_in, calls_in, has, is_called, is_entered, is_failed, is_waiting, last_command, moves_of, number_in_call, own, width}
+use Rattle.model.specs.{Access, Entry, Mark, Past, called_in, calls_in, has, is_called, is_entered, is_failed, is_waiting, last_command, moves_of, number_in_call, own, width}
 use Rattle.world.specs.laws.{doing}
 use Rattle.world.specs.process.{number_read}
 use Rattle.world.specs.{ends_overlapped, ends_overlapped_read}

@@ -1,15 +1,15 @@
 -- A table of calls observes Steps without a mark, one by one or many at once.
 use Rattle.std.proofs.Common.{◌≡◌, ◌+◌, ◌<◌, ℕ, zero, suc, Bool, true, false, if◌then◌else◌, List, [], ◌∷◌, ◌++◌, length, Option, None, Some, refl, ap, sym, subst, ◌∙◌, append-nil, arith}
 use Rattle.plain_store.specs.{Setup}
-use Rattle.record.specs.{Access, Entry, Past, entry_of, width}
-use Rattle.record.specs.declared.events.Event.TheVariants.{Step}
-use Rattle.record.proofs.Width.{is_good}
+use Rattle.model.specs.{Access, Entry, Past, entry_of, width}
+use Rattle.model.specs.declared.events.Event.TheVariants.{Step}
+use Rattle.model.proofs.Width.{is_good}
 use Rattle.calls.specs.{ComesInTurn, HasHeard, HasNotFailed, HasTabled, Passes, TableState, TellsRead, ended_lines, ends_number, follows, known_step, line_of, lines_after, more_if, quiet_entry}
 use Rattle.world.proofs.WorldTurns.{takes-turns}
-use Rattle.course.specs.world.{ends_overlapped_read}
-use Rattle.course.specs.{Happening, PassBy, PassWithin, Stepped, StepsOn, StepsWithin, Tries, overlapped_in, past_after, tried}
-use Rattle.course.proofs.laws.FrameEvents.{accepted}
-use Rattle.course.proofs.laws.Steps.{step_is}
+use Rattle.scenario_run.specs.world.{ends_overlapped_read}
+use Rattle.scenario_run.specs.{Happening, PassBy, PassWithin, Stepped, StepsOn, StepsWithin, Tries, overlapped_in, past_after, tried}
+use Rattle.scenario_run.proofs.laws.FrameEvents.{accepted}
+use Rattle.scenario_run.proofs.laws.Steps.{step_is}
 use Rattle.calls.proofs.UnmarkedSteps.{inside_never, not_so, steps_below}
 use Rattle.calls.proofs.Tabling.{event_added, unmarked_ends}
 use Rattle.calls.proofs.Unfailed.{within_unfailed}

@@ -3,16 +3,16 @@ use Rattle.std.proofs.Common.{◌≡◌, ◌+◌, ◌&&◌, ℕ, Bool, true, fal
 use Rattle.std.specs.Io.KnownBytes.{Appends}
 use Rattle.scenario.specs.files.{Fault, WritesFront}
 use Rattle.plain_store.specs.{Setup}
-use Rattle.record.specs.{Access, Entry, Event, Mark, Past, entry_of, past_of, process_of, width}
+use Rattle.model.specs.{Access, Entry, Event, Mark, Past, entry_of, past_of, process_of, width}
 use Rattle.scenario.specs.{Script}
 use Rattle.calls.specs.{ComesInTurn, HasHeard, TableState, called, ended_call, ended_lines, ends_number, header, is_calling, is_unmarked, open_lines}
-use Rattle.course.specs.{Accepted, Happening, Happens, IsMarked, IsWriteFault, Lacks, Looks, TellsOf, Tires, Told, Tries, Writes, WritesPart, entry_made, failed_write, happenings, past_after, tried}
-use Rattle.course.specs.world.{ends_overlapped_read}
-use Rattle.course.specs.declared.told.Told.TheVariants as told
-use Rattle.course.proofs.Endings.{err_both}
-use Rattle.course.proofs.InTurn.{process_there}
-use Rattle.course.proofs.Refusals.{past_kept}
-use Rattle.course.proofs.Written.{all_written, appends_both, front_after, front_longer, part_written}
+use Rattle.scenario_run.specs.{Accepted, Happening, Happens, IsMarked, IsWriteFault, Lacks, Looks, TellsOf, Tires, Told, Tries, Writes, WritesPart, entry_made, failed_write, happenings, past_after, tried}
+use Rattle.scenario_run.specs.world.{ends_overlapped_read}
+use Rattle.scenario_run.specs.declared.told.Told.TheVariants as told
+use Rattle.scenario_run.proofs.Endings.{err_both}
+use Rattle.scenario_run.proofs.InTurn.{process_there}
+use Rattle.scenario_run.proofs.Refusals.{past_kept}
+use Rattle.scenario_run.proofs.Written.{all_written, appends_both, front_after, front_longer, part_written}
 use Rattle.calls.specs.Tables.{CutsTold, HasTabled, IsInTurn, Tells, known_told, lines_after, past_with, tabled, told_line}
 
 -- marks that there are

@@ -2,9 +2,9 @@
 use Rattle.std.proofs.Common.{◌≡◌, ◌<◌, ◌==◌, ℕ, Bool, true, false, cond, List, [], ◌∷◌, length, Option, None, Some, refl, ap, sym, ◌∙◌, arith}
 use Rattle.std.specs.List.{list_any}
 use Rattle.plain_store.specs.{Command, Setup}
-use Rattle.record.specs.{Access, Entry, Mark, Past, first_of, has, is_called, is_failed, number_in_call, own, start_in, starts}
-use Rattle.record.specs.declared.marks.Mark.TheVariants.{Called, Waiting, Entered, Taken, Left, Answered, Failed, Settled, Down, Withdrew, Restarted}
-use Rattle.record.specs.Closings.{Closing, Withdraws, Settles, Frees, Lowers, Quit, Ended}
+use Rattle.model.specs.{Access, Entry, Mark, Past, first_of, has, is_called, is_failed, number_in_call, own, start_in, starts}
+use Rattle.model.specs.declared.marks.Mark.TheVariants.{Called, Waiting, Entered, Taken, Left, Answered, Failed, Settled, Down, Withdrew, Restarted}
+use Rattle.model.specs.Closings.{Closing, Withdraws, Settles, Frees, Lowers, Quit, Ended}
 use Rattle.world.specs.laws.{Doing, Rests, Lies, Runs, Closes, closes, does_after, doing, goes_on}
 use Rattle.world.specs.process.{ProcessState, left_at, process_after}
 

@@ -1,13 +1,13 @@
 -- A Step without a mark: its process exists, and within a register access it does not end the access.
 use Rattle.std.proofs.Common.{◌≡◌, ◌+◌, ◌<◌, Bool, true, false, List, [], ℕ, Some, Ok, refl, eqb-true}
 use Rattle.plain_store.specs.{Setup, checked}
-use Rattle.record.specs.safe_bit.{Move}
-use Rattle.record.specs.safe_bit.declared.Move.TheVariants.{BeginWrite, EndWrite, BeginRead, EndRead, Settle}
-use Rattle.record.specs.{Access, Event, entry_of, past_of, width}
-use Rattle.record.specs.declared.events.Event.TheVariants.{Step}
-use Rattle.record.proofs.Width.{is_good}
-use Rattle.course.proofs.InTurn.{process_there}
-use Rattle.course.specs.{Happening, Stepped, StepsOn, tried}
+use Rattle.model.specs.safe_bit.{Move}
+use Rattle.model.specs.safe_bit.declared.Move.TheVariants.{BeginWrite, EndWrite, BeginRead, EndRead, Settle}
+use Rattle.model.specs.{Access, Event, entry_of, past_of, width}
+use Rattle.model.specs.declared.events.Event.TheVariants.{Step}
+use Rattle.model.proofs.Width.{is_good}
+use Rattle.scenario_run.proofs.InTurn.{process_there}
+use Rattle.scenario_run.specs.{Happening, Stepped, StepsOn, tried}
 use Rattle.calls.specs.{ends_number}
 use Rattle.world.proofs.WorldWithin.{inside-number}
 use Rattle.world.specs.process.{left_at, process_after}

@@ -1,13 +1,13 @@
 -- What the table of a record has in common with that of a run.
 use Rattle.std.specs.Prelude.{◌≡◌, ◌-◌, ℕ, List, [], ◌∷◌, ◌++◌, flat_map, length, option_map, None, Ok}
 use Rattle.plain_store.specs.{Setup, checked}
-use Rattle.record.specs.{AreGiven, Event, Past, past_of, processes}
+use Rattle.model.specs.{AreGiven, Event, Past, past_of, processes}
 use Rattle.calls.specs.Lines.{header, line_of}
 use Rattle.calls.specs.declared.called.Called.{Called}
 use Rattle.calls.specs.Hearing.{ended_call, open_call}
 use Rattle.calls.specs.Recorded.{record_table}
 use Rattle.judge.specs.any_lock.{verdict_after}
-use Rattle.judge.specs.read_law.declared.verdicts.Verdict.TheVariants.{Good}
+use Rattle.judge.specs.safe_monitor.declared.verdicts.Verdict.TheVariants.{Good}
 
 -- a call of a run, without the process that it waited for
 abbrev pub without_wait : Called → Called

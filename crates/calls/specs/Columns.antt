@@ -1,11 +1,11 @@
 -- The columns of a call. Each number is found by looking back over a past.
 use Rattle.std.specs.Prelude.{ℕ, ◌+◌, ◌==◌, nat_lt, Bool, true, false, ◌&&◌, List, [], ◌∷◌, length, fold, cond, Option, None, Some, is_none, is_some, bit_or, ◌^◌}
-use Rattle.record.specs.safe_bit.{Move}
-use Rattle.record.specs.safe_bit.declared.Move.TheVariants.{BeginWrite, BeginRead, EndRead}
+use Rattle.model.specs.safe_bit.{Move}
+use Rattle.model.specs.safe_bit.declared.Move.TheVariants.{BeginWrite, BeginRead, EndRead}
 use Rattle.plain_store.specs.{Answer, Setup}
-use Rattle.record.specs.{Access, Entry, Field, Mark, Past, calls_in, doorway_end, first_of, has, is_below, is_called, is_entered, is_failed, last_command, number_in_call, own, width}
-use Rattle.record.specs.declared.access.Field.TheVariants.{Choosing, Ticket}
-use Rattle.record.specs.declared.marks.Mark.TheVariants.{Waiting, Entered, Taken, Left, Answered, Failed, Down, Withdrew}
+use Rattle.model.specs.{Access, Entry, Field, Mark, Past, calls_in, doorway_end, first_of, has, is_below, is_called, is_entered, is_failed, last_command, number_in_call, own, width}
+use Rattle.model.specs.declared.access.Field.TheVariants.{Choosing, Ticket}
+use Rattle.model.specs.declared.marks.Mark.TheVariants.{Waiting, Entered, Taken, Left, Answered, Failed, Down, Withdrew}
 use Rattle.world.specs.laws.{doing}
 use Rattle.world.specs.process.{number_read}
 use Rattle.world.specs.{ends_overlapped_read}

@@ -1,7 +1,7 @@
 -- The state of a table of calls, and the entries that it has observed.
 use Rattle.std.specs.Prelude.{◌≡◌, ℕ, ◌<◌, true, false, not, ◌&&◌, List, ◌∷◌, length, cond, slice_get, slice_set, ◌-◌, ◌^◌, Option, None, Some, Ok}
 use Rattle.plain_store.specs.{Setup, checked}
-use Rattle.record.specs.{Access, Entry, Mark, Past, width}
+use Rattle.model.specs.{Access, Entry, Mark, Past, width}
 use Rattle.calls.specs.declared.called.Called.{Called}
 use Rattle.calls.specs.declared.called.EntryKnown.{EntryKnown}
 use Rattle.calls.specs.declared.standing.CallStanding.{CallStanding}

@@ -1,4 +1,4 @@
-pub use Rattle.course.specs as course
+pub use Rattle.scenario_run.specs as scenario_run
 pub use Rattle.judge.specs as judge
 pub use Rattle.scenario.specs as scenario
 pub use Rattle.world.specs as world

@@ -3,7 +3,7 @@ use Rattle.std.specs.Prelude.{ℕ, ◌-◌, ◌==◌, Bool, ◌||◌, List, [], 
 use Rattle.std.specs.Fmt.{decimal}
 use Rattle.std.specs.List.{list_any}
 use Rattle.plain_store.specs.{Answer, Setup, answer_text, command_text}
-use Rattle.record.specs.{Past, processes}
+use Rattle.model.specs.{Past, processes}
 use Rattle.calls.specs.declared.called.Called.{Called}
 use Rattle.calls.specs.Hearing.{ended_call, open_call}
 

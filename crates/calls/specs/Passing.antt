@@ -1,9 +1,9 @@
 -- Many entries at once within a register access: their accesses begin and end in turns, and are of one kind.
 use Rattle.std.specs.Prelude.{◌≡◌, ℕ, zero, suc, ◌+◌, ◌/◌, ◌<◌, ◌^◌, Bool, true, false, ◌||◌, if◌then◌else◌, [], ◌∷◌, cond, Some, None}
 use Rattle.plain_store.specs.{Setup}
-use Rattle.record.specs.safe_bit.{Move}
-use Rattle.record.specs.safe_bit.declared.Move.TheVariants.{BeginWrite, EndWrite, BeginRead, EndRead, Settle}
-use Rattle.record.specs.{Access, Entry, Past, first_of, has, is_failed, number_in_call, width}
+use Rattle.model.specs.safe_bit.{Move}
+use Rattle.model.specs.safe_bit.declared.Move.TheVariants.{BeginWrite, EndWrite, BeginRead, EndRead, Settle}
+use Rattle.model.specs.{Access, Entry, Past, first_of, has, is_failed, number_in_call, width}
 use Rattle.calls.specs.declared.called.Accesses.{Accesses}
 use Rattle.calls.specs.declared.standing.CallStanding.{CallStanding}
 use Rattle.world.specs.{ends_overlapped_read}

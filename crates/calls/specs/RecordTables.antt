@@ -1,13 +1,13 @@
 -- The table of a record's calls as an engine writes it, and what is kept while the entries are heard.
 use Rattle.std.specs.Prelude.{◌≡◌, ◌<◌, ℕ, List, ◌++◌, get_or, length, reverse, None, Ok, Result}
 use Rattle.plain_store.specs.{Setup, checked}
-use Rattle.record.specs.{Entry, Past}
+use Rattle.model.specs.{Entry, Past}
 use Rattle.calls.specs.Lines.{header}
 use Rattle.calls.specs.Recorded.{HasListed, last_access, record_table, recorded_lines}
 use Rattle.judge.specs.Ends.{TrialEnds}
 use Rattle.judge.specs.files.Engines.{Streams}
 use Rattle.judge.specs.files.{Fault}
-use Rattle.judge.specs.read_law.{HasHeard}
+use Rattle.judge.specs.safe_monitor.{HasHeard}
 use Rattle.calls.specs.declared.overlaps.OverlapWatch.{OverlapWatch}
 use Rattle.calls.specs.declared.record_table.RecordCalls.{RecordCalls}
 

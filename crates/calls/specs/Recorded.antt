@@ -1,6 +1,6 @@
 -- The calls of a record, of whatever lock it is and whatever its entries are: what became of each, found by looking back.
 use Rattle.std.specs.Prelude.{◌≡◌, ◌-◌, ◌<◌, ℕ, ◌==◌, Bool, true, false, not, ◌&&◌, nat_lt, List, [], ◌∷◌, ◌++◌, cond, flat_map, length, slice_get, Option, None, Some}
-use Rattle.record.specs.{Access, Entry, Mark, Past, calls_in, has, is_called, last_command, moves_of, own, processes, same_bit, width}
+use Rattle.model.specs.{Access, Entry, Mark, Past, calls_in, has, is_called, last_command, moves_of, own, processes, same_bit, width}
 use Rattle.plain_store.specs.{Setup}
 use Rattle.world.specs.{ends_overlapped}
 use Rattle.calls.specs.declared.called.Accesses.{Accesses}

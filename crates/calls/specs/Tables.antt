@@ -3,11 +3,11 @@ use Rattle.std.specs.Prelude.{◌≡◌, ◌+◌, ◌^◌, ◌<◌, ◌≤◌, �
 use Rattle.std.proofs.Common.{ap, sym, ◌∙◌, arith, append-nil, append_assoc}
 use Rattle.std.specs.Io.KnownBytes.{Appends}
 use Rattle.plain_store.specs.{Setup}
-use Rattle.record.specs.{Entry, Past, entry_of}
+use Rattle.model.specs.{Entry, Past, entry_of}
 use Rattle.scenario.specs.files.{LineFault, WritesFront, text_by}
 use Rattle.scenario.specs.{Script, scenario_of}
-use Rattle.course.specs.{Accepted, Happening, Lacks, Looks, Stepped, Tires, Told, Tries, entry_made, happenings, past_after}
-use Rattle.course.specs.declared.told.Told.TheVariants as told
+use Rattle.scenario_run.specs.{Accepted, Happening, Lacks, Looks, Stepped, Tires, Told, Tries, entry_made, happenings, past_after}
+use Rattle.scenario_run.specs.declared.told.Told.TheVariants as told
 use Rattle.calls.specs.Hearing.{ComesInTurn, HasHeard, TableState, ended_call}
 use Rattle.calls.specs.Lines.{ended_lines, line_of, table_text}
 use Rattle.calls.specs.declared.called.EntryKnown.{EntryKnown}

@@ -1,14 +1,14 @@
 //! Facts about an access of a call: whether it begins or ends a read or a write, and which number it has read.
 ghost use Rattle.std.specs.Prelude.{◌≡◌, ◌+◌, ◌-◌, ◌^◌, ◌<◌, ◌&&◌, Some, Ok};
 ghost use Rattle.plain_store.specs.{checked};
-ghost use Rattle.record.specs.{is_below as below, width};
+ghost use Rattle.model.specs.{is_below as below, width};
 ghost use Rattle.calls.specs.Columns.{ends_number, holds_up as holds, is_read as begins_read, is_write as begins_write, more_if as one_more_if, number_after as after, tells_waiting, with_bit as bit_with};
 ghost use Rattle.calls.specs.Passing.{of_read, reads_begun, writes_begun};
 ghost use Rattle.calls.specs.Stepping.{waits_by};
 
 use crate::called::Marked;
 use plain_store::Setup;
-use record::{Access, Field, Move, width_of};
+use model::{Access, Field, Move, width_of};
 
 /// Returns `count`, plus one if the test holds.
 #[inline]

@@ -1,11 +1,11 @@
 //! The engine `calls`: it writes a line for each call of a scenario's run as the call ends, and finally those of the open calls.
 ghost use Rattle.std.specs.Prelude.{◌≡◌, ◌+◌, ◌-◌, ◌^◌, ◌<◌, length, IfErr, IfOk, OnOk};
 ghost use Rattle.std.specs.Io.KnownBytes.{Appends};
-ghost use Rattle.record.specs.{Past};
+ghost use Rattle.model.specs.{Past};
 ghost use Rattle.scenario.specs.files.Engines.{Ran, streams};
 ghost use Rattle.scenario.specs.files.{ReadsFront, WritesFront};
 ghost use Rattle.scenario.specs.{script};
-ghost use Rattle.course.specs.{IsWriteFault, ended, failed_write};
+ghost use Rattle.scenario_run.specs.{IsWriteFault, ended, failed_write};
 ghost use Rattle.calls.specs.Hearing.{HasHeard, open_call};
 ghost use Rattle.calls.specs.Lines.{header, line_of, open_lines};
 ghost use Rattle.calls.specs.Tables.{calls_text, tabled};
@@ -13,7 +13,7 @@ ghost use Rattle.calls.specs.Tables.{calls_text, tabled};
 use crate::hearing::{Tabler, write_if};
 use crate::printed::HEADER;
 use crate::table::CallTable;
-use course::{Course, Until};
+use scenario_run::{Course, Until};
 use plain_store::Setup;
 use scenario::progress::Onlooker;
 use scenario::{Fault, Scenario, Sink, Source, read_input, read_scenario, write_all};

@@ -2,9 +2,9 @@
 ghost use Rattle.std.specs.Prelude.{◌≡◌, ◌+◌, ◌-◌, ◌^◌, ◌<◌, ◌∷◌, [], IfErr, OnErr, OnOk, Some, length, refl, false};
 ghost use Rattle.std.proofs.Common.{◌∙◌};
 ghost use Rattle.std.specs.Io.KnownBytes.{Appends};
-ghost use Rattle.record.specs.{Entry as Noted, Past};
+ghost use Rattle.model.specs.{Entry as Noted, Past};
 ghost use Rattle.scenario.specs.files.{WritesFront};
-ghost use Rattle.course.specs.{IsWriteFault, Took, TookPart, failed_write, part_before, part_on, part_unheard, took_none, took_on};
+ghost use Rattle.scenario_run.specs.{IsWriteFault, Took, TookPart, failed_write, part_before, part_on, part_unheard, took_none, took_on};
 ghost use Rattle.calls.specs.Hearing.{ComesInTurn, HasHeard, ended_call};
 ghost use Rattle.calls.specs.Lines.{call_line, line_of};
 ghost use Rattle.calls.specs.Tables.{CutsTold, HasTabled, Tells, fewer, known_step, lines_after, lines_longer};
@@ -12,8 +12,8 @@ ghost use Rattle.calls.specs.Tables.{CutsTold, HasTabled, Tells, fewer, known_st
 use crate::called::{Called, EntryKnown};
 use crate::printed::print_call;
 use crate::table::CallTable;
-use course::{Listener, Stepped, Told};
-use record::{Access, Mark, Move};
+use scenario_run::{Listener, Stepped, Told};
+use model::{Access, Mark, Move};
 use scenario::{Fault, Sink, write_all};
 use std::alloc::Global;
 

@@ -18,7 +18,7 @@ mod table;
 pub use accesses::{ends_number, holds_up, more_if, number_after};
 pub use called::{Accesses, Called, EntryKnown, Marked};
 pub use calling::run_calls;
-pub use course;
+pub use scenario_run;
 pub use laws_of_tables::records_list_as_runs;
 pub use listing::list_record;
 pub use printed::{HEADER, print_call, push_numbers, waited};

@@ -2,14 +2,14 @@
 ghost use Rattle.std.specs.Prelude.{◌≡◌, ◌<◌, ◌≤◌, ◌∷◌, [], get_or, length, set, IfOk, List, None, Ok, Some, ℕ};
 ghost use Rattle.plain_store.specs.{checked};
 ghost use Rattle.plain_store.specs.declared.setups.Setup.{Setup as Given};
-ghost use Rattle.record.specs.{Past};
-ghost use Rattle.record.specs.declared.marks.Mark.{Mark as Marking};
+ghost use Rattle.model.specs.{Past};
+ghost use Rattle.model.specs.declared.marks.Mark.{Mark as Marking};
 ghost use Rattle.calls.specs.Recorded.{begins_read_of, entry_with, overlaps_in};
 ghost use Rattle.calls.specs.RecordTables.{Watches};
 
 use judge::Watch;
 use plain_store::Setup;
-use record::{Access, Move};
+use model::{Access, Move};
 use std::alloc::{AllocError, Global};
 
 /// A watch on the bits, and the last access of each process.

@@ -1,7 +1,7 @@
 //! The table of a record's calls, as the entries are heard.
 ghost use Rattle.std.specs.Prelude.{◌≡◌, ◌-◌, ◌^◌, ◌<◌, ◌++◌, ◌∷◌, [], IfOk, List, OnOk, ℕ, reverse};
 ghost use Rattle.plain_store.specs.declared.setups.Setup.{Setup as Given};
-ghost use Rattle.record.specs.{Entry as Noted, Past};
+ghost use Rattle.model.specs.{Entry as Noted, Past};
 ghost use Rattle.calls.specs.Lines.{line_of};
 ghost use Rattle.calls.specs.Recorded.{HasListed, entry_with, open_recorded_lines};
 ghost use Rattle.calls.specs.RecordTables.{HasListedAll, TellsCalls};
@@ -12,7 +12,7 @@ use crate::printed::{HEADER, print_call};
 use crate::table::CallTable;
 use judge::{DONE, Hearer, Telling};
 use plain_store::Setup;
-use record::{Access, Mark};
+use model::{Access, Mark};
 use std::alloc::{AllocError, Global};
 
 /// The table of the calls of a record, up to the newest entry.

@@ -1,7 +1,7 @@
 //! The state of a process, which each of its entries changes.
 ghost use Rattle.std.specs.Prelude.{◌≡◌, ◌-◌, ◌^◌, ◌<◌, ◌&&◌, not, cond, None, Some, Ok};
 ghost use Rattle.plain_store.specs.{checked};
-ghost use Rattle.record.specs.{called_in as command_in, first_of as first};
+ghost use Rattle.model.specs.{called_in as command_in, first_of as first};
 ghost use Rattle.calls.specs.Columns.{first_if as first_number_if};
 ghost use Rattle.calls.specs.Passing.{HaveRoom, passed, with_passed};
 ghost use Rattle.calls.specs.Stepping.{AreFew, accessed, heard, at_rest, begun, marked_all, marked_on, no_accesses, no_marks, with_access, with_mark};
@@ -9,7 +9,7 @@ ghost use Rattle.calls.specs.Stepping.{AreFew, accessed, heard, at_rest, begun, 
 use crate::accesses::{is_read, is_write, more_if, waits_by};
 use crate::called::{Accesses, Called, EntryKnown, Marked};
 use plain_store::{Command, NestedTypes, Setup};
-use record::{Access, Field, Mark};
+use model::{Access, Field, Mark};
 
 /// The state of a process: its last call, and whether that call is open.
 #[derive(Clone, Copy)]

@@ -1,7 +1,7 @@
 ghost use Rattle.std.specs.Prelude.{◌≡◌, ◌+◌, ◌-◌, ◌^◌, ◌<◌, ◌≤◌, ◌∷◌, [], IfOk, Ok, Some, None, cond, is_some, slice_get};
 ghost use Rattle.plain_store.specs.{checked};
-ghost use Rattle.record.specs.{Entry as Noted, Past, called_in as command_in, calls_in, own};
-ghost use Rattle.record.specs.declared.access.Access.{Access as AccessMade};
+ghost use Rattle.model.specs.{Entry as Noted, Past, called_in as command_in, calls_in, own};
+ghost use Rattle.model.specs.declared.access.Access.{Access as AccessMade};
 ghost use Rattle.calls.specs.declared.standing.CallStanding.{CallStanding as Stood};
 ghost use Rattle.calls.specs.Passing.{HasNotFailed, Passes};
 ghost use Rattle.calls.specs.Hearing.{ComesInTurn, GoesBy, GoesOn, HasHeard, ended_call, open_call};
@@ -11,7 +11,7 @@ use crate::accesses::{is_of_read, reads_among, writes_among};
 use crate::called::{Accesses, Called, EntryKnown, Marked};
 use crate::standing::{CallStanding, called_in};
 use plain_store::{NestedTypes, Setup};
-use record::{Access, Mark, Move};
+use model::{Access, Mark, Move};
 use std::alloc::{AllocError, Global};
 use std::marker::Model;
 

@@ -11,7 +11,7 @@ use Rattle.files.specs.declared.faults.FaultKind.TheVariants.{NotFirst, TooLong}
 use Rattle.files.proofs.CutTexts.{tells_at_limit}
 use Rattle.files.proofs.Passing.{Passed, no_fault, passed}
 use Rattle.files.proofs.Said.{first_then, said_read, text_said}
-use Rattle.record.specs.{Entry}
+use Rattle.model.specs.{Entry}
 use Rattle.record_file.specs.{Progress, Said, cleared, entry_in, first_read, line_read, lines_read, record_grammar, record_of, said_by}
 use Rattle.record_file.specs.scenario.{Progress as Head, Script, at_version, first_read as scenario_first, scenario_grammar, scenario_of, script_of}
 use Rattle.command_line.proofs.Opening.{opened_behind}

@@ -1,11 +1,11 @@
 -- Accesses that are observed, and the items of what is shown of them.
 use Rattle.std.proofs.Common.{◌≡◌, Bool, true, false, ◌||◌, [], ◌∷◌, is_some, Option, Some, None, option_map, refl, ap, sym, ◌∙◌, true≢false}
-use Rattle.record.specs.plain_store.{Setup}
-use Rattle.picture.specs.columns.{GivenAccess, given_access}
-use Rattle.picture.specs.columns.declared.accesses.ShownAccess.{ShownAccess}
+use Rattle.model.specs.plain_store.{Setup}
+use Rattle.picture.specs.picture_layout.{GivenAccess, given_access}
+use Rattle.picture.specs.picture_layout.declared.accesses.ShownAccess.{ShownAccess}
 use Rattle.picture.specs.declared.reads.Reads.{Reads as Mode}
 use Rattle.picture.specs.declared.reads.Reads.TheVariants as modes
-use Rattle.record.specs.{Entry, Past}
+use Rattle.model.specs.{Entry, Past}
 use Rattle.record_accesses.specs.{HasWatched, WatchState, WaveLimit, shown_access}
 use Rattle.draw.specs.{GivesAccess, WatchesAccesses, given_access_of, gives_access, marks_given, texts_given}
 

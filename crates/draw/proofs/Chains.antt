@@ -2,13 +2,13 @@
 use Rattle.std.proofs.Common.{◌≡◌, ◌≤◌, ℕ, suc, ◌+◌, List, [], ◌∷◌, ◌++◌, length, map, Option, None, Some, Contains, refl, ap, sym, ◌∙◌, add-zero, arith}
 use Rattle.std.proofs.lemmas.Grind.{flat_map-append}
 use Rattle.std.proofs.lemmas.List.{length-append, length-map}
-use Rattle.record.specs.plain_store.{Reply, Setup}
-use Rattle.record.specs.{Entry, Event, Mark, Past, Taken, entry_of, history, last_call, own, past_of, reply_taken, takings}
-use Rattle.record.specs.declared.marks.Mark.TheVariants as mark
-use Rattle.record.proofs.Width.{IsGood, is_good}
-use Rattle.course.specs.history_laws.{taken_with}
-use Rattle.course.proofs.history_laws.Places.{at_its_place, grows_by_the_taken}
-use Rattle.picture.specs.columns.{marks_in}
+use Rattle.model.specs.plain_store.{Reply, Setup}
+use Rattle.model.specs.{Entry, Event, Mark, Past, Taken, entry_of, history, last_call, own, past_of, reply_taken, takings}
+use Rattle.model.specs.declared.marks.Mark.TheVariants as mark
+use Rattle.model.proofs.Width.{IsGood, is_good}
+use Rattle.scenario_run.specs.history_laws.{taken_with}
+use Rattle.scenario_run.proofs.history_laws.Places.{at_its_place, grows_by_the_taken}
+use Rattle.picture.specs.picture_layout.{marks_in}
 use Rattle.draw.specs.{ChainIsTheHistory, Knot, knot_of, knots, numbered}
 
 -- a knot of what is taken

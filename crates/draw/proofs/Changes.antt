@@ -5,23 +5,23 @@ use Rattle.std.proofs.Math.Nat.{min-eq_left}
 use Rattle.std.proofs.Math.Seq.{take-append_seam}
 use Rattle.std.proofs.lemmas.List.Sums.{fold-append}
 use Rattle.std.specs.List.{list_any}
-use Rattle.record.specs.plain_store.{Command, Contents, Reply, Setup, opening_store}
-use Rattle.record.specs.plain_store.declared.commands.Command.TheVariants.{Ask}
-use Rattle.record.specs.{Entry, Event, Mark, Past, Refusal, Taken, added, call_number, called_in, calls_full, calls_in, entry_of, history, is_called, last_command, own, past_of, process_of, refused_at, stage, starts, store_after, takings}
-use Rattle.record.specs.declared.events.Event.TheVariants as event
-use Rattle.record.specs.declared.marks.Mark.TheVariants as mark
-use Rattle.record.specs.declared.refusals.Refusal.TheVariants.{CallsFull, NoProcess}
-use Rattle.record.proofs.Width.{IsGood, is_good}
-use Rattle.record.proofs.World.{entry-accepted}
-use Rattle.course.specs.laws.{Doing}
-use Rattle.course.specs.history_laws.{taken_with}
-use Rattle.course.proofs.history_laws.Places.{at_its_place, grows_by_the_taken}
-use Rattle.course.proofs.history_laws.Told.{says}
-use Rattle.course.proofs.history_laws.Took.{Says, begins, goes}
-use Rattle.course.proofs.laws.AtPlaces.{own-induction}
-use Rattle.course.proofs.laws.Frame.{own-other, own-own}
-use Rattle.course.proofs.laws.FrameEvents.{accepted}
-use Rattle.course.proofs.laws.Steps.{step_is}
+use Rattle.model.specs.plain_store.{Command, Contents, Reply, Setup, opening_store}
+use Rattle.model.specs.plain_store.declared.commands.Command.TheVariants.{Ask}
+use Rattle.model.specs.{Entry, Event, Mark, Past, Refusal, Taken, added, call_number, called_in, calls_full, calls_in, entry_of, history, is_called, last_command, own, past_of, process_of, refused_at, stage, starts, store_after, takings}
+use Rattle.model.specs.declared.events.Event.TheVariants as event
+use Rattle.model.specs.declared.marks.Mark.TheVariants as mark
+use Rattle.model.specs.declared.refusals.Refusal.TheVariants.{CallsFull, NoProcess}
+use Rattle.model.proofs.Width.{IsGood, is_good}
+use Rattle.model.proofs.World.{entry-accepted}
+use Rattle.scenario_run.specs.laws.{Doing}
+use Rattle.scenario_run.specs.history_laws.{taken_with}
+use Rattle.scenario_run.proofs.history_laws.Places.{at_its_place, grows_by_the_taken}
+use Rattle.scenario_run.proofs.history_laws.Told.{says}
+use Rattle.scenario_run.proofs.history_laws.Took.{Says, begins, goes}
+use Rattle.scenario_run.proofs.laws.AtPlaces.{own-induction}
+use Rattle.scenario_run.proofs.laws.Frame.{own-other, own-own}
+use Rattle.scenario_run.proofs.laws.FrameEvents.{accepted}
+use Rattle.scenario_run.proofs.laws.Steps.{step_is}
 use Rattle.draw.specs.{Changed, LastCall, SaysMark, after_call, call_after, called_by, change_by_call, change_of, marks_after, marks_back, next_number, says_marks, store_by}
 use Rattle.draw.proofs.TakenStores.{call_other, call_uncalled}
 use Rattle.draw.specs.{LinesSayTheHistory, StoreIsTheHistorys, after_taken, change_at, change_taken, says_mark}

@@ -1,7 +1,7 @@
 -- What the commands taken change: the value of a name among pairs, and a pair as it is shown.
 use Rattle.std.proofs.Common.{◌≡◌, ℕ, ◌+◌, true, false, List, drop, slice_get, Some, refl, ap, ◌∙◌}
 use Rattle.std.specs.Str.{bytes_eq}
-use Rattle.record.specs.plain_store.{Pair, value_at}
+use Rattle.model.specs.plain_store.{Pair, value_at}
 use Rattle.record_accesses.proofs.plain_store.OpeningPairs.{drop-next}
 
 -- the pair of the name that is sought

@@ -1,10 +1,10 @@
 -- A picture is drawn part by part.
 use Rattle.std.proofs.Common.{◌≡◌, ◌+◌, inr, refl, ℕ, false, suc, List, [], ◌∷◌, ◌++◌, is_some, length, Option, None, Some, ap, sym, subst, arith, true≢false}
-use Rattle.record.specs.plain_store.{Setup}
-use Rattle.record.specs.{Access, Entry, Mark, Past}
+use Rattle.model.specs.plain_store.{Setup}
+use Rattle.model.specs.{Access, Entry, Mark, Past}
 use Rattle.record_accesses.specs.{WatchState, entry_with}
-use Rattle.judge.specs.read_law.{entry_by}
-use Rattle.picture.specs.columns.{OverlappedRead}
+use Rattle.judge.specs.safe_monitor.{entry_by}
+use Rattle.picture.specs.picture_layout.{OverlappedRead}
 use Rattle.picture.specs.declared.reads.Reads.{Reads as Mode}
 use Rattle.draw.specs.{Canvas, Drawing, DrawsMarks, DrawsOn, DrawsPart, Gives, HasDrawn, IsAfterMarks, IsStoreBefore, Kept, Overhears, OverlapsHeard, Part, PartEntry, Recalls, AccessView, WatchesAccesses, entries_among, given_access_of, given_last, given_of, kept, lines_given, marks_back, observes, overlapped_by, reads_since, says_marks}
 use Rattle.draw.proofs.AccessItems.{neither, none_given, still_watches}

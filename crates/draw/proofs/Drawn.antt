@@ -1,12 +1,12 @@
 -- Markup that is written piece by piece, and what a page holds back.
 use Rattle.std.proofs.Common.{◌≡◌, ℕ, Bool, true, false, List, [], ◌∷◌, ◌++◌, Option, Some, None, refl, ap, sym, subst, ◌∙◌, append-nil, append_assoc}
 use Rattle.std.specs.Io.KnownBytes.{Appends}
-use Rattle.record.specs.{Mark}
+use Rattle.model.specs.{Mark}
 use Rattle.picture.specs.markup.{EndsAll, is_at_rest, lines_in, opens_in, tags_of}
 use Rattle.picture.proofs.markup.Lines.{lines_on, rests_on}
 use Rattle.picture.proofs.markup.Stacks.{opens_on}
 use Rattle.picture.specs.{Accesses, GivesRest, GoesOn, Item, Judges, Reads, SeenWindowed, Tells, ShownVerdict, Window, WindowPlan, band_text, bands_told, full_told, heights_told, judged_with, lines_if, lines_of_band, seen_verdict, shows_end, shows_line, titles_if, verdict_titles, windowed}
-use Rattle.picture.specs.columns.{OverlappedRead, RunLine, ShownAccess, given_access, text_of}
+use Rattle.picture.specs.picture_layout.{OverlappedRead, RunLine, ShownAccess, given_access, text_of}
 use Rattle.draw.specs.{Canvas, Draws, DrawsBands, DrawsLines, DrawsMarks, DrawsOn, DrawsRest, Fills, Gives, GivesAccess, GivesLine, GivesRead, IsAfterMarks, IsAround, Kept, Overhears, Says, TakenStore, Writes, given, kept, kept_at_first, lines_given, marks_after, says_marks, says_of, text_shown, texts_shown, waiting}
 use Rattle.draw.proofs.Giving.{both_given, lines_append, marks_after_append, says_append, shown_append, shows_saying, text_of_saying, waiting_append}
 use Rattle.draw.proofs.Written.{appends_both, appends_none}

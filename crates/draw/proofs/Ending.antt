@@ -1,15 +1,15 @@
 -- The end of a picture: its lines, its marks, and how it is drawn.
 use Rattle.std.proofs.Common.{◌≡◌, ℕ, false, true≢false, List, [], ◌∷◌, ◌++◌, length, map, ◌==◌, Option, Some, refl, ap, subst, sym, ◌∙◌, append-nil}
 use Rattle.bstr.specs.Text.{lines_from}
-use Rattle.record.specs.plain_store.{Setup}
+use Rattle.model.specs.plain_store.{Setup}
 use Rattle.draw.specs.{Canvas, DrawsLast, DrawsOn, DrawsRest, DrawsUpToVerdict, GivesLine, GivesRead, GivesVerdict, Overhears, Says, SaysEnd, end_given, given, kept, marks_given, marks_says, says_text, shown_of, shows_says, texts_given, texts_shown}
 use Rattle.draw.proofs.Drawn.{rest_behind}
 use Rattle.draw.proofs.Giving.{marks_append, marks_of_lines, marks_of_reads, shown_append, shown_of_reads, texts_append, texts_of_lines, texts_of_reads}
 use Rattle.picture.specs.{FirstBadEntry, SeenVerdict, ShownVerdict, Window, judged_with, lines_if, seen_verdict, shows_end}
-use Rattle.picture.specs.columns.{OverlappedRead}
+use Rattle.picture.specs.picture_layout.{OverlappedRead}
 use Rattle.picture.specs.declared.reads.Reads.{Reads as Mode}
 use Rattle.picture.specs.shown_verdict.{bad_entry, judged_text, title_of, report_lines, verdict_lines, verdict_of}
-use Rattle.record.specs.{Past}
+use Rattle.model.specs.{Past}
 
 -- the titles of the lines of a verdict
 titles_of_lines : (bad : Option FirstBadEntry) (lines : List (List ℕ)) (last : List ℕ) → map title_of (verdict_lines bad lines last) ≡ map judged_text lines ++ last ∷ []

@@ -4,12 +4,12 @@ use Rattle.std.proofs.lemmas.Grind.{flat_map-append}
 use Rattle.std.proofs.lemmas.List.{map-append, take_more}
 use Rattle.picture.specs.{Accesses, Item, Judges, Reads, Tells, Window, all_entries, lines_if, sayings, seen_verdict, shows_entry, shows_said}
 use Rattle.std.proofs.Math.Dec.{leb-zero}
-use Rattle.picture.specs.columns.{OverlappedRead, Saying, given_access, marks_said, saying_text}
-use Rattle.picture.specs.columns.declared.told.Saying.TheVariants.{Marked, Refused, Tired, Shown as ShowsStore, Ended, LockMarked, LockEnded}
+use Rattle.picture.specs.picture_layout.{OverlappedRead, Saying, given_access, marks_said, saying_text}
+use Rattle.picture.specs.picture_layout.declared.told.Saying.TheVariants.{Marked, Refused, Tired, Shown as ShowsStore, Ended, LockMarked, LockEnded}
 use Rattle.picture.specs.declared.reads.Reads.{Reads as Mode}
 use Rattle.picture.specs.declared.reads.Reads.TheVariants.{All, Hidden, Shown}
-use Rattle.record.specs.plain_store.{Setup}
-use Rattle.record.specs.{Mark}
+use Rattle.model.specs.plain_store.{Setup}
+use Rattle.model.specs.{Mark}
 use Rattle.draw.specs.{Gives, GivesAccess, GivesLine, GivesRead, GivesVerdict, Says, SaysEnd, SaysLockEnd, SaysLockMark, SaysMark, SaysRefusal, SaysStore, SaysTired, given, lines_given, mark_given, marks_after, marks_given, marks_says, says_marks, says_of, says_text, shown_of, shows_says, text_given, text_shown, texts_given, texts_shown, waiting}
 
 -- one more, by what is made of each

@@ -4,26 +4,26 @@ use Rattle.std.specs.Prelude.{fold}
 use Rattle.std.specs.List.{list_any}
 use Rattle.std.proofs.lemmas.Bool.{ltb-true}
 use Rattle.std.proofs.lemmas.Grind.{fold-append}
-use Rattle.record.specs.plain_store.{Setup, changes}
+use Rattle.model.specs.plain_store.{Setup, changes}
 use Rattle.record_accesses.proofs.plain_store.GoodSetups.{few-processes}
-use Rattle.record.specs.{Call, Entry, Event, Past, Stage, Wait, bits_with, entered_if_none, entry_of, has, history, inside, is_below, is_entered, is_fresh, is_last, lets_by, marks_of, past_of, reply, stage, stage_after, store_read, value_of, waits_of}
-use Rattle.record.specs.declared.marks.Mark.TheVariants.{Taken}
-use Rattle.record.specs.declared.stages.Stage.TheVariants.{Idle, Doorway, Waiting, Inside, Leaving, Settling, Down}
-use Rattle.record.specs.Parts.{Part, Lowers, Waits, AsksImage, first_marks, last_marks}
-use Rattle.record.proofs.Staging.{stage-placed}
-use Rattle.record.proofs.Width.{IsGood, is_good}
-use Rattle.course.specs.laws.{call, doing, is_inside, ticket_told}
-use Rattle.course.proofs.laws.Always.{inv_of}
-use Rattle.course.proofs.laws.AtPlaces.{any-stepping}
-use Rattle.course.proofs.laws.DoorwayParts.{both}
-use Rattle.course.proofs.laws.FrameEvents.{accepted}
-use Rattle.course.proofs.laws.FrameInside.{inside-is}
-use Rattle.course.proofs.laws.Invariant.{Inv}
-use Rattle.course.proofs.laws.Theorems.{Enters, enters, mutual_exclusion, of_entered}
+use Rattle.model.specs.{Call, Entry, Event, Past, Stage, Wait, bits_with, entered_if_none, entry_of, has, history, inside, is_below, is_entered, is_fresh, is_last, lets_by, marks_of, past_of, reply, stage, stage_after, store_read, value_of, waits_of}
+use Rattle.model.specs.declared.marks.Mark.TheVariants.{Taken}
+use Rattle.model.specs.declared.stages.Stage.TheVariants.{Idle, Doorway, Waiting, Inside, Leaving, Settling, Down}
+use Rattle.model.specs.Parts.{Part, Lowers, Waits, AsksImage, first_marks, last_marks}
+use Rattle.model.proofs.Staging.{stage-placed}
+use Rattle.model.proofs.Width.{IsGood, is_good}
+use Rattle.scenario_run.specs.laws.{call, doing, is_inside, ticket_told}
+use Rattle.scenario_run.proofs.laws.Always.{inv_of}
+use Rattle.scenario_run.proofs.laws.AtPlaces.{any-stepping}
+use Rattle.scenario_run.proofs.laws.DoorwayParts.{both}
+use Rattle.scenario_run.proofs.laws.FrameEvents.{accepted}
+use Rattle.scenario_run.proofs.laws.FrameInside.{inside-is}
+use Rattle.scenario_run.proofs.laws.Invariant.{Inv}
+use Rattle.scenario_run.proofs.laws.Theorems.{Enters, enters, mutual_exclusion, of_entered}
 use Rattle.picture.specs.{Accesses, Item, Judges, Reads, Tells, sayings, state_after}
-use Rattle.picture.specs.columns.{StagesAreTheRecords, State, at_first, before_in, line_of_first, marks_in, stage_among, state_told, ticket_in}
-use Rattle.course.proofs.laws.FirstInLine.{first_inside}
-use Rattle.course.proofs.laws.HeldTickets.{insiders}
+use Rattle.picture.specs.picture_layout.{StagesAreTheRecords, State, at_first, before_in, line_of_first, marks_in, stage_among, state_told, ticket_in}
+use Rattle.scenario_run.proofs.laws.FirstInLine.{first_inside}
+use Rattle.scenario_run.proofs.laws.HeldTickets.{insiders}
 use Rattle.draw.specs.{IsFirstInLine, WaitsNoMore, WhoEntersIsFirst, WhoIsInsideIsDrawnFirst, WhoIsInsideIsFirst, state_of_lines}
 use Rattle.draw.proofs.Insides as insides
 use Rattle.draw.proofs.LineOrder.{Below, HasTicket, stands_before}

@@ -1,14 +1,14 @@
 -- A process with the stage `inside` is inside, and no two are.
 use Rattle.std.proofs.Common.{◌≡◌, ◌<◌, ℕ, ◌==◌, Bool, true, false, cond, List, [], ◌∷◌, flat_map, fold, Ok, refl, sym, ◌∙◌, arith}
-use Rattle.record.specs.plain_store.{Setup, checked}
+use Rattle.model.specs.plain_store.{Setup, checked}
 use Rattle.record_accesses.proofs.plain_store.GoodSetups.{few-processes}
-use Rattle.record.specs.{Mark, Past, Stage, inside, inside_after, past_of, stage, stage_after}
-use Rattle.record.specs.declared.marks.Mark.TheVariants as mark
-use Rattle.record.specs.declared.stages.Stage.TheVariants.{Idle, Inside}
-use Rattle.record.proofs.Width.{is_good}
-use Rattle.course.proofs.laws.Always.{inv_of}
-use Rattle.course.proofs.laws.Theorems.{mutual_exclusion}
-use Rattle.picture.specs.columns.{Saying, StagesAreTheRecords, marks_in, marks_said, stage_among, stages_after}
+use Rattle.model.specs.{Mark, Past, Stage, inside, inside_after, past_of, stage, stage_after}
+use Rattle.model.specs.declared.marks.Mark.TheVariants as mark
+use Rattle.model.specs.declared.stages.Stage.TheVariants.{Idle, Inside}
+use Rattle.model.proofs.Width.{is_good}
+use Rattle.scenario_run.proofs.laws.Always.{inv_of}
+use Rattle.scenario_run.proofs.laws.Theorems.{mutual_exclusion}
+use Rattle.picture.specs.picture_layout.{Saying, StagesAreTheRecords, marks_in, marks_said, stage_among, stages_after}
 use Rattle.draw.specs.{OneIsInside}
 
 -- who has left is not inside

@@ -2,12 +2,12 @@
 use Rattle.std.proofs.Common.{◌≡◌, ℕ, ◌+◌, ◌≤◌, nat_lt, Bool, true, false, if◌then◌else◌, List, [], ◌∷◌, ◌++◌, length, reverse, Option, Some, None, Result, Ok, Err, IfSome, refl, ap, sym, subst, ◌∙◌, append-nil, append_assoc, arith}
 use Rattle.std.proofs.lemmas.List.{length-reverse, reverse-append}
 use Rattle.std.specs.Option.{option_to_list}
-use Rattle.record.specs.plain_store.{Setup}
+use Rattle.model.specs.plain_store.{Setup}
 use Rattle.std.specs.Io.KnownBytes.{IsAtEnd, prepend_known}
 use Rattle.scenario.specs.files.{Fault, FaultKind, Given, LineState, TakesNext, UnlessMemory, coming, unless_ended, words_of, words_read}
 use Rattle.scenario.specs.files.declared.faults.Fault.TheVariants as fault
 use Rattle.scenario.specs.files.declared.faults.FaultKind.TheVariants.{NotFirst, TooLong}
-use Rattle.record.specs.{Entry, Past}
+use Rattle.model.specs.{Entry, Past}
 use Rattle.judge.specs.record_file.{Progress, cleared, entry_in, line_read, record_grammar, record_of}
 use Rattle.judge.specs.record_file.scenario.{Progress as Head}
 use Rattle.judge.specs.{IsInputFault, IsOfRecord, Telling, number_in, say_entry}

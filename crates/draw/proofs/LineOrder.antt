@@ -2,7 +2,7 @@
 use Rattle.std.proofs.Common.{◌≡◌, ◌≢◌, ◌⊎◌, inl, inr, ◌<◌, ◌≤◌, ℕ, zero, suc, ◌==◌, nat_le, Bool, true, false, cond, List, [], ◌∷◌, Contains, refl, ap, sym, subst, ◌∙◌, arith}
 use Rattle.std.specs.List.{AllByRecursion}
 use Rattle.std.proofs.lemmas.Bool.{cases_eq, eqb-false, leb-false, leb-true, ne_eqb}
-use Rattle.picture.specs.columns.{State, before_in, line_of_first, lined_up, ticket_in}
+use Rattle.picture.specs.picture_layout.{State, before_in, line_of_first, lined_up, ticket_in}
 
 -- x has the lower ticket; or the same one, and the lower number
 abbrev pub Below : State → ℕ → ℕ → Type 0

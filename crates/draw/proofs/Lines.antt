@@ -2,11 +2,11 @@
 use Rattle.std.proofs.Common.{◌≡◌, ℕ, ◌≤◌, Bool, true, false, List, [], ◌∷◌, ◌++◌, length, reverse, Option, Some, None, Ok, refl, ap, sym, subst, ◌∙◌, append-nil, arith}
 use Rattle.std.proofs.lemmas.List.{reverse-append}
 use Rattle.std.specs.Option.{option_to_list}
-use Rattle.record.specs.plain_store.{Setup}
+use Rattle.model.specs.plain_store.{Setup}
 use Rattle.scenario.specs.files.{words_of, words_read}
 use Rattle.picture.specs.{Form}
 use Rattle.picture.specs.declared.reads.PictureOptions.{PictureOptions}
-use Rattle.record.specs.{Access, Entry, Past}
+use Rattle.model.specs.{Access, Entry, Past}
 use Rattle.judge.specs.record_file.{Progress, cleared, entry_in, entry_words, is_entry, line_read, record_grammar, step_entry}
 use Rattle.judge.specs.record_file.scenario.{Progress as Head, spaced}
 use Rattle.judge.proofs.record_file.EntryLines.{entry_of_line}

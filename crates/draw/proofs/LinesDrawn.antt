@@ -1,12 +1,12 @@
 -- A run is drawn line by line.
 use Rattle.std.proofs.Common.{◌≡◌, ℕ, suc, ◌+◌, ◌-◌, List, [], ◌∷◌, ◌++◌, length, Option, None, refl, ap, sym, subst, ◌∙◌, append-nil, append_assoc, arith}
-use Rattle.record.specs.plain_store.{Setup}
-use Rattle.record.specs.{Past}
+use Rattle.model.specs.plain_store.{Setup}
+use Rattle.model.specs.{Past}
 use Rattle.scenario.specs.{Line}
 use Rattle.picture.specs.{WindowPlan}
-use Rattle.course.specs.{CourseState, Follows, Happening, Run, Summary, past_after, run_after, run_at_start, runs, summary_of, text_of}
-use Rattle.course.specs.Writing.{Counts}
-use Rattle.course.proofs.Onwards.{Onward}
+use Rattle.scenario_run.specs.{CourseState, Follows, Happening, Run, Summary, past_after, run_after, run_at_start, runs, summary_of, text_of}
+use Rattle.scenario_run.specs.Writing.{Counts}
+use Rattle.scenario_run.proofs.Onwards.{Onward}
 use Rattle.draw.specs.{Advances, DrawsBands, DrawsLast, DrawsLine, DrawsOn, Gives, HasDrawn, HasOpening, Kept, Recalls, RunDrawing, AccessView, entries_among, first_line, given_at_end, given_by, given_from, given_last, kept, kept_at_first, lines_given, parts_of, reads_since, says_end, store_before, store_words, tally}
 use Rattle.draw.proofs.Drawings.{recalls_at}
 use Rattle.draw.proofs.Drawn.{draws_bands, draws_on_both, draws_on_none}

@@ -2,16 +2,16 @@
 use Rattle.std.proofs.Common.{◌≡◌, ℕ, ◌<◌, ◌==◌, ◌&&◌, Bool, true, false, cond, get_or, List, [], ◌∷◌, ◌++◌, is_some, length, Option, None, Some, IfSome, Ok, true≢false, refl, ap, sym, subst, ◌∙◌, append-nil, arith, inl, inr}
 use Rattle.std.proofs.lemmas.Bool.{cases_lt}
 use Rattle.std.proofs.lemmas.Bool.Decides.{nat_tests}
-use Rattle.record.specs.{Access, Entry, Past, begins_read, moves_of, same_bit}
-use Rattle.record.specs.safe_bit.{Move}
-use Rattle.record.specs.safe_bit.declared.Move.TheVariants.{BeginRead}
-use Rattle.record.specs.plain_store.declared.setups.Setup.{Setup as Given}
-use Rattle.record.specs.plain_store.{checked}
+use Rattle.model.specs.{Access, Entry, Past, begins_read, moves_of, same_bit}
+use Rattle.model.specs.safe_bit.{Move}
+use Rattle.model.specs.safe_bit.declared.Move.TheVariants.{BeginRead}
+use Rattle.model.specs.plain_store.declared.setups.Setup.{Setup as Given}
+use Rattle.model.specs.plain_store.{checked}
 use Rattle.record_accesses.proofs.plain_store.GoodSetups.{few-processes}
-use Rattle.judge.specs.read_law.{HasHeard, WatchState, ends_overlapped}
-use Rattle.judge.specs.read_law.laws.{IsThere}
-use Rattle.judge.proofs.read_law.Hears.{heard_none}
-use Rattle.picture.specs.columns.{OverlappedRead}
+use Rattle.judge.specs.safe_monitor.{HasHeard, WatchState, ends_overlapped}
+use Rattle.judge.specs.safe_monitor.laws.{IsThere}
+use Rattle.judge.proofs.safe_monitor.Hears.{heard_none}
+use Rattle.picture.specs.picture_layout.{OverlappedRead}
 use Rattle.picture.specs.declared.reads.Reads.{Reads as Mode}
 use Rattle.picture.specs.declared.reads.Reads.TheVariants.{All, Hidden, Shown}
 use Rattle.draw.specs.{BegunRead, Hears, Overhears, OverlapsHeard, TellsEnd, TellsOver, Watches, begun_with, ended_of, first_three, is_begin, is_there, overlapped_by, overlapped_with, read_begun, read_ended}

@@ -1,18 +1,18 @@
 -- What the memory of a run reports of an access is whether it ends an overlapped read.
 use Rattle.std.proofs.Common.{◌≡◌, Bool, false, List, [], Option, None, Some, IfSome, refl, ap, ◌∙◌}
-use Rattle.record.specs.plain_store.{Setup}
-use Rattle.record.specs.{Access, Entry, Event, Past, entry_of, moves_of, past_of}
-use Rattle.record.specs.declared.events.Event.TheVariants.{Step}
-use Rattle.record.specs.safe_bit.{Move}
-use Rattle.record.specs.safe_bit.declared.Move.TheVariants.{EndRead}
-use Rattle.record.proofs.Width.{IsGood, is_good}
+use Rattle.model.specs.plain_store.{Setup}
+use Rattle.model.specs.{Access, Entry, Event, Past, entry_of, moves_of, past_of}
+use Rattle.model.specs.declared.events.Event.TheVariants.{Step}
+use Rattle.model.specs.safe_bit.{Move}
+use Rattle.model.specs.safe_bit.declared.Move.TheVariants.{EndRead}
+use Rattle.model.proofs.Width.{IsGood, is_good}
 use Rattle.picture.specs.declared.reads.Reads.{Reads as Mode}
 use Rattle.picture.specs.declared.reads.Reads.TheVariants.{All, Hidden, Shown}
-use Rattle.judge.specs.read_law.{ends_overlapped}
+use Rattle.judge.specs.safe_monitor.{ends_overlapped}
 use Rattle.draw.specs.{TellsEnd, TellsOver}
-use Rattle.course.specs.world.{ends_overlapped as ends_in_world, ends_overlapped_read}
-use Rattle.course.specs.{Happening, Stepped, StepsOn, past_after, tried}
-use Rattle.course.proofs.laws.HeldThere.{access_there}
+use Rattle.scenario_run.specs.world.{ends_overlapped as ends_in_world, ends_overlapped_read}
+use Rattle.scenario_run.specs.{Happening, Stepped, StepsOn, past_after, tried}
+use Rattle.scenario_run.proofs.laws.HeldThere.{access_there}
 
 -- the memory and a watch define it by the same moves
 ends_same : (moves : List Move) (how : Move) → ends_in_world moves how ≡ ends_overlapped moves how

@@ -1,9 +1,9 @@
 -- The lines and the marks of what parts give.
 use Rattle.std.proofs.Common.{◌≡◌, ℕ, List, [], ◌∷◌, ◌++◌, flat_map, length, map, refl, ap, sym, subst, ◌∙◌, append-nil, append_assoc}
-use Rattle.record.specs.plain_store.{Setup}
-use Rattle.record.specs.{Mark, Past}
-use Rattle.picture.specs.columns.{OverlappedRead}
-use Rattle.picture.specs.columns.run_lines.{marked_text}
+use Rattle.model.specs.plain_store.{Setup}
+use Rattle.model.specs.{Mark, Past}
+use Rattle.picture.specs.picture_layout.{OverlappedRead}
+use Rattle.picture.specs.picture_layout.run_lines.{marked_text}
 use Rattle.draw.specs.{Gives, Part, PartEntry, PartLine, AccessView, entries_among, given_access_of, given_all, given_last, given_of, lines_given, marks_back, marks_given, marks_says, overlapped_by, parts_texts, reads_since, Says, says_marks, says_text, texts_given}
 use Rattle.draw.proofs.AccessItems.{no_marks, no_texts}
 use Rattle.draw.proofs.Giving.{marks_append, marks_of_lines, marks_of_says, texts_append, texts_of_lines}

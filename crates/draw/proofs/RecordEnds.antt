@@ -7,7 +7,7 @@ use Rattle.scenario.specs.files.declared.faults.Fault.TheVariants as fault
 use Rattle.scenario.specs.files.declared.faults.FaultKind.TheVariants.{NotFirst, TooLong}
 use Rattle.picture.specs.{Form}
 use Rattle.picture.specs.declared.reads.PictureOptions.{PictureOptions}
-use Rattle.record.specs.{Entry, Past}
+use Rattle.model.specs.{Entry, Past}
 use Rattle.judge.specs.record_file.{Progress, cleared, entry_in, line_read, record_of, rest_read}
 use Rattle.draw.specs.{failed_write}
 use Rattle.draw.specs.{AreReadBy, DrawnEntry, DrawsAllBands, EndsAsked, GoesOn, IsDrawFault, LineStops, RecordDrawing, Sheet, Stands, count_by, entries_of, long_view}

@@ -1,10 +1,10 @@
 -- The lines and the marks of what a record gives.
 use Rattle.std.proofs.Common.{◌≡◌, ◌+◌, ℕ, List, [], ◌∷◌, ◌++◌, flat_map, length, map, reverse, refl, ap, sym, ◌∙◌, append-nil}
-use Rattle.record.specs.plain_store.{Setup}
-use Rattle.record.specs.{Mark, Past}
+use Rattle.model.specs.plain_store.{Setup}
+use Rattle.model.specs.{Mark, Past}
 use Rattle.judge.specs.record_file.{Said}
 use Rattle.picture.specs.{Item, sayings}
-use Rattle.picture.specs.columns.{marks_in, marks_said}
+use Rattle.picture.specs.picture_layout.{marks_in, marks_said}
 use Rattle.draw.specs.{Says, SaysEnd, AccessView, entries_among, entry_parts, given, given_all, marks_back, marks_given, parts_texts, reads_since, record_end, record_gives, record_lines, source_of, taken_by, texts_given}
 use Rattle.draw.proofs.Ending.{marks_of_end, texts_of_end}
 use Rattle.draw.proofs.Giving.{marks_append, marks_of_items, texts_append}

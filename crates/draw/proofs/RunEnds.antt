@@ -7,7 +7,7 @@ use Rattle.scenario.specs.files.Engines.{Ran, Streams}
 use Rattle.scenario.specs.files.declared.faults.Fault.TheVariants.{Line, Memory, Read, Write}
 use Rattle.scenario.proofs.CutTexts.{scenario_tells_at_limit}
 use Rattle.scenario.specs.{Script, scenario_of}
-use Rattle.course.specs.{ended, replay_text, replayed}
+use Rattle.scenario_run.specs.{ended, replay_text, replayed}
 use Rattle.picture.specs.{Form}
 use Rattle.picture.specs.declared.reads.PictureOptions.{PictureOptions}
 use Rattle.draw.specs.{IsWriteFault, failed_write}

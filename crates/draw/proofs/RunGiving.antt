@@ -1,7 +1,7 @@
 -- How many lines a printed scenario has before its first one.
 use Rattle.std.proofs.Common.{◌≡◌, ℕ, ◌+◌, ◌++◌, length, map, arith}
 use Rattle.std.proofs.lemmas.List.{length-append, length-map}
-use Rattle.record.specs.plain_store.{Setup}
+use Rattle.model.specs.plain_store.{Setup}
 use Rattle.scenario.specs.{open_words, setup_words}
 use Rattle.draw.specs.{first_line}
 

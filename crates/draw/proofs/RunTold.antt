@@ -2,15 +2,15 @@
 use Rattle.std.proofs.Common.{◌≡◌, ℕ, suc, ◌+◌, ◌-◌, List, [], ◌∷◌, ◌++◌, flat_map, length, map, Option, None, Some, refl, ap, sym, ◌∙◌, append-nil, append_assoc, arith}
 use Rattle.std.proofs.lemmas.Grind.{flat_map-append}
 use Rattle.std.proofs.lemmas.List.{length-append}
-use Rattle.record.specs.plain_store.{Setup}
-use Rattle.record.specs.{Entry, Mark, Past, Refusal, added, entry_of, process_of, refused}
-use Rattle.record.specs.declared.refusals.Refusal.TheVariants.{NoProcess}
+use Rattle.model.specs.plain_store.{Setup}
+use Rattle.model.specs.{Entry, Mark, Past, Refusal, added, entry_of, process_of, refused}
+use Rattle.model.specs.declared.refusals.Refusal.TheVariants.{NoProcess}
 use Rattle.scenario.specs.{Line, Script}
-use Rattle.course.specs.{Happening, Lacks, Looks, Run, Tires, Tries, end_line, entry_text, happenings, mark_line, newest_store, newest_words, past_after, refused_line, replayed, run_after, run_at_start, runs, summary_of, text_at, text_of}
-use Rattle.course.specs.run_lines.{marked_text, refused_text, shown_text, tired_text, with_end}
-use Rattle.course.proofs.Grows.{Grows, line_grows}
+use Rattle.scenario_run.specs.{Happening, Lacks, Looks, Run, Tires, Tries, end_line, entry_text, happenings, mark_line, newest_store, newest_words, past_after, refused_line, replayed, run_after, run_at_start, runs, summary_of, text_at, text_of}
+use Rattle.scenario_run.specs.run_lines.{marked_text, refused_text, shown_text, tired_text, with_end}
+use Rattle.scenario_run.proofs.Grows.{Grows, line_grows}
 use Rattle.picture.specs.{Accesses, Item, Judges, Reads, Tells, sayings, seen_verdict, verdict_titles}
-use Rattle.picture.specs.columns.{given_access, marks_in, marks_said}
+use Rattle.picture.specs.picture_layout.{given_access, marks_in, marks_said}
 use Rattle.draw.specs.{Gives, GivesAccess, GivesLine, GivesRead, GivesVerdict, Part, AccessView, ended_lines, entries_among, first_line, given, given_at_end, given_by, given_from, given_last, given_of, lines_told, marks_given, part_of_event, parts_at, parts_of, parts_texts, reads_since, run_given, says_end, says_of, texts_given}
 use Rattle.draw.proofs.Giving.{marks_append, marks_of_items, marks_of_lines, text_of_saying, texts_append, texts_of_lines}
 use Rattle.draw.proofs.PartsRead.{marks_at, of_last, of_more, of_none, parts_marks, texts_at}

@@ -1,7 +1,7 @@
 -- The picture of a record goes on, entry by entry.
 use Rattle.std.proofs.Common.{◌≡◌, ℕ, ◌+◌, List, [], ◌∷◌, length, Option, None, Some, ap, sym, subst, ◌∙◌, arith}
-use Rattle.record.specs.plain_store.{Setup}
-use Rattle.record.specs.{Entry, Past}
+use Rattle.model.specs.plain_store.{Setup}
+use Rattle.model.specs.{Entry, Past}
 use Rattle.judge.specs.record_file.{Progress}
 use Rattle.picture.specs.{Form, page_front, page_names}
 use Rattle.picture.specs.declared.page.Form.TheVariants as form

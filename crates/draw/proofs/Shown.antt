@@ -1,6 +1,6 @@
 -- The words of a store that is empty, or not.
 use Rattle.std.proofs.Common.{◌≡◌, ℕ, List, [], ◌∷◌, length, refl, arith}
-use Rattle.record.specs.plain_store.{Pair, store_words}
+use Rattle.model.specs.plain_store.{Pair, store_words}
 use Rattle.draw.specs.{words_by}
 
 pub words_none : (pairs : List Pair) → length pairs ≡ 0 → [] ≡ words_by pairs

@@ -2,12 +2,12 @@
 use Rattle.std.proofs.Common.{◌≡◌, ◌<◌, ◌≤◌, ℕ, suc, ◌+◌, Bool, true, false, cond, nat_le, List, [], ◌∷◌, ◌++◌, length, reverse, slice_index_or, take, Option, refl, ap, sym, subst, ◌∙◌, arith}
 use Rattle.std.proofs.lemmas.Bool.{le-leb, lt-leb}
 use Rattle.std.proofs.lemmas.List.{length-reverse, reverse-append, reverse-reverse, take_more}
-use Rattle.record.specs.plain_store.{Setup}
+use Rattle.model.specs.plain_store.{Setup}
 use Rattle.picture.specs.{Form, Window}
 use Rattle.picture.specs.declared.reads.PictureOptions.{PictureOptions}
 use Rattle.picture.specs.declared.reads.Reads.{Reads as Mode}
 use Rattle.picture.specs.declared.reads.Reads.TheVariants as modes
-use Rattle.record.specs.{Entry, Past}
+use Rattle.model.specs.{Entry, Past}
 use Rattle.draw.specs.{AreDrawn, AreStored, DrawsEntry, DrawsLast, EndsAsked, EndsAt, HasOpening, IsDecided, IsDrawn, RecordDrawing, SaysEnd, AccessView, full_view, is_short, long_view, most_asked, most_stored, record_view, short_view, source_of, entry_parts, store_before, store_words}
 use Rattle.draw.proofs.RecordGiving.{entries_of_record}
 use Rattle.draw.proofs.Sheeted.{drawn_end, drawn_entry}

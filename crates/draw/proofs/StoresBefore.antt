@@ -2,8 +2,8 @@
 use Rattle.std.proofs.Common.{◌≡◌, ◌<◌, ◌≤◌, ◌⊎◌, inl, inr, ℕ, Bool, true, false, ◌&&◌, not, nat_le, nat_lt, List, [], ◌∷◌, length, refl, ap, sym, subst, ◌∙◌, arith, true≢false}
 use Rattle.std.proofs.lemmas.Bool.{cases_lt, le-leb, lt-ltb, ltb-true}
 use Rattle.std.proofs.lemmas.Bool.Decides.{nat_tests}
-use Rattle.record.specs.plain_store.{Setup}
-use Rattle.record.specs.{Entry, Mark, Past}
+use Rattle.model.specs.plain_store.{Setup}
+use Rattle.model.specs.{Entry, Mark, Past}
 use Rattle.picture.specs.{Window}
 use Rattle.draw.specs.{IsAfterMarks, IsStoreBefore, KeepsStore, StoreBefore, TakenStore, entries_before, marks_after, marks_back, store_before, store_by, store_words}
 

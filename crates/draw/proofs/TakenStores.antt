@@ -4,10 +4,10 @@ use Rattle.std.proofs.lemmas.Bool.{cases_lt}
 use Rattle.std.proofs.lemmas.Bool.Decides.{nat_tests}
 use Rattle.std.proofs.lemmas.List.{get_or-set_same, get_or-set_other}
 use Rattle.std.proofs.lemmas.Option.{get_or_from_slice_get, slice_get-get_or, slice_get_within}
-use Rattle.record.specs.plain_store.{Command, Contents, Setup}
-use Rattle.record.specs.{Mark, is_called}
-use Rattle.record.specs.declared.marks.Mark.TheVariants as mark
-use Rattle.picture.specs.columns.{places_marked}
+use Rattle.model.specs.plain_store.{Command, Contents, Setup}
+use Rattle.model.specs.{Mark, is_called}
+use Rattle.model.specs.declared.marks.Mark.TheVariants as mark
+use Rattle.picture.specs.picture_layout.{places_marked}
 use Rattle.draw.specs.{Changed, IsAfterMarks, LastCall, TakenStore, after_call, call_after, called_by, change_by_call, change_of, change_with, next_number, no_call, store_by, store_with, taken_by}
 
 -- where nothing is looked up, there is nothing

@@ -3,19 +3,19 @@ use Rattle.std.proofs.Common.{◌≡◌, ◌≢◌, ℕ, ◌==◌, Bool, true, f
 use Rattle.std.specs.Prelude.{fold}
 use Rattle.std.specs.List.{list_any}
 use Rattle.std.proofs.lemmas.Grind.{fold-append}
-use Rattle.record.specs.plain_store.{Setup, changes}
-use Rattle.record.specs.{Call, Entry, Event, Mark, Past, Stage, Wait, bits_with, entered_if_none, entry_of, history, is_fresh, is_last, lets_by, marks_of, past_of, placed, reply, stage, stage_after, store_read, value_of, waits_of}
-use Rattle.record.specs.declared.marks.Mark.TheVariants as mark
-use Rattle.record.specs.declared.stages.Stage.TheVariants as stages
-use Rattle.record.specs.Parts.{Part, Lowers, Refuses, Waits, AsksImage, WritesCommit, Clears, first_marks, last_marks, stage_of}
-use Rattle.record.proofs.Width.{IsGood}
-use Rattle.course.specs.laws.{call, doing, ticket_after, ticket_told}
-use Rattle.course.proofs.laws.AtPlaces.{IsOfLock, any-closing, any-placed, own-induction}
-use Rattle.course.proofs.laws.Doings as doings
-use Rattle.course.proofs.laws.Frame.{Happens, a_call, a_withdrawal, a_failure, a_restart, a_step, a_closing}
-use Rattle.course.proofs.laws.FrameEvents.{accepted}
-use Rattle.course.proofs.laws.FrameInside.{stage-is}
-use Rattle.picture.specs.columns.{marks_in}
+use Rattle.model.specs.plain_store.{Setup, changes}
+use Rattle.model.specs.{Call, Entry, Event, Mark, Past, Stage, Wait, bits_with, entered_if_none, entry_of, history, is_fresh, is_last, lets_by, marks_of, past_of, placed, reply, stage, stage_after, store_read, value_of, waits_of}
+use Rattle.model.specs.declared.marks.Mark.TheVariants as mark
+use Rattle.model.specs.declared.stages.Stage.TheVariants as stages
+use Rattle.model.specs.Parts.{Part, Lowers, Refuses, Waits, AsksImage, WritesCommit, Clears, first_marks, last_marks, stage_of}
+use Rattle.model.proofs.Width.{IsGood}
+use Rattle.scenario_run.specs.laws.{call, doing, ticket_after, ticket_told}
+use Rattle.scenario_run.proofs.laws.AtPlaces.{IsOfLock, any-closing, any-placed, own-induction}
+use Rattle.scenario_run.proofs.laws.Doings as doings
+use Rattle.scenario_run.proofs.laws.Frame.{Happens, a_call, a_withdrawal, a_failure, a_restart, a_step, a_closing}
+use Rattle.scenario_run.proofs.laws.FrameEvents.{accepted}
+use Rattle.scenario_run.proofs.laws.FrameInside.{stage-is}
+use Rattle.picture.specs.picture_layout.{marks_in}
 
 -- what is shown after a mark
 abbrev pub shown_after : ℕ → Mark → ℕ

@@ -1,15 +1,15 @@
 -- What a turn tells is drawn as the part that happens.
 use Rattle.std.proofs.Common.{◌≡◌, ◌+◌, ℕ, zero, suc, false, refl, List, [], ◌∷◌, ◌++◌, Option, None, Some, ap, sym, subst, ◌∙◌, arith, add-zero}
-use Rattle.record.specs.plain_store.{Setup}
-use Rattle.record.specs.{Access, Entry, Event, Past, Refusal, added, process_of, refused}
-use Rattle.record.specs.declared.events.Event.TheVariants.{Step}
-use Rattle.record.proofs.Width.{is_good}
-use Rattle.judge.specs.read_law.{entry_by}
+use Rattle.model.specs.plain_store.{Setup}
+use Rattle.model.specs.{Access, Entry, Event, Past, Refusal, added, process_of, refused}
+use Rattle.model.specs.declared.events.Event.TheVariants.{Step}
+use Rattle.model.proofs.Width.{is_good}
+use Rattle.judge.specs.safe_monitor.{entry_by}
 use Rattle.picture.specs.declared.reads.Reads.{Reads as Mode}
-use Rattle.course.specs.{Happening, Happens, IsQuiet, Lacks, Looks, PassQuietly, Stepped, StepsOn, TellsOf, Tires, Told, Tries, counted, entry_made, newest_words, past_after, tried}
-use Rattle.course.specs.Writing.{Counts}
-use Rattle.course.specs.declared.told.Told.TheVariants as told
-use Rattle.course.proofs.Counting.{counts_heard, counts_passed, counts_stepped}
+use Rattle.scenario_run.specs.{Happening, Happens, IsQuiet, Lacks, Looks, PassQuietly, Stepped, StepsOn, TellsOf, Tires, Told, Tries, counted, entry_made, newest_words, past_after, tried}
+use Rattle.scenario_run.specs.Writing.{Counts}
+use Rattle.scenario_run.specs.declared.told.Told.TheVariants as told
+use Rattle.scenario_run.proofs.Counting.{counts_heard, counts_passed, counts_stepped}
 use Rattle.draw.specs.{Drawing, DrawsPart, DrawsTold, HasDrawn, HasDrawnRun, Kept, Part, PartEntry, PartLine, Recalls, RunDrawing, SaysRefusal, SaysStore, SaysTired, TellsEnd, TellsReads, AccessView, entries_among, kept, observes, part_of_event, part_told, parts_at, parts_of, tally}
 use Rattle.draw.proofs.Drawings.{drawn_more, drawn_none, drawn_quiet, recalls_passed}
 use Rattle.draw.proofs.OverlapsTold.{made_tells, stepped_tells}

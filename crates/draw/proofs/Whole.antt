@@ -5,8 +5,8 @@ use Rattle.std.specs.Io.KnownBytes.{Appends, IsAtEnd, Keeps}
 use Rattle.scenario.specs.files.Engines.{Streams}
 use Rattle.scenario.specs.files.{Fault}
 use Rattle.scenario.specs.files.declared.faults.Fault.TheVariants as fault
-use Rattle.record.specs.plain_store.{Setup}
-use Rattle.record.specs.{Entry, Past}
+use Rattle.model.specs.plain_store.{Setup}
+use Rattle.model.specs.{Entry, Past}
 use Rattle.judge.specs.record_file.{Said}
 use Rattle.judge.specs.{IsOfRecord, numbers_of}
 use Rattle.draw.specs.{DrawsBands, EndsPage, IsAround, IsWriteFault, Writes, failed_write, plan_of, store_before, store_words}

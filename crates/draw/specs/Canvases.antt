@@ -1,10 +1,10 @@
 -- What was written of a canvas, what is read back of it, and what it keeps.
 use Rattle.std.specs.Prelude.{◌≡◌, ℕ, true, List, [], ◌++◌, Option}
 use Rattle.std.specs.Io.KnownBytes.{Appends}
-use Rattle.record.specs.plain_store.{Setup, opening_store}
-use Rattle.record.specs.{Mark, Past}
+use Rattle.model.specs.plain_store.{Setup, opening_store}
+use Rattle.model.specs.{Mark, Past}
 use Rattle.picture.specs.{Form, Item, SeenWindowed, Window, WindowPlan, bands_told, full_told, heights_told, held, judged_with, seen_windowed, windowed}
-use Rattle.picture.specs.columns.{OverlappedRead}
+use Rattle.picture.specs.picture_layout.{OverlappedRead}
 use Rattle.picture.specs.{ShownVerdict}
 use Rattle.picture.specs.declared.reads.Reads.{Reads as Mode}
 use Rattle.picture.specs.declared.subjects.Subject.TheVariants.{Run, Trace}

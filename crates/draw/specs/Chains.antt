@@ -1,9 +1,9 @@
 -- The chain of the history: what the lines of a run tell of the commands taken.
 use Rattle.std.specs.Prelude.{◌≡◌, ℕ, suc, List, [], ◌∷◌, flat_map, Ok}
-use Rattle.record.specs.plain_store.{Reply, Setup, checked}
-use Rattle.record.specs.{Event, Mark, Taken, history, past_of}
-use Rattle.record.specs.declared.marks.Mark.TheVariants as mark
-use Rattle.picture.specs.columns.{Saying, marks_in, marks_said}
+use Rattle.model.specs.plain_store.{Reply, Setup, checked}
+use Rattle.model.specs.{Event, Mark, Taken, history, past_of}
+use Rattle.model.specs.declared.marks.Mark.TheVariants as mark
+use Rattle.picture.specs.picture_layout.{Saying, marks_in, marks_said}
 
 -- a knot of the chain: whose command was taken, at which place, and with which reply
 pub record Knot : Type 0 where

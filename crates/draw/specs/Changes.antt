@@ -1,8 +1,8 @@
 -- What the commands of a history change in the store: so say the lines of a run's marks, which know no history.
 use Rattle.std.specs.Prelude.{◌≡◌, ℕ, ◌∷◌, List, map, slice_get, take, Option, None, Some, Ok}
-use Rattle.record.specs.plain_store.{Contents, Setup, after, checked}
-use Rattle.record.specs.{Entry, Event, Mark, Taken, entry_of, history, past_of, store_after}
-use Rattle.record.specs.declared.marks.Mark.TheVariants as mark
+use Rattle.model.specs.plain_store.{Contents, Setup, after, checked}
+use Rattle.model.specs.{Entry, Event, Mark, Taken, entry_of, history, past_of, store_after}
+use Rattle.model.specs.declared.marks.Mark.TheVariants as mark
 use Rattle.draw.specs.Items.{Says, SaysMark, marks_back, says_marks}
 use Rattle.draw.specs.StoreChanges.{Changed, change_by}
 use Rattle.draw.specs.TakenStores.{store_by}

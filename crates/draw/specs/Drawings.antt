@@ -1,9 +1,9 @@
 -- What a drawing has drawn.
 use Rattle.std.specs.Prelude.{◌≡◌, ◌+◌, ◌||◌, ℕ, Bool, is_some, List, ◌∷◌, length, Option, None, Some}
-use Rattle.record.specs.plain_store.{Setup}
+use Rattle.model.specs.plain_store.{Setup}
 use Rattle.picture.specs.declared.reads.Reads.{Reads as Mode}
 use Rattle.picture.specs.declared.reads.Reads.TheVariants.{All}
-use Rattle.record.specs.{Past}
+use Rattle.model.specs.{Past}
 use Rattle.record_accesses.specs.{HasWatched, WatchState, WaveLimit}
 use Rattle.draw.specs.Canvases.{DrawsOn, Kept, kept}
 use Rattle.draw.specs.Items.{Part, entries_among, given_last, given_of, marks_back, reads_since}

@@ -1,10 +1,10 @@
 -- Who gets inside is first in the line, by what lines tell.
 use Rattle.std.specs.Prelude.{◌≡◌, ◌⊎◌, ◌<◌, ℕ, List, ◌∷◌, flat_map, fold, Contains, IsTrue, Ok, Some}
-use Rattle.record.specs.plain_store.{Setup, checked}
-use Rattle.record.specs.{Entry, Event, Stage, entry_of, has, is_entered, past_of}
-use Rattle.record.specs.declared.stages.Stage.TheVariants.{Inside, Leaving, Settling}
+use Rattle.model.specs.plain_store.{Setup, checked}
+use Rattle.model.specs.{Entry, Event, Stage, entry_of, has, is_entered, past_of}
+use Rattle.model.specs.declared.stages.Stage.TheVariants.{Inside, Leaving, Settling}
 use Rattle.picture.specs.{Item, sayings, state_after}
-use Rattle.picture.specs.columns.{Saying, State, at_first, before_in, marks_in, marks_said, queue_of, stage_among, state_told}
+use Rattle.picture.specs.picture_layout.{Saying, State, at_first, before_in, marks_in, marks_said, queue_of, stage_among, state_told}
 
 -- what these lines have told of a run of so many processes
 abbrev pub state_of_lines : ℕ → List Saying → State

@@ -1,9 +1,9 @@
 -- Who is inside, by what lines tell.
 use Rattle.std.specs.Prelude.{◌≡◌, ◌<◌, ℕ, List, flat_map, Ok}
-use Rattle.record.specs.plain_store.{Setup, checked}
-use Rattle.record.specs.{Event, past_of}
-use Rattle.record.specs.declared.stages.Stage.TheVariants.{Inside}
-use Rattle.picture.specs.columns.{Saying, marks_in, marks_said, stage_among, stages_after}
+use Rattle.model.specs.plain_store.{Setup, checked}
+use Rattle.model.specs.{Event, past_of}
+use Rattle.model.specs.declared.stages.Stage.TheVariants.{Inside}
+use Rattle.picture.specs.picture_layout.{Saying, marks_in, marks_said, stage_among, stages_after}
 
 -- Where lines say the marks of a record, whatever else they say between them, at most one process is inside by the stages that they tell.
 abbrev pub OneIsInside : Type 0

@@ -1,13 +1,13 @@
 -- What a picture is told, item by item, as values: its lines, the reads that writes overlapped, and accesses.
 use Rattle.std.specs.Prelude.{ℕ, zero, suc, Bool, List, [], ◌∷◌, ◌++◌, flat_map, length, map, string_bytes, Option, None, Some, option_map}
-use Rattle.record.specs.plain_store.{Setup}
-use Rattle.record.specs.{Entry, Mark, Past, Refusal}
+use Rattle.model.specs.plain_store.{Setup}
+use Rattle.model.specs.{Entry, Mark, Past, Refusal}
 use Rattle.picture.specs.{Accesses, Item, Judges, Reads, SeenVerdict, Tells, Window, lines_if, seen_verdict, shows_after, shows_end, shows_entry, verdict_titles}
-use Rattle.picture.specs.columns.{GivenAccess, OverlappedRead, Saying, given_access, like, lock_ended_text, lock_marked_text}
-use Rattle.picture.specs.columns.trace.{LockMark}
+use Rattle.picture.specs.picture_layout.{GivenAccess, OverlappedRead, Saying, given_access, like, lock_ended_text, lock_marked_text}
+use Rattle.picture.specs.picture_layout.trace.{LockMark}
 use Rattle.picture.specs.shown_verdict.{report_lines, verdict_of}
-use Rattle.picture.specs.columns.run_lines.{ended_text, marked_text, refused_text, shown_text, tired_text}
-use Rattle.picture.specs.columns.declared.told.Saying.TheVariants.{Marked, Refused, Tired, Shown, Ended, LockMarked, LockEnded}
+use Rattle.picture.specs.picture_layout.run_lines.{ended_text, marked_text, refused_text, shown_text, tired_text}
+use Rattle.picture.specs.picture_layout.declared.told.Saying.TheVariants.{Marked, Refused, Tired, Shown, Ended, LockMarked, LockEnded}
 use Rattle.picture.specs.declared.reads.Reads.{Reads as Mode}
 use Rattle.draw.specs.Overlaps.{overlapped_by, shown_of}
 use Rattle.draw.specs.StoreChanges.{Changed, changed}

@@ -4,8 +4,8 @@ use Rattle.scenario.specs.files.Engines.{Streams}
 use Rattle.scenario.specs.files.{Fault}
 use Rattle.judge.specs.auditor.{IsVerdict}
 use Rattle.judge.specs.any_lock.{IsVerdict as IsAnyLockVerdict, law_text as any_lock_law}
-use Rattle.judge.specs.read_law.declared.verdicts.Verdict.TheVariants.{Good}
-use Rattle.judge.specs.read_law.{law_text}
+use Rattle.judge.specs.safe_monitor.declared.verdicts.Verdict.TheVariants.{Good}
+use Rattle.judge.specs.safe_monitor.{law_text}
 use Rattle.judge.specs.{AreAnyLockReasons, AreReasons, TellsReasons}
 use Rattle.picture.specs.{Form}
 use Rattle.picture.specs.declared.reads.PictureOptions.{PictureOptions}

@@ -1,8 +1,8 @@
 -- What stands while a record is heard by a judge and drawn, and once all of it was read.
 use Rattle.std.specs.Prelude.{◌≡◌, ◌+◌, ℕ, Bool, true, false, List, [], ◌∷◌, ◌++◌, reverse, Option, Some, None, IfSome, Err, Ok}
-use Rattle.record.specs.plain_store.{Setup}
+use Rattle.model.specs.plain_store.{Setup}
 use Rattle.scenario.specs.files.declared.faults.FaultKind.TheVariants.{NotFirst}
-use Rattle.record.specs.{Entry}
+use Rattle.model.specs.{Entry}
 use Rattle.judge.specs.record_file.{Progress, record_of}
 use Rattle.judge.specs.{Telling, good_in, numbers_of}
 use Rattle.judge.specs.Trials.{Stands as HearerStands}

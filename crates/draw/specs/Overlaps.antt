@@ -1,13 +1,13 @@
 -- The reads of a run or of a record that writes overlap.
 use Rattle.std.specs.Prelude.{◌≡◌, ◌<◌, ℕ, ◌==◌, Bool, true, false, ◌&&◌, nat_lt, cond, get_or, List, [], ◌∷◌, length, Option, None, Some, IfSome, Ok}
-use Rattle.record.specs.safe_bit.{Move}
-use Rattle.record.specs.safe_bit.declared.Move.TheVariants.{BeginRead, EndRead}
-use Rattle.record.specs.{Access, Entry, Past, begins_read, moves_of, same_bit, width}
-use Rattle.record.specs.plain_store.{Setup, checked}
-use Rattle.judge.specs.read_law.{HasHeard, WatchState, ends_overlapped}
-use Rattle.judge.specs.read_law.laws.{IsThere}
+use Rattle.model.specs.safe_bit.{Move}
+use Rattle.model.specs.safe_bit.declared.Move.TheVariants.{BeginRead, EndRead}
+use Rattle.model.specs.{Access, Entry, Past, begins_read, moves_of, same_bit, width}
+use Rattle.model.specs.plain_store.{Setup, checked}
+use Rattle.judge.specs.safe_monitor.{HasHeard, WatchState, ends_overlapped}
+use Rattle.judge.specs.safe_monitor.laws.{IsThere}
 use Rattle.picture.specs.{held_in_64}
-use Rattle.picture.specs.columns.{OverlappedRead}
+use Rattle.picture.specs.picture_layout.{OverlappedRead}
 use Rattle.picture.specs.declared.reads.Reads.{Reads as Mode}
 use Rattle.picture.specs.declared.reads.Reads.TheVariants.{All, Hidden, Shown}
 use Rattle.draw.specs.declared.overlaps.BegunRead.{BegunRead}

@@ -2,15 +2,15 @@
 use Rattle.std.specs.Prelude.{ℕ, List, [], ◌∷◌, ◌++◌, flat_map}
 use Rattle.scenario.specs.{Script}
 use Rattle.picture.specs.{Accesses, Form, Item, Judges, Reads, Tells, Window, bands_told, page_back, page_front, picture_back, picture_front, seen_verdict, verdict_titles}
-use Rattle.picture.specs.columns.run_lines.{with_end}
-use Rattle.picture.specs.columns.{text_of}
+use Rattle.picture.specs.picture_layout.run_lines.{with_end}
+use Rattle.picture.specs.picture_layout.{text_of}
 use Rattle.picture.specs.declared.page.Form.TheVariants as form
 use Rattle.picture.specs.declared.reads.PictureOptions.{PictureOptions}
 use Rattle.picture.specs.declared.subjects.Subject.TheVariants as subject
 use Rattle.draw.specs.Canvases.{plan_of}
 use Rattle.draw.specs.StoreChanges.{store_words}
 use Rattle.draw.specs.StoresBefore.{store_before}
-use Rattle.course.specs.{happenings, past_after}
+use Rattle.scenario_run.specs.{happenings, past_after}
 
 -- the lines among items, of which the newest stands first; they stand in their order
 abbrev pub lines_told : List Item → List (List ℕ)

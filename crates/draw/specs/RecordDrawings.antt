@@ -1,7 +1,7 @@
 -- What a drawing of a record has drawn.
 use Rattle.std.specs.Prelude.{ℕ, List, ◌∷◌, Option}
-use Rattle.record.specs.plain_store.{Setup}
-use Rattle.record.specs.{Entry}
+use Rattle.model.specs.plain_store.{Setup}
+use Rattle.model.specs.{Entry}
 use Rattle.draw.specs.Drawings.{DrawsPart, Recalls}
 use Rattle.draw.specs.Items.{Part, PartEntry, entries_among}
 use Rattle.draw.specs.Overlaps.{Watches}

@@ -1,9 +1,9 @@
 -- The items of a record's picture: the accesses of its entries or the reads that writes overlapped, as far as they are shown, a line for each mark of its entries, a judge's lines, and a last line.
 use Rattle.std.specs.Prelude.{ℕ, ◌+◌, List, [], ◌∷◌, ◌++◌, length, map, reverse}
-use Rattle.record.specs.plain_store.{Setup}
-use Rattle.record.specs.{Past}
+use Rattle.model.specs.plain_store.{Setup}
+use Rattle.model.specs.{Past}
 use Rattle.judge.specs.record_file.{Said, head_words}
-use Rattle.picture.specs.columns.run_lines.{ended_text}
+use Rattle.picture.specs.picture_layout.run_lines.{ended_text}
 use Rattle.picture.specs.shown_verdict.{judged_text, report_lines}
 use Rattle.draw.specs.Items.{Gives, Part, PartEntry, SaysEnd, end_given, given_all, marks_back, parts_texts, reads_since}
 use Rattle.draw.specs.TakenStores.{taken_by}

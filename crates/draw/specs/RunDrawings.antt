@@ -1,21 +1,21 @@
 -- What was written of a run's picture, and what is read back of it.
 use Rattle.std.specs.Prelude.{◌≡◌, ◌<◌, ℕ, List, [], flat_map, Option, Some, IfSome, Result, Ok, Err}
 use Rattle.std.specs.Io.KnownBytes.{IsAtEnd}
-use Rattle.record.specs.plain_store.{Setup}
-use Rattle.record.specs.{Past}
+use Rattle.model.specs.plain_store.{Setup}
+use Rattle.model.specs.{Past}
 use Rattle.scenario.specs.files.Engines.{Ran, Streams}
 use Rattle.scenario.specs.files.{Fault}
 use Rattle.scenario.specs.files.declared.faults.Fault.TheVariants as fault
 use Rattle.scenario.specs.{Line, Script, scenario_of}
 use Rattle.picture.specs.markup.{lines_in, opens_in}
 use Rattle.picture.specs.{Form, Item, all_entries, heights_told, sayings}
-use Rattle.picture.specs.columns.{marks_in, marks_said}
+use Rattle.picture.specs.picture_layout.{marks_in, marks_said}
 use Rattle.picture.specs.declared.page.Form.TheVariants as form
 use Rattle.picture.specs.declared.reads.PictureOptions.{PictureOptions}
 use Rattle.picture.specs.declared.reads.Reads.{Reads as Mode}
-use Rattle.course.specs.{CourseState, Follows, Happening, Run, Summary, Told, entry_made, happenings, newest_words, past_after, replay_text, replayed, run_after}
-use Rattle.course.specs.declared.told.Told.TheVariants as told
-use Rattle.course.specs.Writing.{Counts}
+use Rattle.scenario_run.specs.{CourseState, Follows, Happening, Run, Summary, Told, entry_made, happenings, newest_words, past_after, replay_text, replayed, run_after}
+use Rattle.scenario_run.specs.declared.told.Told.TheVariants as told
+use Rattle.scenario_run.specs.Writing.{Counts}
 use Rattle.draw.specs.Canvases.{DrawsBands, Kept, Writes, kept, plan_of}
 use Rattle.draw.specs.Drawings.{DrawsPart, HasDrawn, Recalls}
 use Rattle.draw.specs.Items.{Part, PartEntry, PartLine, SaysRefusal, SaysStore, SaysTired, entries_among, given, texts_shown}

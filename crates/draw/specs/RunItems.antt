@@ -1,11 +1,11 @@
 -- The items of a run's picture: its lines, and the accesses of its entries or the reads that writes overlapped, as far as they are shown.
 use Rattle.std.specs.Prelude.{ℕ, suc, ◌+◌, ◌-◌, List, [], ◌∷◌, ◌++◌, length, map, Option, None, Some}
-use Rattle.record.specs.plain_store.{Setup}
-use Rattle.record.specs.{Entry, Past, Refusal, entry_of, process_of, refused}
-use Rattle.record.specs.declared.refusals.Refusal.TheVariants.{NoProcess}
+use Rattle.model.specs.plain_store.{Setup}
+use Rattle.model.specs.{Entry, Past, Refusal, entry_of, process_of, refused}
+use Rattle.model.specs.declared.refusals.Refusal.TheVariants.{NoProcess}
 use Rattle.scenario.specs.{Script, open_words, setup_words}
 use Rattle.scenario.specs.declared.lines.Line.{Line as ScenarioLine}
-use Rattle.course.specs.{Happening, Lacks, Looks, Run, Summary, Tires, Tries, happenings, newest_store, newest_words, past_after, run_after, run_at_start, summary_of}
+use Rattle.scenario_run.specs.{Happening, Lacks, Looks, Run, Summary, Tires, Tries, happenings, newest_store, newest_words, past_after, run_after, run_at_start, summary_of}
 use Rattle.draw.specs.Items.{Gives, Part, PartEntry, PartLine, Says, SaysEnd, SaysRefusal, SaysStore, SaysTired, given_last, lines_given, reads_since}
 use Rattle.draw.specs.declared.views.AccessView.{AccessView}
 

@@ -4,13 +4,13 @@ use Rattle.std.specs.Io.KnownBytes.{IsAtEnd, Keeps}
 use Rattle.scenario.specs.files.Engines.{Streams}
 use Rattle.scenario.specs.files.{Fault, FaultKind, UnlessMemory}
 use Rattle.scenario.specs.files.declared.faults.Fault.TheVariants as fault
-use Rattle.record.specs.plain_store.{Setup}
-use Rattle.record.specs.{Entry, Past}
+use Rattle.model.specs.plain_store.{Setup}
+use Rattle.model.specs.{Entry, Past}
 use Rattle.judge.specs.record_file.{Progress, Said, cleared, entry_in, head_words, record_of}
 use Rattle.judge.specs.record_file.scenario.{printed_line}
 use Rattle.judge.specs.{IsOfRecord}
 use Rattle.picture.specs.{Form, Item, all_entries, bands_told, heights_told, page_back, page_front, page_names, picture_back, picture_front, sayings}
-use Rattle.picture.specs.columns.{marks_in, marks_said}
+use Rattle.picture.specs.picture_layout.{marks_in, marks_said}
 use Rattle.picture.specs.declared.page.Form.TheVariants as form
 use Rattle.picture.specs.declared.reads.PictureOptions.{PictureOptions}
 use Rattle.picture.specs.declared.reads.Reads.{Reads as Mode}

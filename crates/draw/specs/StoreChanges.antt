@@ -1,8 +1,8 @@
 -- What commands change in a store, and how that is shown.
 use Rattle.std.specs.Prelude.{ℕ, if◌then◌else◌, List, [], ◌∷◌, Option, None, Some}
 use Rattle.std.specs.String.{string_bytes}
-use Rattle.record.specs.plain_store.{Caller, Command, Contents, Pair, after, changes, name_of, pair_text, store_words as in_words, value_at}
-use Rattle.picture.specs.columns.{TakenChange}
+use Rattle.model.specs.plain_store.{Caller, Command, Contents, Pair, after, changes, name_of, pair_text, store_words as in_words, value_at}
+use Rattle.picture.specs.picture_layout.{TakenChange}
 
 -- what a command changed: the pair of its name, and the store after it
 pub record Changed : Type 0 where

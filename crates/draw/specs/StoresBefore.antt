@@ -1,7 +1,7 @@
 -- The one-thread store before the entries of a window.
 use Rattle.std.specs.Prelude.{◌≡◌, ◌≤◌, ℕ, Bool, true, false, nat_lt, List, [], ◌∷◌, length}
-use Rattle.record.specs.plain_store.{Contents, Setup}
-use Rattle.record.specs.{Past}
+use Rattle.model.specs.plain_store.{Contents, Setup}
+use Rattle.model.specs.{Past}
 use Rattle.picture.specs.{Window}
 use Rattle.draw.specs.Items.{marks_back}
 use Rattle.draw.specs.StoreChanges.{store_words}

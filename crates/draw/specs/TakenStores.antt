@@ -1,10 +1,10 @@
 -- What the commands that marks take change in the one-thread store. Of marks, each with its process, the newest comes first.
 use Rattle.std.specs.Prelude.{◌≡◌, ◌<◌, ℕ, ◌+◌, ◌==◌, Bool, true, cond, min, nat_lt, List, [], ◌∷◌, get_or, length, Option, None}
-use Rattle.record.specs.plain_store.{Contents, Setup, after, opening_store}
-use Rattle.record.specs.plain_store.declared.commands.Command.TheVariants.{Ask}
-use Rattle.record.specs.{Mark}
-use Rattle.record.specs.declared.marks.Mark.TheVariants as mark
-use Rattle.picture.specs.columns.{places_marked}
+use Rattle.model.specs.plain_store.{Contents, Setup, after, opening_store}
+use Rattle.model.specs.plain_store.declared.commands.Command.TheVariants.{Ask}
+use Rattle.model.specs.{Mark}
+use Rattle.model.specs.declared.marks.Mark.TheVariants as mark
+use Rattle.picture.specs.picture_layout.{places_marked}
 use Rattle.draw.specs.StoreChanges.{Changed, change_by}
 use Rattle.draw.specs.declared.taken_store.LastCall.{LastCall}
 use Rattle.draw.specs.declared.taken_store.TakenStore.{TakenStore}

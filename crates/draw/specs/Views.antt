@@ -5,7 +5,7 @@ use Rattle.picture.specs.declared.reads.PictureOptions.{PictureOptions}
 use Rattle.picture.specs.declared.reads.Reads.{Reads}
 use Rattle.picture.specs.declared.reads.Reads.TheVariants as modes
 use Rattle.record_accesses.specs.{WaveCount, WaveLimit}
-use Rattle.record_accesses.specs.columns.declared.limits.WaveCount.TheVariants as counts
+use Rattle.record_accesses.specs.picture_layout.declared.limits.WaveCount.TheVariants as counts
 use Rattle.draw.specs.declared.views.AccessView.{AccessView}
 
 -- so many waves, of the cells that are written in a window

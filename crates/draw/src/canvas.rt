@@ -1,12 +1,12 @@
 //! The canvas of a picture: a page that shows a window and writes each band as soon as the band is full, and the overlapped
 //! reads that it shows.
 ghost use Rattle.std.specs.Prelude.{◌≡◌, ◌+◌, ◌-◌, ◌^◌, ◌<◌, List, [], ◌∷◌, ◌++◌, is_some, length, map, IfErr, IfOk, None, OnOk, Ok};
-ghost use Rattle.record.specs.plain_store.{checked};
-ghost use Rattle.record.specs.plain_store.declared.setups.Setup.{Setup as Given};
-ghost use Rattle.record.specs.{Entry, Mark as Marked, Past};
+ghost use Rattle.model.specs.plain_store.{checked};
+ghost use Rattle.model.specs.plain_store.declared.setups.Setup.{Setup as Given};
+ghost use Rattle.model.specs.{Entry, Mark as Marked, Past};
 ghost use Rattle.record_accesses.specs.{HasWatched, WaveLimit as Limit, drops, entry_with, shown_access};
-ghost use Rattle.picture.specs.columns.{given_access};
-ghost use Rattle.picture.specs.columns.declared.reads.OverlappedRead.{OverlappedRead as Ended};
+ghost use Rattle.picture.specs.picture_layout.{given_access};
+ghost use Rattle.picture.specs.picture_layout.declared.reads.OverlappedRead.{OverlappedRead as Ended};
 ghost use Rattle.picture.specs.declared.reads.Reads.{Reads as Mode};
 ghost use Rattle.draw.specs.Canvases.{DrawsLast, DrawsLines, DrawsMarks, DrawsOn, DrawsUpToVerdict, kept, kept_at_first, plan_of, trace_plan};
 ghost use Rattle.draw.specs.Items.{GivesAccess, GivesRead, gives_access, says_of};
@@ -22,7 +22,7 @@ use picture::{
     Form, OverlappedRead, Reads, RunLine, Saying, ShownAccess, ShownVerdict, Subject, Window,
     WindowedPage, verdict_of,
 };
-use record::{Access, Mark};
+use model::{Access, Mark};
 use record_accesses::RecordAccessWatch;
 use record_accesses::plain_store::{NestedTypes, Setup};
 use scenario::{Fault, Sink};

@@ -1,10 +1,10 @@
 //! The picture of a run or of a record, which is drawn part by part.
 ghost use Rattle.std.specs.Prelude.{◌≡◌, ◌+◌, ◌-◌, ◌^◌, ◌<◌, [], ◌∷◌, IfErr, IfOk, List, Ok, OnOk, Some, is_some, length};
-ghost use Rattle.record.specs.plain_store.{checked};
-ghost use Rattle.record.specs.plain_store.declared.setups.Setup.{Setup as Given};
-ghost use Rattle.record.specs.{Entry, Mark as Marked, Past};
+ghost use Rattle.model.specs.plain_store.{checked};
+ghost use Rattle.model.specs.plain_store.declared.setups.Setup.{Setup as Given};
+ghost use Rattle.model.specs.{Entry, Mark as Marked, Past};
 ghost use Rattle.record_accesses.specs.{drops, entry_with};
-ghost use Rattle.judge.specs.read_law.{entry_by};
+ghost use Rattle.judge.specs.safe_monitor.{entry_by};
 ghost use Rattle.draw.specs.Canvases.{DrawsLast, DrawsLines, DrawsOn, kept, kept_at_first, plan_of};
 ghost use Rattle.draw.specs.Drawings.{DrawsPart, HasOpening, Recalls, WatchesAccesses, observes as is_observing};
 ghost use Rattle.draw.specs.Items.{Part, PartEntry, PartLine, entries_among, given_access_of, says_of};
@@ -17,7 +17,7 @@ use crate::store_before::StoreBefore;
 use crate::taken_store::TakenStore;
 use crate::views::AccessView;
 use picture::{Form, Reads, RunLine, Saying};
-use record::{Access, Mark};
+use model::{Access, Mark};
 use record_accesses::plain_store::{NestedTypes, Setup};
 use record_accesses::{RecordAccessWatch, drops_open_read};
 use scenario::{Fault, Sink};

@@ -1,16 +1,16 @@
 //! The overlapped reads of a run or of a record, each with the entries with which it began and ended.
 ghost use Rattle.std.specs.Prelude.{◌≡◌, ◌<◌, ◌&&◌, ℕ, cond, [], ◌∷◌, ◌++◌, List, get_or, length, nat_lt, set, IfOk, IfSome, None, Ok, OnOk, Some};
 ghost use Rattle.std.specs.Option.{option_to_list};
-ghost use Rattle.record.specs.safe_bit.declared.Move.TheVariants.{EndRead};
-ghost use Rattle.record.specs.plain_store.{checked};
-ghost use Rattle.record.specs.plain_store.declared.setups.Setup.{Setup as Given};
-ghost use Rattle.record.specs.{Entry, Past, width};
-ghost use Rattle.picture.specs.columns.declared.reads.OverlappedRead.{OverlappedRead as Ended};
+ghost use Rattle.model.specs.safe_bit.declared.Move.TheVariants.{EndRead};
+ghost use Rattle.model.specs.plain_store.{checked};
+ghost use Rattle.model.specs.plain_store.declared.setups.Setup.{Setup as Given};
+ghost use Rattle.model.specs.{Entry, Past, width};
+ghost use Rattle.picture.specs.picture_layout.declared.reads.OverlappedRead.{OverlappedRead as Ended};
 ghost use Rattle.picture.specs.declared.reads.Reads.{Reads as Mode};
 ghost use Rattle.draw.specs.Overlaps.{Hears, Overhears, TellsOver, ended_of, first_three, overlapped_by, read_begun, read_ended, shown_of};
 
 use picture::{OverlappedRead, Reads};
-use record::{Access, Field, Move};
+use model::{Access, Field, Move};
 use record_accesses::plain_store::{NestedTypes, Setup};
 use std::alloc::{AllocError, Global};
 

@@ -1,14 +1,14 @@
 //! The watch that finds the overlapped reads of a record.
 ghost use Rattle.std.specs.Prelude.{◌≡◌, [], ◌∷◌, IfOk, Ok};
-ghost use Rattle.record.specs.plain_store.{checked};
-ghost use Rattle.record.specs.plain_store.declared.setups.Setup.{Setup as Given};
-ghost use Rattle.record.specs.{Entry, Past};
+ghost use Rattle.model.specs.plain_store.{checked};
+ghost use Rattle.model.specs.plain_store.declared.setups.Setup.{Setup as Given};
+ghost use Rattle.model.specs.{Entry, Past};
 ghost use Rattle.picture.specs.declared.reads.Reads.{Reads as Mode};
 ghost use Rattle.draw.specs.Overlaps.{TellsEnd, Watches};
 
 use judge::Watch;
 use picture::Reads;
-use record::Access;
+use model::Access;
 use record_accesses::plain_store::Setup;
 use std::alloc::{AllocError, Global};
 

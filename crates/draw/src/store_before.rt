@@ -1,7 +1,7 @@
 //! The one-thread store before the entries of a window, with which the slider of a page begins.
 ghost use Rattle.std.specs.Prelude.{◌≡◌, ◌≤◌, ◌&&◌, [], IfOk, OnOk, false, length, nat_le, not, true};
-ghost use Rattle.record.specs.plain_store.declared.setups.Setup.{Setup as Given};
-ghost use Rattle.record.specs.{Past};
+ghost use Rattle.model.specs.plain_store.declared.setups.Setup.{Setup as Given};
+ghost use Rattle.model.specs.{Past};
 ghost use Rattle.picture.specs.{Window as Shown};
 ghost use Rattle.draw.specs.Items.{marks_back};
 ghost use Rattle.draw.specs.StoreChanges.{store_words as words_of};

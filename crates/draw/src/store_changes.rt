@@ -1,7 +1,7 @@
 //! The changes that the commands taken make in the one-thread store of a picture, and how a picture shows them.
 ghost use Rattle.std.specs.Prelude.{◌≡◌, Ok, IfOk, OnOk, option_map};
 ghost use Rattle.std.specs.String.{string_bytes};
-ghost use Rattle.record.specs.plain_store.{after, changes, name_of, value_at};
+ghost use Rattle.model.specs.plain_store.{after, changes, name_of, value_at};
 ghost use Rattle.draw.specs.StoreChanges.{change_by, changed, pair_words, store_words as words_of_store, words_by};
 
 use picture::TakenChange;

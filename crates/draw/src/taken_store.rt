@@ -1,15 +1,15 @@
 //! The one-thread store that goes along with the marks of a run or of a record, and the last call of each process.
 ghost use Rattle.std.specs.Prelude.{◌≡◌, ◌∷◌, ◌<◌, ℕ, [], List, Ok, IfOk, OnOk, option_map, set, slice_get};
-ghost use Rattle.record.specs.plain_store.{checked};
-ghost use Rattle.record.specs.plain_store.declared.setups.Setup.{Setup as Given};
-ghost use Rattle.record.specs.declared.marks.Mark.{Mark as Noted};
-ghost use Rattle.picture.specs.columns.{places_marked};
+ghost use Rattle.model.specs.plain_store.{checked};
+ghost use Rattle.model.specs.plain_store.declared.setups.Setup.{Setup as Given};
+ghost use Rattle.model.specs.declared.marks.Mark.{Mark as Noted};
+ghost use Rattle.picture.specs.picture_layout.{places_marked};
 ghost use Rattle.draw.specs.StoreChanges.{changed};
 ghost use Rattle.draw.specs.TakenStores.{IsAfterMarks, after_call, change_by_call, change_of, next_number as number_after};
 
 use crate::store_changes;
 use picture::TakenChange;
-use record::Mark;
+use model::Mark;
 use record_accesses::plain_store::{Caller, Command, NestedTypes, PlainStore, Setup, opened};
 use std::alloc::{AllocError, Global};
 

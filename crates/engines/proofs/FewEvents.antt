@@ -4,11 +4,11 @@ use Rattle.std.proofs.lemmas.Bool.{and_from, and_parts}
 use Rattle.std.proofs.lemmas.Bool.Decides.{nat_tests}
 use Rattle.std.specs.List.{list_all}
 use Rattle.plain_store.specs.{Setup, is_command}
-use Rattle.course.specs.«record».{Event, Refusal, is_event, past_of, refused, stage}
-use Rattle.course.specs.«record».declared.events.Event.TheVariants as event
+use Rattle.scenario_run.specs.model.{Event, Refusal, is_event, past_of, refused, stage}
+use Rattle.scenario_run.specs.model.declared.events.Event.TheVariants as event
 use Rattle.scenario.specs.{Line, Target, is_line, is_line_of}
 use Rattle.scenario.specs.declared.lines.Line.TheVariants as line
-use Rattle.course.specs.{Lacks, Run, Tires, accepted, after_pick_in, go_limit, goes, is_there, may_step, movers, next_step, past_in, pick_among, picked, run_after, runs, stepped, steps, tried, wanders, with_happening}
+use Rattle.scenario_run.specs.{Lacks, Run, Tires, accepted, after_pick_in, go_limit, goes, is_there, may_step, movers, next_step, past_in, pick_among, picked, run_after, runs, stepped, steps, tried, wanders, with_happening}
 
 -- the events that a run has tried
 abbrev pub tries : Run → List Event

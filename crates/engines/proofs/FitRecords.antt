@@ -5,7 +5,7 @@ use Rattle.std.proofs.lemmas.List.{length-reverse, reverse-append, reverse-rever
 use Rattle.std.proofs.lemmas.List.Folds.{list_all-append}
 use Rattle.std.specs.List.{AllByRecursion, list_all}
 use Rattle.plain_store.specs.{Setup, checked, is_pair, names_differ}
-use Rattle.course.specs.«record».{AreGiven, Entry, Event, Past, entry_of, history, is_event, past_of, record_of}
+use Rattle.scenario_run.specs.model.{AreGiven, Entry, Event, Past, entry_of, history, is_event, past_of, record_of}
 use Rattle.judge.specs.record_file.{FitLines, FitsLine, IsSetupOfFile, RecordsAreReadAgain, RecordsFitLines, record_text}
 use Rattle.judge.specs.record_file.RecordFiles as reader
 use Rattle.judge.proofs.record_file.RecordsAgain.{record_again}

@@ -2,12 +2,12 @@
 use Rattle.std.proofs.Common.{◌≡◌, List, [], ◌∷◌, ◌++◌, reverse, Option, None, Some, refl, ap, sym, ◌∙◌, append-nil}
 use Rattle.std.proofs.lemmas.List.{reverse-append}
 use Rattle.plain_store.specs.{Setup}
-use Rattle.course.specs.«record».{Event, Refusal}
-use Rattle.course.specs.«record».declared.events.Event.TheVariants.{Step}
-use Rattle.course.specs.{Happening, Happens, Lacks, Looks, Stepped, StepsOn, TellsOf, Tires, Told, Tries, accepted, entry_made, listed, past_after, told_unmarked, tried}
+use Rattle.scenario_run.specs.model.{Event, Refusal}
+use Rattle.scenario_run.specs.model.declared.events.Event.TheVariants.{Step}
+use Rattle.scenario_run.specs.{Happening, Happens, Lacks, Looks, Stepped, StepsOn, TellsOf, Tires, Told, Tries, accepted, entry_made, listed, past_after, told_unmarked, tried}
 use Rattle.engines.specs.{event_told}
-use Rattle.course.specs.declared.told.Told.TheVariants as told
-use Rattle.course.proofs.Refusals.{not_refused}
+use Rattle.scenario_run.specs.declared.told.Told.TheVariants as told
+use Rattle.scenario_run.proofs.Refusals.{not_refused}
 
 -- the reverse of a list with one more item at the start
 pub reverse-front : {X : Type 0} (x : X) (xs : List X) → reverse (x ∷ xs) ≡ reverse xs ++ x ∷ []

@@ -9,7 +9,7 @@ use Rattle.scenario.proofs.Places.{drop_in}
 use Rattle.scenario.specs.files.Engines.{Ran, Streams, text_or_none}
 use Rattle.scenario.specs.files.{Fault, LineFault, WritesFront}
 use Rattle.scenario.specs.files.declared.faults.Fault.TheVariants.{Memory}
-use Rattle.course.proofs.Written.{front_none}
+use Rattle.scenario_run.proofs.Written.{front_none}
 use Rattle.engines.specs.Plain.{Run, reply_line, text_from, line_text, run_after, applied}
 
 -- the text of the lines from an index on

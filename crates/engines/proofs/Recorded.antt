@@ -3,12 +3,12 @@ use Rattle.std.proofs.Common.{◌≡◌, ℕ, true, ◌+◌, ◌<◌, ◌≤◌,
 use Rattle.std.proofs.lemmas.List.{reverse-append, take_all, take_more}
 use Rattle.std.specs.Global.{Vec}
 use Rattle.plain_store.specs.{Setup}
-use Rattle.course.specs.«record».{AreGiven, Entry, Event, Refusal, is_event, past_of}
-use Rattle.course.specs.«record».declared.refusals.Refusal.TheVariants.{Memory}
-use Rattle.course.specs.world.{IsTurnedAway}
-use Rattle.course.specs.world.Shows.{Shows, WorldState}
+use Rattle.scenario_run.specs.model.{AreGiven, Entry, Event, Refusal, is_event, past_of}
+use Rattle.scenario_run.specs.model.declared.refusals.Refusal.TheVariants.{Memory}
+use Rattle.scenario_run.specs.world.{IsTurnedAway}
+use Rattle.scenario_run.specs.world.Shows.{Shows, WorldState}
 use Rattle.engines.specs.{RecordsEvent}
-use Rattle.course.proofs.Refusals.{past_kept, shows_refused}
+use Rattle.scenario_run.proofs.Refusals.{past_kept, shows_refused}
 
 -- an event that is refused
 pub records_refused : (old new : WorldState) (event : Event) (r : Refusal) (had has : Vec Entry) → is_event event ≡ true → IsTurnedAway old event r → (r ≡ Memory → ⊥) → new ≡ old → has.items ≡ had.items → RecordsEvent event old new had has

@@ -4,16 +4,16 @@ use Rattle.std.proofs.lemmas.List.{reverse-reverse}
 use Rattle.std.specs.Io.KnownBytes.{Appends}
 use Rattle.scenario.specs.files.{Fault, WritesFront}
 use Rattle.plain_store.specs.{Setup}
-use Rattle.course.specs.«record».declared.events.Event.TheVariants.{Step}
-use Rattle.course.specs.«record».{Entry, Past}
+use Rattle.scenario_run.specs.model.declared.events.Event.TheVariants.{Step}
+use Rattle.scenario_run.specs.model.{Entry, Past}
 use Rattle.judge.specs.record_file.{entry_line, head_words, step_entry}
 use Rattle.scenario.specs.{Script, printed_line}
-use Rattle.course.specs.{Happening, Happens, Lacks, Looks, Stepped, StepsOn, TellsOf, Tires, Told, Tries, Writes, WritesPart, entry_made, happenings, past_after, run_record, told_unmarked, tried}
+use Rattle.scenario_run.specs.{Happening, Happens, Lacks, Looks, Stepped, StepsOn, TellsOf, Tires, Told, Tries, Writes, WritesPart, entry_made, happenings, past_after, run_record, told_unmarked, tried}
 use Rattle.engines.specs.{entries_text, entry_told, lines_more, recorded}
-use Rattle.course.specs.declared.told.Told.TheVariants as told
-use Rattle.course.proofs.Listeners.{run_past}
-use Rattle.course.proofs.Refusals.{past_kept}
-use Rattle.course.proofs.Written.{all_written, appends_both, front_after, front_longer, part_written}
+use Rattle.scenario_run.specs.declared.told.Told.TheVariants as told
+use Rattle.scenario_run.proofs.Listeners.{run_past}
+use Rattle.scenario_run.proofs.Refusals.{past_kept}
+use Rattle.scenario_run.proofs.Written.{all_written, appends_both, front_after, front_longer, part_written}
 
 -- Turns.
 

@@ -4,10 +4,10 @@ use Rattle.std.specs.Io.KnownBytes.{Appends}
 use Rattle.plain_store.specs.{Setup}
 use Rattle.scenario.specs.files.{WritesFront}
 use Rattle.scenario.specs.{Script}
-use Rattle.course.specs.{Happening, Happens, Summary, Told, end_line, happenings, replayed, summary_of, text_of, told_text}
-use Rattle.course.specs.Writing.{Counts, Writes, WritesPart}
-use Rattle.course.proofs.Counting.{text_heard}
-use Rattle.course.proofs.Written.{all_written, appends_both, front_after, front_longer, part_written}
+use Rattle.scenario_run.specs.{Happening, Happens, Summary, Told, end_line, happenings, replayed, summary_of, text_of, told_text}
+use Rattle.scenario_run.specs.Writing.{Counts, Writes, WritesPart}
+use Rattle.scenario_run.proofs.Counting.{text_heard}
+use Rattle.scenario_run.proofs.Written.{all_written, appends_both, front_after, front_longer, part_written}
 
 -- the text of a turn was written, or a prefix of it
 pub told_written : (s : Setup) (before : List Happening) (this : Happening) (told : Told) (had : Summary) (a b : Option (List ℕ)) → Happens s before this told → Appends a b (told_text had.events told) → Counts s before had → Writes (text_of s before) (text_of s (this ∷ before)) a b

@@ -2,12 +2,12 @@
 use Rattle.std.proofs.Common.{◌≡◌, ℕ, ◌+◌, ◌*◌, ◌≤◌, List, length, Option, Result, Ok, Err, OnOk, refl, arith}
 use Rattle.std.proofs.lemmas.List.{length-reverse}
 use Rattle.std.specs.Io.KnownBytes.{Appends}
-use Rattle.course.specs.«record».{Event}
+use Rattle.scenario_run.specs.model.{Event}
 use Rattle.judge.specs.record_file.{IsSetupOfFile}
 use Rattle.engines.proofs.FitRecords.{events_reversed, records_again}
 use Rattle.scenario.specs.{IsScenario, Script, scenario_of}
 use Rattle.scenario.proofs.TextSaid.{script_said}
-use Rattle.course.specs.{accepted, accepted_events, run_at_start, runs}
+use Rattle.scenario_run.specs.{accepted, accepted_events, run_at_start, runs}
 use Rattle.engines.specs.{RecordedRunsAreReadAgain, WritesRecord, recorded}
 use Rattle.engines.proofs.FewEvents.{AreFew, accepted_few, lines_few, tries}
 

@@ -1,9 +1,9 @@
 -- The replies and answers in the state of a process fit, after any entries.
 use Rattle.std.proofs.Common.{◌≡◌, ℕ, ◌≤◌, ◌==◌, Bool, true, false, cond, [], ◌∷◌, Option, Some, None, refl}
-use Rattle.course.specs.«record».{Access, Closing, Entry, Mark, Past, Place, Settles, closing_after, is_over, last_call, own, place_after, start_in, value_of, value_written}
+use Rattle.scenario_run.specs.model.{Access, Closing, Entry, Mark, Past, Place, Settles, closing_after, is_over, last_call, own, place_after, start_in, value_of, value_written}
 use Rattle.plain_store.specs.{Command, Setup}
-use Rattle.course.specs.«record».declared.marks.Mark.TheVariants.{Called, Failed, Withdrew}
-use Rattle.course.specs.laws.{Doing, Rests, Runs, Closes, call, closes, does_after, doing, goes_on, runs}
+use Rattle.scenario_run.specs.model.declared.marks.Mark.TheVariants.{Called, Failed, Withdrew}
+use Rattle.scenario_run.specs.laws.{Doing, Rests, Runs, Closes, call, closes, does_after, doing, goes_on, runs}
 use Rattle.judge.proofs.record_file.SoundParts.{is_sound_closing, is_sound_part, sound_closing_after, sound_failing, sound_place}
 
 abbrev pub is_sound_doing : Doing → Bool

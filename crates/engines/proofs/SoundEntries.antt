@@ -6,24 +6,24 @@ use Rattle.std.proofs.lemmas.Bool.Decides.{nat_tests}
 use Rattle.std.proofs.lemmas.List.{length-append}
 use Rattle.std.specs.Int.{is_in_range}
 use Rattle.std.specs.List.{list_all}
-use Rattle.course.specs.«record».{Access, Entry, Event, Field, Mark, Next, Part, Past, Place, Taken, added, entry_made, entry_of, history, is_event, is_fresh, marks_of, nth, own, past_of, program, reply_taken, since, starts, stepped, value_of, width}
-use Rattle.course.specs.«record».declared.access.Field.TheVariants.{Choosing, Ticket, Commit, Stamp0, Stamp1, Image0, Image1}
+use Rattle.scenario_run.specs.model.{Access, Entry, Event, Field, Mark, Next, Part, Past, Place, Taken, added, entry_made, entry_of, history, is_event, is_fresh, marks_of, nth, own, past_of, program, reply_taken, since, starts, stepped, value_of, width}
+use Rattle.scenario_run.specs.model.declared.access.Field.TheVariants.{Choosing, Ticket, Commit, Stamp0, Stamp1, Image0, Image1}
 use Rattle.plain_store.proofs.GoodSetups.{few-processes, good-checked}
 use Rattle.plain_store.specs.{Command, Reply, Setup, callers_of, checked, most_bits}
-use Rattle.course.specs.«record».Parts as part
-use Rattle.course.specs.«record».declared.events.Event.TheVariants as event
-use Rattle.course.specs.«record».declared.marks.Mark.TheVariants.{Called, Failed, Withdrew, Restarted}
-use Rattle.course.proofs.«record».Local.{option_map-some}
-use Rattle.course.proofs.«record».Width.{is_good}
-use Rattle.course.proofs.«record».World.{entry-accepted}
-use Rattle.course.specs.laws.{Doing, IsThere, Runs, call, doing}
+use Rattle.scenario_run.specs.model.Parts as part
+use Rattle.scenario_run.specs.model.declared.events.Event.TheVariants as event
+use Rattle.scenario_run.specs.model.declared.marks.Mark.TheVariants.{Called, Failed, Withdrew, Restarted}
+use Rattle.scenario_run.proofs.model.Local.{option_map-some}
+use Rattle.scenario_run.proofs.model.Width.{is_good}
+use Rattle.scenario_run.proofs.model.World.{entry-accepted}
+use Rattle.scenario_run.specs.laws.{Doing, IsThere, Runs, call, doing}
 use Rattle.sweeper.proofs.laws.Always.{inv_of}
 use Rattle.sweeper.proofs.laws.Frame.{Happens, a_call, a_withdrawal, a_failure, a_restart, a_step, a_closing}
 use Rattle.sweeper.proofs.laws.FrameEvents.{Accepted, accepted}
 use Rattle.sweeper.proofs.laws.HeldThere.{access_there}
 use Rattle.sweeper.proofs.laws.Invariant.{Own, StandsAt, Wires, next_time, wires}
 use Rattle.sweeper.proofs.laws.Notes.{Notes, notes}
-use Rattle.course.proofs.history_laws.CountedChanges.{history-none, history-takes, taken_at}
+use Rattle.scenario_run.proofs.history_laws.CountedChanges.{history-none, history-takes, taken_at}
 use Rattle.judge.specs.record_file.{is_access, is_entry, is_mark}
 use Rattle.judge.proofs.record_file.FewMarks.{AreFew, closing_few, placed_few, step_few}
 use Rattle.engines.proofs.SoundDoings.{doing_sound, is_sound_doing}

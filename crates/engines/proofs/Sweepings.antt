@@ -3,14 +3,14 @@ use Rattle.std.proofs.Common.{◌≡◌, ℕ, zero, suc, Bool, List, [], ◌∷�
 use Rattle.std.proofs.lemmas.Grind.{flat_map-append}
 use Rattle.std.proofs.lemmas.List.{reverse-append}
 use Rattle.plain_store.specs.{Command, Setup}
-use Rattle.course.specs.«record».{Event, Refusal, past_of, refused}
-use Rattle.course.specs.«record».declared.events.Event.TheVariants.{Step}
+use Rattle.scenario_run.specs.model.{Event, Refusal, past_of, refused}
+use Rattle.scenario_run.specs.model.declared.events.Event.TheVariants.{Step}
 use Rattle.sweeper.specs.{Sweeper, SweepsOn, SweptBy}
 use Rattle.engines.specs.{SweepsRun, call_of, calls_in, event_told}
 use Rattle.engines.proofs.Listed.{listed_more, reverse-front}
-use Rattle.course.specs.declared.told.Accepted.{Accepted as Made}
-use Rattle.course.specs.declared.told.Told.TheVariants.{Accepted, Refused, Shown, Tired}
-use Rattle.course.specs.{Happening, Happens, PassWithin, Told, Tries, accepted, listed, tried}
+use Rattle.scenario_run.specs.declared.told.Accepted.{Accepted as Made}
+use Rattle.scenario_run.specs.declared.told.Told.TheVariants.{Accepted, Refused, Shown, Tired}
+use Rattle.scenario_run.specs.{Happening, Happens, PassWithin, Told, Tries, accepted, listed, tried}
 
 -- a turn adds its call, if it is one
 pub told_calls : (s : Setup) (before : List Happening) (this : Happening) (told : Told) (calls calls' : List (ℕ × Command)) → Happens s before this told →

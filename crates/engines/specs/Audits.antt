@@ -2,12 +2,12 @@
 use Rattle.std.specs.Prelude.{◌≡◌, ℕ, List, length, Option, IfSome, Result, Ok}
 use Rattle.std.specs.Io.KnownBytes.{Appends}
 use Rattle.judge.specs.auditor.{IsVerdict, Law, Verdict}
-use Rattle.judge.specs.read_law.declared.verdicts.Verdict.TheVariants.{Good}
-use Rattle.judge.specs.read_law.{law_text}
+use Rattle.judge.specs.safe_monitor.declared.verdicts.Verdict.TheVariants.{Good}
+use Rattle.judge.specs.safe_monitor.{law_text}
 use Rattle.judge.specs.{status_of_verdict, verdict_line}
 use Rattle.scenario.specs.files.{LineFault, text_by}
 use Rattle.scenario.specs.{Script, scenario_of}
-use Rattle.course.specs.{run_record}
+use Rattle.scenario_run.specs.{run_record}
 
 -- the number of entries in the record of a scenario's run
 abbrev pub run_length : Script → ℕ

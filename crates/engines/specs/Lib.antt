@@ -1,4 +1,4 @@
-pub use Rattle.course.specs as course
+pub use Rattle.scenario_run.specs as scenario_run
 pub mod Audits
 pub mod BitCells
 pub mod Bits

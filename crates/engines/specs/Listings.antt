@@ -1,10 +1,10 @@
 -- The accepted events of a run, and the record after one more event.
 use Rattle.std.specs.Prelude.{◌≡◌, List, [], ◌∷◌, reverse}
 use Rattle.std.specs.Global.{Vec}
-use Rattle.course.specs.«record».{Entry, Event, past_of}
-use Rattle.course.specs.world.Shows.{Shows, WorldState}
-use Rattle.course.specs.{Told}
-use Rattle.course.specs.declared.told.Told.TheVariants as told
+use Rattle.scenario_run.specs.model.{Entry, Event, past_of}
+use Rattle.scenario_run.specs.world.Shows.{Shows, WorldState}
+use Rattle.scenario_run.specs.{Told}
+use Rattle.scenario_run.specs.declared.told.Told.TheVariants as told
 
 -- the event of a turn, if one was accepted
 abbrev pub event_told : Told → List Event

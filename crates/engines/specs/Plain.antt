@@ -2,8 +2,8 @@
 use Rattle.std.specs.Prelude.{ℕ, ◌+◌, ◌==◌, nat_lt, if◌then◌else◌, List, [], ◌∷◌, ◌++◌, codes, replicate, slice_set, Result}
 use Rattle.std.specs.Fmt.{decimal}
 use Rattle.plain_store.specs.{Caller, Command, Contents, Setup, after, number_of, opening_store, reply_text, reply_to, show_text}
-use Rattle.course.specs.«record».{refusal_line}
-use Rattle.course.specs.«record».declared.refusals.Refusal.TheVariants.{NoProcess}
+use Rattle.scenario_run.specs.model.{refusal_line}
+use Rattle.scenario_run.specs.model.declared.refusals.Refusal.TheVariants.{NoProcess}
 use Rattle.scenario.specs.{Line, Script, scenario_of}
 use Rattle.scenario.specs.files.{LineFault, text_by}
 use Rattle.scenario.specs.declared.lines.Line.TheVariants as line

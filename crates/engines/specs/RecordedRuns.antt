@@ -4,9 +4,9 @@ use Rattle.std.specs.Io.KnownBytes.{Appends}
 use Rattle.scenario.specs.{IsScenario, Script, scenario_of}
 use Rattle.judge.specs.record_file.{record_of, record_text}
 use Rattle.plain_store.specs.{Setup}
-use Rattle.course.specs.«record».{Entry}
+use Rattle.scenario_run.specs.model.{Entry}
 use Rattle.engines.specs.Recordings.{recorded}
-use Rattle.course.specs.{run_record}
+use Rattle.scenario_run.specs.{run_record}
 
 -- The text of the record of a scenario's run is read as the scenario's setup and that record.
 abbrev pub RecordedRunsAreReadAgain : Type 0

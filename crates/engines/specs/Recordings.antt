@@ -7,9 +7,9 @@ use Rattle.plain_store.specs.{Setup}
 use Rattle.judge.specs.record_file.{entry_line, record_text, step_entry}
 use Rattle.scenario.specs.files.{LineFault, text_by}
 use Rattle.scenario.specs.{Script, scenario_of}
-use Rattle.course.specs.{Happening, Lacks, Looks, Tires, Told, Tries, entry_made, past_after, run_record}
-use Rattle.course.specs.«record».{Access, Entry, Past, entry_of}
-use Rattle.course.specs.declared.told.Told.TheVariants as told
+use Rattle.scenario_run.specs.{Happening, Lacks, Looks, Tires, Told, Tries, entry_made, past_after, run_record}
+use Rattle.scenario_run.specs.model.{Access, Entry, Past, entry_of}
+use Rattle.scenario_run.specs.declared.told.Told.TheVariants as told
 
 -- the text of the record of a scenario's run: its setup, and a line for each entry
 abbrev pub recorded : Script → List ℕ

@@ -1,7 +1,7 @@
 -- The text and the counts of a replay during its run.
 use Rattle.std.specs.Prelude.{◌≡◌, ℕ, List, flat_map}
-use Rattle.course.specs.«record».{Mark}
-use Rattle.course.specs.{Summary, Told, happenings, mark_line, summary_of, told_text}
+use Rattle.scenario_run.specs.model.{Mark}
+use Rattle.scenario_run.specs.{Summary, Told, happenings, mark_line, summary_of, told_text}
 use Rattle.scenario.specs.{Script}
 
 -- the lines of the marks of an event with this number

@@ -2,15 +2,15 @@
 use Rattle.std.specs.Prelude.{◌≡◌, ℕ, List, [], ◌∷◌, ◌++◌, codes, flat_map, reverse, Option, None, Some, IfSome, Result, Ok}
 use Rattle.std.specs.Io.KnownBytes.{Appends}
 use Rattle.plain_store.specs.{Command, Setup}
-use Rattle.course.specs.«record».{Event}
-use Rattle.course.specs.«record».declared.events.Event.TheVariants.{Call, Step, Fail, Withdraw, Restart}
+use Rattle.scenario_run.specs.model.{Event}
+use Rattle.scenario_run.specs.model.declared.events.Event.TheVariants.{Call, Step, Fail, Withdraw, Restart}
 use Rattle.judge.specs.auditor.{Law, Verdict}
-use Rattle.judge.specs.read_law.declared.verdicts.Verdict.TheVariants.{Good, Bad}
+use Rattle.judge.specs.safe_monitor.declared.verdicts.Verdict.TheVariants.{Good, Bad}
 use Rattle.sweeper.specs.{BadRun, IsSwept, Sweeper, Swept, SweptBy, all_good, cuts, swept_text}
 use Rattle.scenario.specs.files.{LineFault, text_by}
 use Rattle.scenario.specs.{Script, scenario_of}
 use Rattle.judge.specs.{status_of_verdict}
-use Rattle.course.specs.{Happening, accepted_events, listed}
+use Rattle.scenario_run.specs.{Happening, accepted_events, listed}
 
 -- the call that an event is, if it is one
 abbrev pub call_of : Event → List (ℕ × Command)

@@ -1,17 +1,17 @@
 //! The engine `audit`: the verdict on the record of a scenario's run. An auditor observes each entry as the
 //! run makes it. No record is stored.
 ghost use Rattle.std.specs.Prelude.{◌≡◌, ◌+◌, ◌-◌, ◌^◌, ◌<◌, IfErr, IfOk, OnOk};
-ghost use Rattle.judge.specs.read_law.declared.verdicts.Verdict.TheVariants.{Good};
+ghost use Rattle.judge.specs.safe_monitor.declared.verdicts.Verdict.TheVariants.{Good};
 ghost use Rattle.scenario.specs.files.Engines.{Ran, streams};
 ghost use Rattle.engines.specs.Sinks.{Wrote, WroteFront};
 ghost use Rattle.scenario.specs.files.{ReadsFront};
 ghost use Rattle.scenario.specs.{script};
 ghost use Rattle.engines.specs.Audits.{InputTellsVerdict, IsRunVerdict, TellsVerdict, audit_text, audited, run_length};
-ghost use Rattle.course.specs.{ended};
-ghost use Rattle.course.specs.Writing.{IsWriteFault, failed_write};
+ghost use Rattle.scenario_run.specs.{ended};
+ghost use Rattle.scenario_run.specs.Writing.{IsWriteFault, failed_write};
 
 use crate::writing::write_line;
-use course::{Audit, Course, Overheard, Summary, Until};
+use scenario_run::{Audit, Course, Overheard, Summary, Until};
 use judge::{Audited, status_of, verdict_line};
 use scenario::{Fault, Scenario, Sink, Source, read_input, read_scenario};
 use std::alloc::{AllocError, Global};

@@ -2,7 +2,7 @@
 //! of a file on one store or on one safe bit. `replay`, `record`, `audit` and `sweep` make the run of a scenario on a world.
 //! Two more calls give a program the accepted events of a run, and the record of a list of events.
 //!
-//! The crates `course`, `read_law`, `auditor` and `sweeper` belong to it.
+//! The crates `scenario_run`, `safe_monitor`, `auditor` and `sweeper` belong to it.
 //!
 //! ```rust
 //! replay(alloc, input, output, &mut Nobody)
@@ -20,7 +20,7 @@ mod writing;
 
 pub use auditing::run_audit;
 pub use bits::run_bits;
-pub use course::Summary;
+pub use scenario_run::Summary;
 pub use judge::{
     Audited, Law, Verdict, good_records_are_of_events, judge_any_lock, records_have_one_verdict,
     records_of_events_are_good, run_judge, status_of,

@@ -1,15 +1,15 @@
 //! The events of a run, and the record of events.
 ghost use Rattle.std.specs.Prelude.{◌≡◌, ◌++◌, [], ◌∷◌, ⊤, true, Ok, IfOk, OnOk, reverse};
 ghost use Rattle.plain_store.specs.{checked};
-ghost use Rattle.course.specs.«record».declared.Refusal.TheVariants.{Memory};
-ghost use Rattle.course.specs.«record».{AreGiven, KeepsHeadlineThroughout, is_event, record_of as record_made};
+ghost use Rattle.scenario_run.specs.model.declared.Refusal.TheVariants.{Memory};
+ghost use Rattle.scenario_run.specs.model.{AreGiven, KeepsHeadlineThroughout, is_event, record_of as record_made};
 ghost use Rattle.judge.specs.record_file.{FitLines};
 ghost use Rattle.scenario.specs.{script};
 ghost use Rattle.engines.specs.Listings.{RecordsEvent, event_told};
 ghost use Rattle.engines.specs.RecordedRuns.{IsReadAgain};
-ghost use Rattle.course.specs.{accepted_events, listed};
+ghost use Rattle.scenario_run.specs.{accepted_events, listed};
 
-use course::{Course, Entry, Event, Listener, Move, Record, Refusal, Stepped, Told, Until, World};
+use scenario_run::{Course, Entry, Event, Listener, Move, Record, Refusal, Stepped, Told, Until, World};
 use plain_store::{NestedTypes, Setup};
 use scenario::{Fault, Scenario};
 use std::alloc::{AllocError, Global};

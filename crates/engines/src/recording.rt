@@ -9,9 +9,9 @@ ghost use Rattle.judge.specs.record_file.{RecordsAreReadAgain, RecordsFitLines, 
 ghost use Rattle.scenario.specs.{script};
 ghost use Rattle.engines.specs.RecordedRuns.{InputWritesRecord, RecordedRunsAreReadAgain};
 ghost use Rattle.engines.specs.Recordings.{entries_longer, entries_text, entry_told, recorded, recording_text, step_line};
-ghost use Rattle.course.specs.{IsWriteFault, Took, TookPart, ended, failed_write, part_before, part_on, part_unheard, took_none, took_on};
+ghost use Rattle.scenario_run.specs.{IsWriteFault, Took, TookPart, ended, failed_write, part_before, part_on, part_unheard, took_none, took_on};
 
-use course::{Course, Entry, Listener, Move, Stepped, Told, Until};
+use scenario_run::{Course, Entry, Listener, Move, Stepped, Told, Until};
 use judge::{StepLine, print_entry, print_setup};
 use scenario::{Fault, Scenario, Sink, Source, read_input, read_scenario, write_all};
 use std::alloc::{AllocError, Global};
@@ -182,7 +182,7 @@ fn write_entry<W: Sink>(
 }
 
 /// Writes the line of an entry, by a text that is cleared for it, unless an allocation failed for the line.
-#[tactic(auto, using(course::proofs::Written::front_none))]
+#[tactic(auto, using(scenario_run::proofs::Written::front_none))]
 fn write_entry_line<W: Sink>(
     alloc: Global,
     entry: &Entry,

@@ -6,11 +6,11 @@ ghost use Rattle.scenario.specs.{script};
 ghost use Rattle.engines.specs.Replayings.{IsRunSummary};
 ghost use Rattle.engines.specs.Sinks.{Wrote, WroteFront};
 ghost use Rattle.scenario.specs.files.{ReadsFront};
-ghost use Rattle.course.specs.{CanCount, InputKeepsHeadline, IsSummaryOf, RunKeepsHeadline, Took, TookPart, can_count_less, ended, part_before, part_on, part_unheard, replay_text, replayed, text_longer, text_of, took_none, took_on};
-ghost use Rattle.course.specs.Writing.{Counts, IsWriteFault, failed_write};
+ghost use Rattle.scenario_run.specs.{CanCount, InputKeepsHeadline, IsSummaryOf, RunKeepsHeadline, Took, TookPart, can_count_less, ended, part_before, part_on, part_unheard, replay_text, replayed, text_longer, text_of, took_none, took_on};
+ghost use Rattle.scenario_run.specs.Writing.{Counts, IsWriteFault, failed_write};
 
 use crate::writing::{tell, write_end};
-use course::{Course, Listener, Move, Stepped, Summary, Taken, Told, Until};
+use scenario_run::{Course, Listener, Move, Stepped, Summary, Taken, Told, Until};
 use scenario::{Fault, Scenario, Sink, Source, read_input, read_scenario};
 use std::alloc::Global;
 use sweeper::progress::Onlooker;

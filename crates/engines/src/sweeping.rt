@@ -7,12 +7,12 @@ ghost use Rattle.engines.specs.Listings.{event_told};
 ghost use Rattle.engines.specs.Sinks.{Wrote, WroteFront};
 ghost use Rattle.scenario.specs.files.{ReadsFront};
 ghost use Rattle.scenario.specs.{script};
-ghost use Rattle.course.specs.{Follows, IsWriteFault, ended, failed_write, listed, run_at_start};
+ghost use Rattle.scenario_run.specs.{Follows, IsWriteFault, ended, failed_write, listed, run_at_start};
 ghost use Rattle.sweeper.specs.{CanSweep, SweepsNone, SweepsOn, can_sweep_less};
 ghost use Rattle.engines.specs.Sweepings.{InputTellsSweep, IsRunSwept, SweepsRun, TellsSweep, accepted_calls, call_of, calls_in, run_swept, status_of_swept, sweep_text, swept, swept_lines as lines_of_swept};
 
 use crate::writing::write_line;
-use course::{Course, Event, Listener, Move, Stepped, Told, Until};
+use scenario_run::{Course, Event, Listener, Move, Stepped, Told, Until};
 use judge::{Verdict, status_of};
 use plain_store::{Command, NestedTypes};
 use scenario::{Fault, Scenario, Sink, Source, read_input, read_scenario};

@@ -3,10 +3,10 @@ ghost use Rattle.std.specs.Prelude.{◌≡◌, ◌+◌, ◌-◌, ◌^◌, ◌<�
 ghost use Rattle.std.specs.String.{string_bytes};
 ghost use Rattle.engines.specs.Replayings.{mark_lines, text_next};
 ghost use Rattle.engines.specs.Sinks.{Wrote, WroteFront, WroteLine, WroteLineFront};
-ghost use Rattle.course.specs.run_lines.{line_text, with_end};
-ghost use Rattle.course.specs.{IsWriteFault, counted, end_line, failed_write, told_text};
+ghost use Rattle.scenario_run.specs.run_lines.{line_text, with_end};
+ghost use Rattle.scenario_run.specs.{IsWriteFault, counted, end_line, failed_write, told_text};
 
-use course::{Mark, ReplayLine, Summary, Told, newest_words};
+use scenario_run::{Mark, ReplayLine, Summary, Told, newest_words};
 use scenario::{Fault, Sink, write_all};
 use std::alloc::{AllocError, Global};
 
@@ -61,7 +61,7 @@ fn write_marks<W: Sink>(
 }
 
 /// Writes a line of the run, and its end.
-#[tactic(auto, using(course::proofs::Written::line_whole, course::proofs::Written::line_front))]
+#[tactic(auto, using(scenario_run::proofs::Written::line_whole, scenario_run::proofs::Written::line_front))]
 fn write_run_line<W: Sink>(alloc: Global, line: &ReplayLine, output: &mut W) -> Result<(), Fault>
     requires { W.failures output.old < 2 ^ 64 - 1 }
     ensures ok { Wrote W.taken result output.old output.new (with_end (line_text line.now)) }

@@ -5,11 +5,11 @@ use Rattle.std.proofs.lemmas.Bool.{or_right}
 use Rattle.std.proofs.lemmas.Option.{slice_get_within}
 use Rattle.plain_store.specs.{Answer, Command, Reply, Setup, checked, reply_to}
 use Rattle.plain_store.specs.declared.Answer.TheVariants as answer
-use Rattle.record.specs.{AreGiven, Call, Entry, Event, IsAnswerTo, Mark, Past, StandsInHistory, Taken, TakenInHistory, all_takings, call_of, called_in, caller, ends_span, entries_of_call, entry_of, has, history, is_called, last_call, last_command, own, past_of, reply_taken, since, store_after, takings, takings_of_call}
-use Rattle.record.specs.declared.marks.Mark.TheVariants as mark
-use Rattle.record.specs.declared.marks.Mark.TheVariants.{Answered}
-use Rattle.record.proofs.Singles.{get-append, get-left}
-use Rattle.record.proofs.Width.{IsGood, is_good}
+use Rattle.model.specs.{AreGiven, Call, Entry, Event, IsAnswerTo, Mark, Past, StandsInHistory, Taken, TakenInHistory, all_takings, call_of, called_in, caller, ends_span, entries_of_call, entry_of, has, history, is_called, last_call, last_command, own, past_of, reply_taken, since, store_after, takings, takings_of_call}
+use Rattle.model.specs.declared.marks.Mark.TheVariants as mark
+use Rattle.model.specs.declared.marks.Mark.TheVariants.{Answered}
+use Rattle.model.proofs.Singles.{get-append, get-left}
+use Rattle.model.proofs.Width.{IsGood, is_good}
 use Rattle.laws.proofs.AtPlaces.{own-induction}
 use Rattle.laws.proofs.Frame.{own-other, own-own}
 use Rattle.history_laws.proofs.CallSpans.{Older, older, whole, OneMore, outside, belongs, one_more, since-whole}

@@ -4,8 +4,8 @@ use Rattle.std.proofs.Math.Bool.{or-false}
 use Rattle.std.proofs.lemmas.List.{take-append-drop}
 use Rattle.plain_store.specs.{Command, Contents, callers_of, number_of, opening_store, reply_to}
 use Rattle.plain_store.specs.declared.Reply.TheVariants.{Last}
-use Rattle.record.specs.{AskAnswersTheLatestChange, AskTellsOfCutCalls, Taken, TakenInHistory, has_change, history, latest_change, past_of, store_after}
-use Rattle.record.proofs.Width.{is_good}
+use Rattle.model.specs.{AskAnswersTheLatestChange, AskTellsOfCutCalls, Taken, TakenInHistory, has_change, history, latest_change, past_of, store_after}
+use Rattle.model.proofs.Width.{is_good}
 use Rattle.history_laws.proofs.CountedChanges.{then}
 use Rattle.history_laws.proofs.HistoryItems.{each_has_its_reply, each_is_kept, numbers_ascend}
 use Rattle.history_laws.proofs.StoreNumbers.{Ascends, Each, IsKept, has_change-append, latest_is, latest_is_there, none_passes, number_is_latest}

@@ -3,7 +3,7 @@ use Rattle.std.proofs.Common.{◌≡◌, ◌≢◌, ℕ, ◌==◌, ◌||◌, Boo
 use Rattle.std.proofs.lemmas.Bool.{eqb-false}
 use Rattle.std.specs.List.{list_any}
 use Rattle.plain_store.specs.{Setup}
-use Rattle.record.specs.{Entry, Event, Past, entries_of_call, entry_of, has, is_called, own, past_of, since, until}
+use Rattle.model.specs.{Entry, Event, Past, entries_of_call, entry_of, has, is_called, own, past_of, since, until}
 use Rattle.laws.proofs.Frame.{own-other, own-own}
 use Rattle.history_laws.proofs.Told.{since-called, since-uncalled}
 

@@ -2,8 +2,8 @@
 use Rattle.std.proofs.Common.{◌≡◌, ℕ, ◌+◌, ◌<◌, Bool, true, false, List, [], ◌∷◌, ◌++◌, length, refl, ◌∙◌, subst, arith}
 use Rattle.std.proofs.lemmas.Bool.{false≢true}
 use Rattle.std.proofs.lemmas.List.{ext_get_or, length_push}
-use Rattle.record.specs.{Field, Past, Reading}
-use Rattle.record.specs.declared.access.Field.TheVariants.{Commit}
+use Rattle.model.specs.{Field, Past, Reading}
+use Rattle.model.specs.declared.access.Field.TheVariants.{Commit}
 use Rattle.plain_store.specs.{Contents, Setup}
 use Rattle.laws.proofs.Bits.{AreBitsOf, one_more_bit}
 use Rattle.laws.proofs.Invariant.{Closed, Touches, Wires, bit, touches, wires}

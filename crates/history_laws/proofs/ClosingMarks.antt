@@ -1,13 +1,13 @@
 -- The marks of a step of a closing, and the marks of a failure.
 use Rattle.std.proofs.Common.{◌≡◌, ℕ, ◌<◌, ◌&&◌, Bool, true, false, cond, not, List, [], ◌∷◌, ◌++◌, Option, Some, None, length, map, refl, sym, ap, subst, ◌∙◌, arith, append-nil}
 use Rattle.std.specs.Prelude.{if◌then◌else◌}
-use Rattle.record.specs.reader_copies.Runs as copies
-use Rattle.record.specs.{Access, Call, Clears, Entry, Field, Mark, Next, Over, Part, Past, WritesCommit, WritesImage, WritesStamp, is_commit, last_write, placed, unfinished, write_moved, written_at}
-use Rattle.record.specs.safe_number.{NumberWrite, new_write}
+use Rattle.model.specs.reader_copies.Runs as copies
+use Rattle.model.specs.{Access, Call, Clears, Entry, Field, Mark, Next, Over, Part, Past, WritesCommit, WritesImage, WritesStamp, is_commit, last_write, placed, unfinished, write_moved, written_at}
+use Rattle.model.specs.safe_number.{NumberWrite, new_write}
 use Rattle.plain_store.specs.declared.Answer.TheVariants as answer
 use Rattle.plain_store.specs.{Command, Reply, Setup}
-use Rattle.record.specs.declared.marks.Mark.TheVariants.{Taken, Left, Answered, Failed, Settled, Down}
-use Rattle.record.specs.Closings.{Closing, Withdraws, Settles, Frees, Lowers, Quit, Ended, no_ticket, is_last_written, is_last_settled, is_unwritten, settled_marks, freeing, failing, settling_from, closing_next, closing_after}
+use Rattle.model.specs.declared.marks.Mark.TheVariants.{Taken, Left, Answered, Failed, Settled, Down}
+use Rattle.model.specs.Closings.{Closing, Withdraws, Settles, Frees, Lowers, Quit, Ended, no_ticket, is_last_written, is_last_settled, is_unwritten, settled_marks, freeing, failing, settling_from, closing_next, closing_after}
 use Rattle.laws.specs.{Doing, Rests, Runs, Closes, call, closes}
 use Rattle.laws.proofs.Doings.{Step, calls, withdraws, fails, restarts, steps, closes_on, IsCut, at_rest, between, within, leaving, clearing}
 use Rattle.history_laws.proofs.Took.{TookAt, TookBefore, TookIn, TookBy, Tells, Silent, unmarked, silent-tells, kept, few, part-few, is_done, may_answer_in, has_settled, may_answer}

@@ -5,16 +5,16 @@ use Rattle.std.specs.List.{AllByRecursion, list_all}
 use Rattle.std.proofs.lemmas.Bool.{and_parts, cases_lt}
 use Rattle.std.proofs.lemmas.Bool.Decides.{nat_tests}
 use Rattle.std.proofs.lemmas.List.{get_or_past}
-use Rattle.record.specs.safe_number.{AreBytes, IsBytesOf, bits_in}
-use Rattle.record.proofs.safe_number.Numbers.{bit_in-past, get-bits, length_bits}
+use Rattle.model.specs.safe_number.{AreBytes, IsBytesOf, bits_in}
+use Rattle.model.proofs.safe_number.Numbers.{bit_in-past, get-bits, length_bits}
 use Rattle.plain_store.specs.{Contents, Pair, Setup, Value, are_pairs, callers_of, is_name, is_name_byte, is_pair, is_text_byte, is_value, padded}
 use Rattle.plain_store.specs.declared.commands.Value.TheVariants.{Count, Text}
-use Rattle.record.specs.store_image.{IsImageOf, IsStore, count_bytes, image_of, kind_of, number_bytes, places, slot_bytes, slot_of, unused_slot, value_bytes}
-use Rattle.record.proofs.store_image.ImageBytes.{first_good, length-image_of, others_good}
-use Rattle.record.proofs.store_image.Readings.{store_in-image}
-use Rattle.record.proofs.store_image.SlotBytes.{name_room, value_room}
-use Rattle.record.specs.{Call, bytes_of_bits, image_bytes, store_read}
-use Rattle.record.proofs.Bytes.{bytes-of-bits}
+use Rattle.model.specs.store_image.{IsImageOf, IsStore, count_bytes, image_of, kind_of, number_bytes, places, slot_bytes, slot_of, unused_slot, value_bytes}
+use Rattle.model.proofs.store_image.ImageBytes.{first_good, length-image_of, others_good}
+use Rattle.model.proofs.store_image.Readings.{store_in-image}
+use Rattle.model.proofs.store_image.SlotBytes.{name_room, value_room}
+use Rattle.model.specs.{Call, bytes_of_bits, image_bytes, store_read}
+use Rattle.model.proofs.Bytes.{bytes-of-bits}
 use Rattle.history_laws.proofs.Kept.{image_bits}
 use Rattle.history_laws.proofs.Sound.{IsStoreOf}
 

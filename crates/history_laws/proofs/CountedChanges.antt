@@ -2,7 +2,7 @@
 use Rattle.std.proofs.Common.{◌≡◌, ℕ, suc, ◌+◌, Bool, true, false, cond, List, [], ◌∷◌, ◌++◌, Option, None, Some, fold, refl, sym, ap, ◌∙◌, arith}
 use Rattle.std.proofs.lemmas.List.Sums.{fold-append}
 use Rattle.plain_store.specs.{Contents, Reply, Setup, after, changes, opening_store}
-use Rattle.record.specs.{Entry, Past, Taken, count_changes, history, last_call, own, reply_taken, store_after}
+use Rattle.model.specs.{Entry, Past, Taken, count_changes, history, last_call, own, reply_taken, store_after}
 use Rattle.history_laws.proofs.Sounding.{after_is_same}
 use Rattle.history_laws.proofs.Versions.{Versions, committed, is_change, store_of, versions}
 

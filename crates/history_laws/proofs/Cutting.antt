@@ -2,16 +2,16 @@
 use Rattle.std.proofs.Common.{◌≡◌, ℕ, ◌<◌, ◌==◌, ◌&&◌, ◌||◌, Bool, true, false, not, cond, List, [], ◌∷◌, Option, Some, None, refl, sym, ap, subst, ◌∙◌, arith, eq-eqb, ne_eqb, true≢false, inl, inr}
 use Rattle.std.proofs.lemmas.Bool.{cases_eq, false≢true}
 use Rattle.std.specs.Prelude.{is_none, option_map, slice_index_or, unwrap_or}
-use Rattle.record.specs.reader_copies.Runs as copies
-use Rattle.record.specs.{Access, AsksCommit, AsksImage, AsksStamp, Call, Change, Closing, Entry, Event, Field, Part, Past, Place, Reading, Run, Settles, Version, Withdraws, WritesCommit, WritesImage, WritesStamp, Writing, call_number, change_of, cut, cut_at, entry_of, failing, image_field, inside, is_fresh, is_read, last_command, named, own, past_of, process_of, reply, reply_taken, stage, stamp_field, start_in, version_of}
-use Rattle.record.specs.declared.access.Field.TheVariants.{Ticket, Commit}
-use Rattle.record.specs.safe_number.{torn_bit, torn_run, torn_with}
+use Rattle.model.specs.reader_copies.Runs as copies
+use Rattle.model.specs.{Access, AsksCommit, AsksImage, AsksStamp, Call, Change, Closing, Entry, Event, Field, Part, Past, Place, Reading, Run, Settles, Version, Withdraws, WritesCommit, WritesImage, WritesStamp, Writing, call_number, change_of, cut, cut_at, entry_of, failing, image_field, inside, is_fresh, is_read, last_command, named, own, past_of, process_of, reply, reply_taken, stage, stamp_field, start_in, version_of}
+use Rattle.model.specs.declared.access.Field.TheVariants.{Ticket, Commit}
+use Rattle.model.specs.safe_number.{torn_bit, torn_run, torn_with}
 use Rattle.plain_store.specs.{Command, Contents, Setup}
-use Rattle.record.specs.declared.marks.Mark.TheVariants.{Failed}
-use Rattle.record.proofs.CutRecords.{running-cut}
-use Rattle.record.proofs.OpenSteps.{place_at}
-use Rattle.record.proofs.Turns.{and_false}
-use Rattle.record.proofs.Width.{IsGood}
+use Rattle.model.specs.declared.marks.Mark.TheVariants.{Failed}
+use Rattle.model.proofs.CutRecords.{running-cut}
+use Rattle.model.proofs.OpenSteps.{place_at}
+use Rattle.model.proofs.Turns.{and_false}
+use Rattle.model.proofs.Width.{IsGood}
 use Rattle.laws.proofs.Always.{inv_of}
 use Rattle.laws.specs.{Doing, Runs, Closes, call, doing, does_after, is_inside, is_inside_at}
 use Rattle.laws.proofs.Doings.{Step}

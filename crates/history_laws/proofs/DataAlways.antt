@@ -1,9 +1,9 @@
 -- The invariant of the data holds of every past of a record whose values are of their types: before the first entry, and with each entry that an event adds.
 use Rattle.std.proofs.Common.{◌≡◌, ℕ, ◌<◌, Bool, true, false, List, [], ◌∷◌, length, map, Option, Some, None, Ok, refl, sym, ap, subst, ◌∙◌, inl, inr}
 use Rattle.std.proofs.lemmas.Bool.{false≢true}
-use Rattle.record.specs.{Access, AreGiven, AsksCommit, AsksImage, AsksStamp, Clears, Closing, Entry, Event, Part, Past, Place, Settles, Waits, WritesCommit, WritesImage, WritesStamp, access_at, entry_of, history, is_fresh, marks_of, past_of, place_after, placed, value_of, valued}
+use Rattle.model.specs.{Access, AreGiven, AsksCommit, AsksImage, AsksStamp, Clears, Closing, Entry, Event, Part, Past, Place, Settles, Waits, WritesCommit, WritesImage, WritesStamp, access_at, entry_of, history, is_fresh, marks_of, past_of, place_after, placed, value_of, valued}
 use Rattle.plain_store.specs.{Command, Setup, checked}
-use Rattle.record.proofs.Width.{IsGood, is_good}
+use Rattle.model.proofs.Width.{IsGood, is_good}
 use Rattle.laws.proofs.Always.{inv_of}
 use Rattle.laws.specs.{Doing, Rests, Lies, Runs, Closes, call, doing, runs, is_inside, is_inside_at}
 use Rattle.laws.proofs.Frame.{Happens, a_call, a_withdrawal, a_failure, a_restart, a_step, a_closing}

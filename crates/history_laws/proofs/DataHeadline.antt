@@ -1,6 +1,6 @@
 -- The headline's statements on data.
-use Rattle.record.specs.{ImagesAreRead, NewestIsTheHistorys, StampsFullAfterAllChanges, TakenInHistory, VersionReadsAreUnoverlapped, VersionsAreWholeOutside, past_of}
-use Rattle.record.proofs.Width.{is_good}
+use Rattle.model.specs.{ImagesAreRead, NewestIsTheHistorys, StampsFullAfterAllChanges, TakenInHistory, VersionReadsAreUnoverlapped, VersionsAreWholeOutside, past_of}
+use Rattle.model.proofs.Width.{is_good}
 use Rattle.history_laws.proofs.DataAlways.{data_of}
 use Rattle.history_laws.proofs.Given.{given_before}
 use Rattle.history_laws.proofs.ImageReads.{images_are_read}

@@ -1,8 +1,8 @@
 -- The invariant of the data also fixes whose image is read, and that stamps count the changes.
 use Rattle.std.proofs.Common.{ℕ, ◌<◌, ◌≤◌, ◌^◌, ◌-◌, sym, ap, subst, ◌∙◌, arith}
 use Rattle.plain_store.specs.{Contents, callers_of}
-use Rattle.record.specs.{ImagesAreOfTheStore, Past, bytes_of_bits, image_bytes, newest_stamp, past_of}
-use Rattle.record.proofs.Width.{is_good}
+use Rattle.model.specs.{ImagesAreOfTheStore, Past, bytes_of_bits, image_bytes, newest_stamp, past_of}
+use Rattle.model.proofs.Width.{is_good}
 use Rattle.laws.specs.{doing}
 use Rattle.laws.proofs.Invariant.{wires}
 use Rattle.history_laws.specs.{ChangesFitTheStamps, NewestStampCountsTheChanges}
@@ -16,7 +16,7 @@ use Rattle.history_laws.proofs.NewestHeld.{all_held, idle_outside}
 use Rattle.history_laws.proofs.NewestVersion.{newest_stamp_is}
 use Rattle.history_laws.proofs.VersionReads.{nobody}
 use Rattle.history_laws.proofs.Versions.{versions, store_of}
-use Rattle.record.specs.store_image.{IsImageOf}
+use Rattle.model.specs.store_image.{IsImageOf}
 
 pub images_of_the_store : ImagesAreOfTheStore
 images_of_the_store s ok events event e given is a access image ends last =

@@ -2,7 +2,7 @@
 use Rattle.std.proofs.Common.{◌≡◌, ℕ, ◌<◌, ◌&&◌, Bool, true, false, List, ◌∷◌, length, None, Some, refl, ap, ◌∙◌, eq-eqb}
 use Rattle.std.proofs.lemmas.Bool.{false≢true}
 use Rattle.plain_store.specs.{Command, Setup}
-use Rattle.record.specs.{AsksCommit, AsksImage, AsksStamp, Call, Entry, Part, Past, Reading, access_at, before_image_read, ends_read, image_field, is_image, newest_process, place_after, read_at, valued, version_of, width}
+use Rattle.model.specs.{AsksCommit, AsksImage, AsksStamp, Call, Entry, Part, Past, Reading, access_at, before_image_read, ends_read, image_field, is_image, newest_process, place_after, read_at, valued, version_of, width}
 use Rattle.laws.specs.{call}
 use Rattle.laws.proofs.Invariant.{Touches, Wires}
 use Rattle.laws.proofs.Reading.{ReadAccess}

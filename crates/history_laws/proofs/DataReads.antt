@@ -4,14 +4,14 @@ use Rattle.std.proofs.lemmas.Bool.{eqb-false}
 use Rattle.std.proofs.lemmas.List.{length-append, length_push}
 use Rattle.std.proofs.lemmas.List.FromFn.{get_or-range_with_len, length-range_with_len}
 use Rattle.std.proofs.Math.Seq.{get_or-append_seam}
-use Rattle.record.specs.{AsksCommit, AsksImage, AsksStamp, Call, Clears, Field, Part, Past, Place, Reading, Version, WritesImage, before_image_read, count_changes, enter, history, image_bytes, image_field, max_of, newest_process, newest_stamp, place_after, processes, read_at, reply, stamp_field, store_after, store_read, to_e, to_g, version_of, width}
-use Rattle.record.specs.declared.access.Field.TheVariants.{Commit, Image0}
-use Rattle.record.specs.safe_number.{number_of_bits}
-use Rattle.record.proofs.safe_number.Numbers.{length_bits}
-use Rattle.record.proofs.safe_number.Bits.{length-bits_of_number}
+use Rattle.model.specs.{AsksCommit, AsksImage, AsksStamp, Call, Clears, Field, Part, Past, Place, Reading, Version, WritesImage, before_image_read, count_changes, enter, history, image_bytes, image_field, max_of, newest_process, newest_stamp, place_after, processes, read_at, reply, stamp_field, store_after, store_read, to_e, to_g, version_of, width}
+use Rattle.model.specs.declared.access.Field.TheVariants.{Commit, Image0}
+use Rattle.model.specs.safe_number.{number_of_bits}
+use Rattle.model.proofs.safe_number.Numbers.{length_bits}
+use Rattle.model.proofs.safe_number.Bits.{length-bits_of_number}
 use Rattle.plain_store.specs.declared.Answer.TheVariants as answer
 use Rattle.plain_store.specs.{Command, Contents, Setup, changes, opening_store}
-use Rattle.record.specs.store_image.{image_of}
+use Rattle.model.specs.store_image.{image_of}
 use Rattle.laws.proofs.Bits.{AreBitsOf, number_read}
 use Rattle.laws.specs.{call}
 use Rattle.laws.proofs.Invariant.{Touches, Wires, touches, wires}

@@ -2,9 +2,9 @@
 use Rattle.std.specs.Prelude.{◌^◌}
 use Rattle.std.proofs.Common.{◌≡◌, ◌≢◌, ℕ, ◌+◌, ◌<◌, ◌≤◌, ◌==◌, Bool, true, false, cond, List, [], ◌∷◌, not, refl, sym, ap, subst, ◌∙◌, arith, inl, inr, true≢false}
 use Rattle.std.proofs.lemmas.Bool.{cases_eq, eq-eqb, ne_eqb}
-use Rattle.record.specs.{Call, Clears, Field, Past, Place, Version, WritesCommit, WritesImage, WritesStamp, Writing, caller, enter, image_field, is_last, new_image, newest_stamp, place_after, reply, stamp_field, version_of, write_moved}
-use Rattle.record.specs.declared.access.Field.TheVariants.{Commit}
-use Rattle.record.specs.safe_number.{NumberWrite}
+use Rattle.model.specs.{Call, Clears, Field, Past, Place, Version, WritesCommit, WritesImage, WritesStamp, Writing, caller, enter, image_field, is_last, new_image, newest_stamp, place_after, reply, stamp_field, version_of, write_moved}
+use Rattle.model.specs.declared.access.Field.TheVariants.{Commit}
+use Rattle.model.specs.safe_number.{NumberWrite}
 use Rattle.plain_store.specs.declared.Answer.TheVariants as answer
 use Rattle.plain_store.specs.{Command, Contents, Setup, after}
 use Rattle.laws.specs.{Doing, Runs, call, runs}

@@ -1,13 +1,13 @@
 -- The knowledge of a process after a step that works on no version. It is nothing; when it enters, it has read no version yet; when it leaves, it still knows why its call was refused.
 use Rattle.std.proofs.Common.{◌≡◌, ℕ, ◌+◌, ◌<◌, ◌==◌, Bool, true, false, cond, List, [], ◌∷◌, ◌++◌, Some, None, refl, sym, ap, subst, ◌∙◌, true≢false, append-nil}
-use Rattle.record.specs.reader_copies.Runs as copies
-use Rattle.record.specs.declared.access.Field.TheVariants.{Commit}
-use Rattle.record.specs.safe_number.{new_write, number_of_bits}
+use Rattle.model.specs.reader_copies.Runs as copies
+use Rattle.model.specs.declared.access.Field.TheVariants.{Commit}
+use Rattle.model.specs.safe_number.{new_write, number_of_bits}
 use Rattle.plain_store.specs.{Command, Contents, Setup}
-use Rattle.record.specs.{Asks, AsksCommit, AsksImage, AsksStamp, Call, Clears, Entry, Event, Over, Part, Past, Place, Raises, Refuses, TakesTicket, Version, Wait, Waits, WritesCommit, WritesImage, WritesStamp, before_image_read, bits_with, enter, entry_of, first_full, greatest, image_field, is_last, is_over, lets_by, max_of, new_run, others, part_after, past_of, place_after, process_of, processes, run_after, to_b, to_d, to_e, value_of, waits_of, write_moved}
-use Rattle.record.specs.Closings.{Closing, Withdraws, Settles, Frees, Lowers, Quit, Ended, is_last_written, is_last_settled, no_ticket, freeing, closing_after}
-use Rattle.record.specs.Parts as part
-use Rattle.record.proofs.Width.{IsGood}
+use Rattle.model.specs.{Asks, AsksCommit, AsksImage, AsksStamp, Call, Clears, Entry, Event, Over, Part, Past, Place, Raises, Refuses, TakesTicket, Version, Wait, Waits, WritesCommit, WritesImage, WritesStamp, before_image_read, bits_with, enter, entry_of, first_full, greatest, image_field, is_last, is_over, lets_by, max_of, new_run, others, part_after, past_of, place_after, process_of, processes, run_after, to_b, to_d, to_e, value_of, waits_of, write_moved}
+use Rattle.model.specs.Closings.{Closing, Withdraws, Settles, Frees, Lowers, Quit, Ended, is_last_written, is_last_settled, no_ticket, freeing, closing_after}
+use Rattle.model.specs.Parts as part
+use Rattle.model.proofs.Width.{IsGood}
 use Rattle.laws.specs.{Doing, Rests, Runs, call, runs, closes, doing, is_inside_at}
 use Rattle.laws.proofs.Doings.{IsCut, at_rest, between, within, leaving, clearing, Step, calls, withdraws, fails, restarts, steps, closes_on}
 use Rattle.laws.proofs.Invariant.{Wires, wires, Touches, touches}

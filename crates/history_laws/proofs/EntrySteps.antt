@@ -1,8 +1,8 @@
 -- An accepted entry with an access: its call, the commit bits that are being written then, and the data that it keeps if it takes a change or nothing.
 use Rattle.std.proofs.Common.{◌≡◌, ℕ, ◌<◌, Bool, true, cond, List, ◌∷◌, None, Some, refl, sym, ap, subst, ◌∙◌}
-use Rattle.record.specs.{Access, Call, Entry, Event, Past, caller, last_call, own, past_of, reply_taken, stage, store_after}
+use Rattle.model.specs.{Access, Call, Entry, Event, Past, caller, last_call, own, past_of, reply_taken, stage, store_after}
 use Rattle.plain_store.specs.{Command, Contents, Reply, Setup, after, changes}
-use Rattle.record.proofs.Width.{IsGood}
+use Rattle.model.proofs.Width.{IsGood}
 use Rattle.laws.specs.{Doing, Runs, Closes, call, doing}
 use Rattle.laws.proofs.Frame.{Does, at_rest, lying, running, leaving, settling, doing-other}
 use Rattle.laws.proofs.FrameCells.{EntryBy}

@@ -1,6 +1,6 @@
 -- An entry with an access writes one field of its process at most.
 use Rattle.std.proofs.Common.{◌≡◌, ℕ, ◌∷◌, Some}
-use Rattle.record.specs.{Access, Entry, Past}
+use Rattle.model.specs.{Access, Entry, Past}
 use Rattle.plain_store.specs.{Setup}
 use Rattle.laws.proofs.FrameCells.{EntryBy}
 use Rattle.laws.proofs.FrameWires.{wires-fields, wires-others}

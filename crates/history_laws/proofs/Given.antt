@@ -5,15 +5,15 @@ use Rattle.std.proofs.lemmas.Bool.Decides.{nat_tests}
 use Rattle.std.specs.Prelude.{nat_lt, nat_le}
 use Rattle.std.specs.List.{list_all, list_any}
 use Rattle.plain_store.specs.{Setup, is_command}
-use Rattle.record.specs.{AreGiven, Call, Entry, Event, Mark, Next, Past, Refusal, added, bits_with, call_number, calls_full, calls_in, entry_made, entry_of, has, history, is_event, is_fresh, is_last, last_command, marks_of, nth, own, past_of, process_of, program, refused_at, since, stage, starts, stepped, value_of}
-use Rattle.record.specs.declared.events.Event.TheVariants as event
-use Rattle.record.specs.declared.marks.Mark.TheVariants.{Called, Failed, Withdrew, Restarted}
-use Rattle.record.specs.declared.refusals.Refusal.TheVariants.{NoProcess, CallsFull}
-use Rattle.record.proofs.Local.{calls-plain, command-plain, option_map-some}
-use Rattle.record.proofs.OpenSteps.{closing-plain}
-use Rattle.record.proofs.Staging.{no_start-marks, no_start-placed}
-use Rattle.record.proofs.Width.{IsGood}
-use Rattle.record.proofs.World.{entry-accepted}
+use Rattle.model.specs.{AreGiven, Call, Entry, Event, Mark, Next, Past, Refusal, added, bits_with, call_number, calls_full, calls_in, entry_made, entry_of, has, history, is_event, is_fresh, is_last, last_command, marks_of, nth, own, past_of, process_of, program, refused_at, since, stage, starts, stepped, value_of}
+use Rattle.model.specs.declared.events.Event.TheVariants as event
+use Rattle.model.specs.declared.marks.Mark.TheVariants.{Called, Failed, Withdrew, Restarted}
+use Rattle.model.specs.declared.refusals.Refusal.TheVariants.{NoProcess, CallsFull}
+use Rattle.model.proofs.Local.{calls-plain, command-plain, option_map-some}
+use Rattle.model.proofs.OpenSteps.{closing-plain}
+use Rattle.model.proofs.Staging.{no_start-marks, no_start-placed}
+use Rattle.model.proofs.Width.{IsGood}
+use Rattle.model.proofs.World.{entry-accepted}
 use Rattle.laws.specs.{Doing, call, doing}
 use Rattle.laws.proofs.Frame.{Does, at_rest, lying, running, leaving, settling, Happens, a_call, a_withdrawal, a_failure, a_restart, a_step, a_closing, own-other, own-own}
 use Rattle.laws.proofs.FrameEvents.{accepted, does_all}

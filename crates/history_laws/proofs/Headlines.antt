@@ -1,9 +1,9 @@
 -- One history, and the headline, put together.
 use Rattle.std.proofs.Common.{◌≡◌, List, [], ◌∷◌, ◌++◌, Option, None, Some, Ok, refl, ap, subst}
 use Rattle.plain_store.specs.{Setup, checked}
-use Rattle.record.specs.{AreGiven, Entry, Event, Past, entry_of, past_of}
-use Rattle.record.specs.Headline.{AnsweredCallsTakeNoMore, AnswersAreTaken, AnswersStandInHistory, AsksTheLatestChange, CallsTakeOnce, CallsTakeWhatTheyAnswer, CutCallsAreNotAnswered, Headline, IsAlone, KeepsHeadline, KeepsHeadlineThroughout, KeepsOrder, MutualExclusion, NoOvertaking, OneHistory, PlacesKeepOrder, TakenOnce, TellsOfCutCalls}
-use Rattle.record.proofs.Width.{is_good}
+use Rattle.model.specs.{AreGiven, Entry, Event, Past, entry_of, past_of}
+use Rattle.model.specs.Headline.{AnsweredCallsTakeNoMore, AnswersAreTaken, AnswersStandInHistory, AsksTheLatestChange, CallsTakeOnce, CallsTakeWhatTheyAnswer, CutCallsAreNotAnswered, Headline, IsAlone, KeepsHeadline, KeepsHeadlineThroughout, KeepsOrder, MutualExclusion, NoOvertaking, OneHistory, PlacesKeepOrder, TakenOnce, TellsOfCutCalls}
+use Rattle.model.proofs.Width.{is_good}
 use Rattle.laws.proofs.Always.{inv_of}
 use Rattle.laws.proofs.Theorems as lock
 use Rattle.laws.proofs.DoorwayEnds.{full_names_the_lowest, waiters_read_none}

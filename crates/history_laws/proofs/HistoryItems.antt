@@ -2,9 +2,9 @@
 use Rattle.std.proofs.Common.{◌≡◌, ◌≢◌, ◌⊎◌, ℕ, zero, suc, ◌<◌, ◌≤◌, ◌==◌, Bool, true, false, cond, List, [], ◌∷◌, ◌++◌, Option, Some, None, length, take, slice_get, refl, sym, ap, subst, ◌∙◌, arith, inl, inr, eqb-true, Ok, Contains}
 use Rattle.std.proofs.lemmas.List.{length-replicate}
 use Rattle.plain_store.specs.{Reply, Setup, callers_of, checked, opening_store, reply_to}
-use Rattle.record.specs.{AreGiven, Entry, Event, Mark, Past, Taken, TakenInHistory, all_takings, call_number, calls_in, entry_of, has, history, is_called, own, past_of, reply_taken, since, store_after, takings}
-use Rattle.record.specs.declared.marks.Mark.TheVariants as mark
-use Rattle.record.proofs.Width.{IsGood}
+use Rattle.model.specs.{AreGiven, Entry, Event, Mark, Past, Taken, TakenInHistory, all_takings, call_number, calls_in, entry_of, has, history, is_called, own, past_of, reply_taken, since, store_after, takings}
+use Rattle.model.specs.declared.marks.Mark.TheVariants as mark
+use Rattle.model.proofs.Width.{IsGood}
 use Rattle.laws.proofs.AtPlaces.{own-induction}
 use Rattle.laws.specs.{doing}
 use Rattle.laws.proofs.Frame.{own-other, own-own}

@@ -1,12 +1,12 @@
 -- A process that has read the newest image has read the image of the store after the history.
 use Rattle.std.proofs.Common.{◌≡◌, ℕ, ◌+◌, ◌<◌, ◌==◌, Bool, true, false, cond, List, [], ◌∷◌, ◌++◌, length, Some, refl, sym, ap, subst, ◌∙◌, eq-eqb}
 use Rattle.std.proofs.lemmas.Bool.{false≢true}
-use Rattle.record.specs.{Access, AsksCommit, AsksImage, AsksStamp, Call, Entry, Event, Field, Numbers, Part, Past, ReadSoFar, Reading, Version, Waits, access_at, bytes_of_bits, ends_read, entry_of, image_bytes, image_field, is_called, is_image, is_version, last_read, newest_process, own, past_of, read_at, read_so_far, since, stamp_field, value_of, valued, version_of, width, with_access}
-use Rattle.record.specs.declared.access.Field.TheVariants.{Image0, Image1}
+use Rattle.model.specs.{Access, AsksCommit, AsksImage, AsksStamp, Call, Entry, Event, Field, Numbers, Part, Past, ReadSoFar, Reading, Version, Waits, access_at, bytes_of_bits, ends_read, entry_of, image_bytes, image_field, is_called, is_image, is_version, last_read, newest_process, own, past_of, read_at, read_so_far, since, stamp_field, value_of, valued, version_of, width, with_access}
+use Rattle.model.specs.declared.access.Field.TheVariants.{Image0, Image1}
 use Rattle.plain_store.specs.{Command, Contents, Setup, callers_of}
-use Rattle.record.specs.store_image.{IsImageOf}
-use Rattle.record.proofs.Local.{since_called-plain}
-use Rattle.record.proofs.Width.{IsGood}
+use Rattle.model.specs.store_image.{IsImageOf}
+use Rattle.model.proofs.Local.{since_called-plain}
+use Rattle.model.proofs.Width.{IsGood}
 use Rattle.laws.proofs.Alone.{version-at}
 use Rattle.laws.proofs.Always.{inv_of}
 use Rattle.laws.proofs.AtPlaces.{AtPlace, Stepping, plain-stepping}

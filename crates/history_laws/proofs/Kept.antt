@@ -1,12 +1,12 @@
 -- The invariant of the data. Committed registers are whole and hold the history's values. The process inside has read what the registers hold, and writes only registers that are not committed.
 use Rattle.std.specs.Prelude.{◌≡◌, ◌⊎◌, ℕ, ◌+◌, ◌^◌, ◌<◌, ◌≤◌, Bool, true, false, not, List, [], ◌∷◌, ◌++◌, length, Option, None, Some}
-use Rattle.record.specs.reader_copies.Runs as copies
-use Rattle.record.specs.{AsksCommit, AsksImage, AsksStamp, Call, Clears, Closing, Field, Part, Past, Reading, Run, Settles, Version, WritesCommit, WritesImage, WritesStamp, Writing, before_image_read, count_changes, history, image_field, is_fresh, is_version, max_of, new_image, processes, reply, stamp_field, store_after, width}
-use Rattle.record.specs.declared.access.Field.TheVariants.{Commit, Image0}
-use Rattle.record.specs.safe_number.{bits_in, bits_of_number}
+use Rattle.model.specs.reader_copies.Runs as copies
+use Rattle.model.specs.{AsksCommit, AsksImage, AsksStamp, Call, Clears, Closing, Field, Part, Past, Reading, Run, Settles, Version, WritesCommit, WritesImage, WritesStamp, Writing, before_image_read, count_changes, history, image_field, is_fresh, is_version, max_of, new_image, processes, reply, stamp_field, store_after, width}
+use Rattle.model.specs.declared.access.Field.TheVariants.{Commit, Image0}
+use Rattle.model.specs.safe_number.{bits_in, bits_of_number}
 use Rattle.plain_store.specs.{Answer, Contents, Reply, Setup, changes, opening_store}
 use Rattle.plain_store.specs.declared.Answer.TheVariants as answer
-use Rattle.record.specs.store_image.{image_of}
+use Rattle.model.specs.store_image.{image_of}
 use Rattle.laws.specs.{Doing, Runs, Closes, call, doing}
 use Rattle.laws.proofs.Invariant.{Wire, Wires, Touches, Closed, wires, touches, bit}
 use Rattle.history_laws.proofs.Sound.{IsStoreOf, IsGivenTo}

@@ -1,9 +1,9 @@
 -- One process moves. If its step keeps the registers and its own knowledge, all processes keep theirs: while it is inside, the others know nothing of the versions; otherwise its step does not change the versions.
 use Rattle.std.proofs.Common.{◌≡◌, ◌≢◌, ◌⊎◌, ℕ, ◌+◌, ◌<◌, ◌==◌, ◌&&◌, Bool, true, false, not, [], ◌∷◌, Option, Some, None, refl, sym, ap, subst, ◌∙◌, true≢false, inl, inr}
 use Rattle.std.proofs.lemmas.Bool.{cases_eq, ne_eqb}
-use Rattle.record.specs.reader_copies.Runs as copies
-use Rattle.record.specs.{AsksCommit, AsksImage, AsksStamp, Call, Clears, Closing, Entry, Field, Part, Past, Run, Settles, WritesCommit, WritesImage, WritesStamp, before_image_read, count_changes, ends_read, history, image_field, is_fresh, is_image, is_version, max_of, new_image, stamp_field, store_after}
-use Rattle.record.specs.declared.access.Field.TheVariants.{Choosing, Ticket, Commit, Stamp0, Stamp1, Image0, Image1}
+use Rattle.model.specs.reader_copies.Runs as copies
+use Rattle.model.specs.{AsksCommit, AsksImage, AsksStamp, Call, Clears, Closing, Entry, Field, Part, Past, Run, Settles, WritesCommit, WritesImage, WritesStamp, before_image_read, count_changes, ends_read, history, image_field, is_fresh, is_image, is_version, max_of, new_image, stamp_field, store_after}
+use Rattle.model.specs.declared.access.Field.TheVariants.{Choosing, Ticket, Commit, Stamp0, Stamp1, Image0, Image1}
 use Rattle.plain_store.specs.{Answer, Contents, Reply, Setup, changes, opening_store}
 use Rattle.plain_store.specs.declared.Answer.TheVariants as answer
 use Rattle.laws.specs.{Doing, Rests, Lies, Runs, Closes, call, doing, is_inside, is_inside_at}

@@ -3,13 +3,13 @@ use Rattle.std.proofs.Common.{◌≡◌, ℕ, zero, suc, ◌+◌, ◌^◌, ◌<�
 use Rattle.std.specs.List.{range_with_len}
 use Rattle.std.proofs.lemmas.List.{ext_get_or}
 use Rattle.std.proofs.lemmas.List.FromFn.{get_or-map-range_with_len, length-map-range_with_len}
-use Rattle.record.specs.{Event, Field, Past, Version, bits_held, bytes_of_bits, cell_after, copy, image_bytes, image_field, inside, is_somebody_inside, newest_bytes, newest_process, past_of, processes, stamp_field, version_held, version_of, versions_held, width}
-use Rattle.record.specs.declared.access.Field.TheVariants.{Commit}
-use Rattle.record.specs.safe_number.{number_of_bits}
-use Rattle.record.proofs.safe_number.Bits.{number-bits, length-bits_of_number}
+use Rattle.model.specs.{Event, Field, Past, Version, bits_held, bytes_of_bits, cell_after, copy, image_bytes, image_field, inside, is_somebody_inside, newest_bytes, newest_process, past_of, processes, stamp_field, version_held, version_of, versions_held, width}
+use Rattle.model.specs.declared.access.Field.TheVariants.{Commit}
+use Rattle.model.specs.safe_number.{number_of_bits}
+use Rattle.model.proofs.safe_number.Bits.{number-bits, length-bits_of_number}
 use Rattle.plain_store.specs.{Contents, Setup}
-use Rattle.record.specs.store_image.{image_of}
-use Rattle.record.proofs.Width.{IsGood}
+use Rattle.model.specs.store_image.{image_of}
+use Rattle.model.proofs.Width.{IsGood}
 use Rattle.laws.proofs.Alone.{closes_inside}
 use Rattle.laws.specs.{Doing, doing}
 use Rattle.laws.proofs.FrameInside.{inside-is}

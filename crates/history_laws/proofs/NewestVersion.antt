@@ -4,7 +4,7 @@ use Rattle.std.proofs.lemmas.Bool.{eqb-false}
 use Rattle.std.proofs.lemmas.List.FromFn.{get_or-map-range_with_len}
 use Rattle.std.specs.List.{range_with_len}
 use Rattle.plain_store.specs.{Contents, Setup}
-use Rattle.record.specs.{Version, greatest, index_of, newest_process, newest_stamp, processes, version_of}
+use Rattle.model.specs.{Version, greatest, index_of, newest_process, newest_stamp, processes, version_of}
 use Rattle.history_laws.proofs.Kept.{Kept}
 use Rattle.history_laws.proofs.Versions.{Versions, versions_of}
 use Rattle.laws.proofs.Invariant.{Wires}

@@ -1,19 +1,19 @@
 -- If a write of a version's bit is open, the bit's owner or its memory unit is making it, inside.
 use Rattle.std.proofs.Common.{◌≡◌, ℕ, ◌==◌, ◌&&◌, ◌%◌, Bool, true, false, List, [], ◌∷◌, Some, refl, sym, ap, subst, ◌∙◌, true≢false}
 use Rattle.std.proofs.lemmas.Bool.{and_parts, false≢true}
-use Rattle.record.specs.{Access, Call, Event, Field, Part, Past, Place, Reading, Run, Stage, Writing, access_of, bit_written, call_number, field_number, is_fresh, is_running, is_version, last_command, next_written, open_closing, open_copy, open_run, open_settled, open_written, own, past_of, same_bit, stage, written_at}
-use Rattle.record.specs.declared.access.Field.TheVariants.{Choosing, Ticket}
-use Rattle.record.specs.safe_number.{NumberWrite}
-use Rattle.record.specs.reader_copies.Runs as copies
+use Rattle.model.specs.{Access, Call, Event, Field, Part, Past, Place, Reading, Run, Stage, Writing, access_of, bit_written, call_number, field_number, is_fresh, is_running, is_version, last_command, next_written, open_closing, open_copy, open_run, open_settled, open_written, own, past_of, same_bit, stage, written_at}
+use Rattle.model.specs.declared.access.Field.TheVariants.{Choosing, Ticket}
+use Rattle.model.specs.safe_number.{NumberWrite}
+use Rattle.model.specs.reader_copies.Runs as copies
 use Rattle.plain_store.specs.{Command, Setup}
-use Rattle.record.specs.declared.marks.Mark.TheVariants.{Called, Failed, Withdrew}
-use Rattle.record.specs.declared.stages.Stage.TheVariants as stages
-use Rattle.record.specs.Closings.{Closing, Withdraws, Settles, Frees, Lowers, Quit, Ended, no_ticket}
-use Rattle.record.proofs.Opens.{opened}
-use Rattle.record.proofs.OpenSteps.{Opens, closed, runs_at, leaves, settles, place_at, leaving_at, failing_at}
-use Rattle.record.proofs.TurnRecords.{opens_all}
-use Rattle.record.proofs.Width.{IsGood}
-use Rattle.record.proofs.Writer.{each_own, open-own}
+use Rattle.model.specs.declared.marks.Mark.TheVariants.{Called, Failed, Withdrew}
+use Rattle.model.specs.declared.stages.Stage.TheVariants as stages
+use Rattle.model.specs.Closings.{Closing, Withdraws, Settles, Frees, Lowers, Quit, Ended, no_ticket}
+use Rattle.model.proofs.Opens.{opened}
+use Rattle.model.proofs.OpenSteps.{Opens, closed, runs_at, leaves, settles, place_at, leaving_at, failing_at}
+use Rattle.model.proofs.TurnRecords.{opens_all}
+use Rattle.model.proofs.Width.{IsGood}
+use Rattle.model.proofs.Writer.{each_own, open-own}
 use Rattle.laws.proofs.Alone.{ClosesInside, SettlesInside, closes_inside, version-written}
 use Rattle.laws.specs.{Doing, Rests, Lies, Runs, Closes, call, doing, is_inside, is_inside_at}
 use Rattle.laws.proofs.Frame.{Does, at_rest, lying, running, leaving, settling}

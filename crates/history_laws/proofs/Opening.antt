@@ -6,12 +6,12 @@ use Rattle.std.proofs.lemmas.Nat.{pow_pos}
 use Rattle.std.specs.Int.{is_in_range}
 use Rattle.std.specs.List.{list_all}
 use Rattle.plain_store.specs.{Setup, callers_of, checked, opening_store}
-use Rattle.record.specs.store_image.{is_number}
+use Rattle.model.specs.store_image.{is_number}
 use Rattle.plain_store.proofs.GoodSetups.{good-checked, few-opening}
-use Rattle.record.proofs.Width.{is_good}
-use Rattle.record.specs.{AreGiven, Event}
-use Rattle.record.specs.safe_number.{bits_of_number}
-use Rattle.record.specs.declared.access.Field.TheVariants.{Commit, Stamp0}
+use Rattle.model.proofs.Width.{is_good}
+use Rattle.model.specs.{AreGiven, Event}
+use Rattle.model.specs.safe_number.{bits_of_number}
+use Rattle.model.specs.declared.access.Field.TheVariants.{Commit, Stamp0}
 use Rattle.laws.proofs.Invariant.{Closed, bit, wires}
 use Rattle.history_laws.proofs.Sound.{IsStoreOf}
 use Rattle.history_laws.proofs.Kept.{stamp_bits_of, Data}

@@ -4,9 +4,9 @@ use Rattle.std.specs.List.{list_any}
 use Rattle.std.proofs.lemmas.Bool.{or_right}
 use Rattle.std.proofs.lemmas.List.{length-map}
 use Rattle.plain_store.specs.{Answer, Reply, Setup}
-use Rattle.record.specs.{Entry, Event, IsAnswerTo, Past, all_takings, ends_span, entries_of_call, entry_of, has, has_ended, history, is_called, is_failed, own, past_of, since, takings, takings_of_call}
-use Rattle.record.specs.declared.marks.Mark.TheVariants.{Answered}
-use Rattle.record.proofs.Width.{IsGood}
+use Rattle.model.specs.{Entry, Event, IsAnswerTo, Past, all_takings, ends_span, entries_of_call, entry_of, has, has_ended, history, is_called, is_failed, own, past_of, since, takings, takings_of_call}
+use Rattle.model.specs.declared.marks.Mark.TheVariants.{Answered}
+use Rattle.model.proofs.Width.{IsGood}
 use Rattle.laws.specs.{Doing, doing}
 use Rattle.laws.proofs.Frame.{own-own}
 use Rattle.history_laws.specs.{taken_with}

@@ -1,16 +1,16 @@
 -- A process that does not work on the versions, inside or outside, takes nothing and touches no register of a version. Its step does not change the versions.
 use Rattle.std.proofs.Common.{◌≡◌, ◌≢◌, ℕ, ◌==◌, ◌&&◌, Bool, true, false, cond, List, [], ◌∷◌, ◌++◌, length, map, Option, Some, None, refl, sym, ap, subst, ◌∙◌, true≢false}
 use Rattle.std.proofs.lemmas.Bool.{false≢true}
-use Rattle.record.specs.reader_copies.Runs as copies
-use Rattle.record.specs.{Access, AsksCommit, AsksImage, AsksStamp, Call, Clears, Entry, Event, Field, Mark, Next, Part, Past, Reading, Run, Wait, Waits, WritesCommit, WritesImage, WritesStamp, Writing, access_at, before_image_read, bits_with, ends_read, entered_if_none, entry_of, first_marks, history, is_commit, is_fresh, is_image, is_last, is_version, last_marks, lets_by, marks_of, past_of, placed, reply_taken, store_after, value_of, valued, waits_of}
-use Rattle.record.specs.declared.access.Field.TheVariants.{Choosing, Ticket, Commit}
+use Rattle.model.specs.reader_copies.Runs as copies
+use Rattle.model.specs.{Access, AsksCommit, AsksImage, AsksStamp, Call, Clears, Entry, Event, Field, Mark, Next, Part, Past, Reading, Run, Wait, Waits, WritesCommit, WritesImage, WritesStamp, Writing, access_at, before_image_read, bits_with, ends_read, entered_if_none, entry_of, first_marks, history, is_commit, is_fresh, is_image, is_last, is_version, last_marks, lets_by, marks_of, past_of, placed, reply_taken, store_after, value_of, valued, waits_of}
+use Rattle.model.specs.declared.access.Field.TheVariants.{Choosing, Ticket, Commit}
 use Rattle.plain_store.specs.declared.Answer.TheVariants as answer
 use Rattle.plain_store.specs.{Reply, Setup}
-use Rattle.record.specs.declared.marks.Mark.TheVariants.{Taken, Left, Answered, Down}
-use Rattle.record.specs.Closings.{Closing, Withdraws, Settles, Frees, Lowers, Quit, Ended, is_last_written, is_last_settled, is_unwritten, no_ticket, closing_next, settled_marks}
-use Rattle.record.specs.Parts as part
-use Rattle.record.proofs.Turns.{and_false}
-use Rattle.record.proofs.Width.{IsGood}
+use Rattle.model.specs.declared.marks.Mark.TheVariants.{Taken, Left, Answered, Down}
+use Rattle.model.specs.Closings.{Closing, Withdraws, Settles, Frees, Lowers, Quit, Ended, is_last_written, is_last_settled, is_unwritten, no_ticket, closing_next, settled_marks}
+use Rattle.model.specs.Parts as part
+use Rattle.model.proofs.Turns.{and_false}
+use Rattle.model.proofs.Width.{IsGood}
 use Rattle.laws.specs.{Doing, Rests, Lies, Runs, Closes, call, doing, is_inside, is_inside_at, is_inside_closing}
 use Rattle.laws.proofs.Doings.{Step, calls, withdraws, fails, restarts, steps, closes_on}
 use Rattle.laws.proofs.Invariant.{wires, touches}

@@ -3,9 +3,9 @@ use Rattle.std.proofs.Common.{◌≡◌, ℕ, ◌+◌, ◌==◌, ◌<◌, Bool, 
 use Rattle.std.specs.List.{list_any}
 use Rattle.plain_store.specs.declared.Answer.TheVariants as answer
 use Rattle.plain_store.specs.{Command, Reply, changes}
-use Rattle.record.specs.{Call, IsAnswerTo, Mark, Place, Version, Wait, bits_with, ends_span, enter, entered_if_none, first_full, greatest, is_called, is_failed, is_fresh, is_last, lets_by, marks_of, max_of, newest_stamp, others, place_after, placed, processes, reply, run_after, store_read, takings, waits_of}
-use Rattle.record.specs.declared.marks.Mark.TheVariants.{Waiting, Taken, Left, Answered}
-use Rattle.record.specs.Parts.{Part, Raises, Asks, TakesTicket, Lowers, Refuses, Waits, AsksCommit, AsksStamp, AsksImage, WritesImage, WritesStamp, WritesCommit, Clears, Over, is_over, first_marks, last_marks, part_after, to_b, to_c, to_d, to_e}
+use Rattle.model.specs.{Call, IsAnswerTo, Mark, Place, Version, Wait, bits_with, ends_span, enter, entered_if_none, first_full, greatest, is_called, is_failed, is_fresh, is_last, lets_by, marks_of, max_of, newest_stamp, others, place_after, placed, processes, reply, run_after, store_read, takings, waits_of}
+use Rattle.model.specs.declared.marks.Mark.TheVariants.{Waiting, Taken, Left, Answered}
+use Rattle.model.specs.Parts.{Part, Raises, Asks, TakesTicket, Lowers, Refuses, Waits, AsksCommit, AsksStamp, AsksImage, WritesImage, WritesStamp, WritesCommit, Clears, Over, is_over, first_marks, last_marks, part_after, to_b, to_c, to_d, to_e}
 use Rattle.laws.specs.{Runs, Rests, runs}
 use Rattle.history_laws.proofs.Took.{TookAt, EachAnswer, Gives, Tells, Silent, unmarked, no_answer, kept, few, part-few}
 

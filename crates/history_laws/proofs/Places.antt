@@ -1,9 +1,9 @@
 -- The places of the commands that are taken, and how the history grows.
 use Rattle.std.proofs.Common.{◌≡◌, ℕ, zero, suc, ◌<◌, List, [], ◌∷◌, ◌++◌, Some, None, length, map, refl, sym, ap, subst, arith, append-nil, Contains}
 use Rattle.plain_store.specs.{Reply, Setup}
-use Rattle.record.specs.{Entry, Event, Mark, Past, Taken, entry_of, history, marks_of, past_of, placed, reply_taken, takings, value_of}
-use Rattle.record.specs.declared.marks.Mark.TheVariants as mark
-use Rattle.record.proofs.Width.{IsGood}
+use Rattle.model.specs.{Entry, Event, Mark, Past, Taken, entry_of, history, marks_of, past_of, placed, reply_taken, takings, value_of}
+use Rattle.model.specs.declared.marks.Mark.TheVariants as mark
+use Rattle.model.proofs.Width.{IsGood}
 use Rattle.laws.specs.{Doing, call, doing}
 use Rattle.laws.proofs.Frame.{Happens, a_call, a_withdrawal, a_failure, a_restart, a_step, a_closing}
 use Rattle.laws.proofs.FrameEvents.{accepted}

@@ -2,10 +2,10 @@
 use Rattle.std.proofs.Common.{◌≡◌, ℕ, ◌<◌, Bool, true, false, List, [], ◌∷◌, Some, None, Ok, refl, sym, ap, ◌∙◌}
 use Rattle.std.specs.Prelude.{IsTrue}
 use Rattle.plain_store.specs.{Setup, checked, opening_store}
-use Rattle.record.specs.{AreGiven, Entry, Event, Mark, Part, Past, Run, Version, count_changes, entry_of, has, history, inside, newest_stamp, past_of, processes, reply_taken}
-use Rattle.record.specs.declared.marks.Mark.TheVariants as mark
-use Rattle.record.specs.Parts as part
-use Rattle.record.proofs.Width.{IsGood}
+use Rattle.model.specs.{AreGiven, Entry, Event, Mark, Part, Past, Run, Version, count_changes, entry_of, has, history, inside, newest_stamp, past_of, processes, reply_taken}
+use Rattle.model.specs.declared.marks.Mark.TheVariants as mark
+use Rattle.model.specs.Parts as part
+use Rattle.model.proofs.Width.{IsGood}
 use Rattle.laws.specs.{Doing, Runs, call, doing, is_taken}
 use Rattle.laws.proofs.Alone.{alone}
 use Rattle.laws.proofs.Always.{inv_of}

@@ -1,12 +1,12 @@
 -- A memory unit settles a bit of a process that was inside. The bit is in a register that is not committed, or is a commit bit, whose last access takes the command if it settles at the new value.
 use Rattle.std.proofs.Common.{◌≡◌, ℕ, Bool, true, false, cond, not, List, [], ◌∷◌, length, map, Option, None, Some, refl, sym, ap, subst, ◌∙◌}
 use Rattle.std.proofs.lemmas.Bool.{false≢true}
-use Rattle.record.specs.reader_copies.Runs as copies
-use Rattle.record.specs.safe_bit.{read_value}
-use Rattle.record.specs.{Access, Call, Closing, Entry, Event, Field, Next, Past, Settles, access_of, caller, closing_after, closing_next, ended_with, entry_of, freeing, history, is_last_settled, last_call, moves_of, opening_bit, own, past_of, placed, reply, reply_taken, settled_marks, valued}
-use Rattle.record.specs.declared.access.Field.TheVariants.{Choosing, Ticket, Commit, Stamp0, Stamp1, Image0, Image1}
+use Rattle.model.specs.reader_copies.Runs as copies
+use Rattle.model.specs.safe_bit.{read_value}
+use Rattle.model.specs.{Access, Call, Closing, Entry, Event, Field, Next, Past, Settles, access_of, caller, closing_after, closing_next, ended_with, entry_of, freeing, history, is_last_settled, last_call, moves_of, opening_bit, own, past_of, placed, reply, reply_taken, settled_marks, valued}
+use Rattle.model.specs.declared.access.Field.TheVariants.{Choosing, Ticket, Commit, Stamp0, Stamp1, Image0, Image1}
 use Rattle.plain_store.specs.{Command, Contents, Reply, Setup, after}
-use Rattle.record.proofs.Width.{IsGood}
+use Rattle.model.proofs.Width.{IsGood}
 use Rattle.laws.specs.{Doing, Closes, call, closes, doing}
 use Rattle.laws.proofs.Frame.{Happens, a_call, a_withdrawal, a_failure, a_restart, a_step, a_closing, may_fail}
 use Rattle.laws.proofs.FrameEvents.{accepted}

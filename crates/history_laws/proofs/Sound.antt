@@ -1,7 +1,7 @@
 -- Sound stores, which have an image, and sound processes, which were given their calls.
 use Rattle.std.specs.Prelude.{◌≡◌, ◌^◌, ◌<◌, true, length}
 use Rattle.plain_store.specs.{Contents, Setup, callers_of, is_command}
-use Rattle.record.specs.store_image.{IsStore}
+use Rattle.model.specs.store_image.{IsStore}
 use Rattle.laws.specs.{Doing, Runs, Closes}
 
 -- a store of this setup that has an image

@@ -6,9 +6,9 @@ use Rattle.plain_store.specs.{Caller, Command, Contents, Pair, Setup, Value, add
 use Rattle.plain_store.specs.declared.Command.TheVariants.{Read, Write, Add, Cas, Ask}
 use Rattle.plain_store.specs.declared.commands.Reply.TheVariants as reply
 use Rattle.plain_store.specs.declared.commands.Value.TheVariants.{Count, Text}
-use Rattle.record.specs.store_image.{IsStore, place_for}
+use Rattle.model.specs.store_image.{IsStore, place_for}
 use Rattle.plain_store.proofs.Changes.{put-same, same_value-Decides}
-use Rattle.record.proofs.store_image.Puts.{IsStore-with_number, IsStore-with_pair, written_room}
+use Rattle.model.proofs.store_image.Puts.{IsStore-with_number, IsStore-with_pair, written_room}
 use Rattle.history_laws.proofs.Sound.{IsStoreOf}
 
 -- The values that a command writes.

@@ -4,7 +4,7 @@ use Rattle.std.proofs.lemmas.Bool.{eqb-false}
 use Rattle.std.proofs.lemmas.Bool.Decides.{nat_tests}
 use Rattle.std.proofs.lemmas.List.{get_or-set_same, get_or-set_other, length-set}
 use Rattle.plain_store.specs.{Contents, changes, number_of}
-use Rattle.record.specs.{Taken, has_change, latest_change}
+use Rattle.model.specs.{Taken, has_change, latest_change}
 use Rattle.history_laws.proofs.CountedChanges.{then}
 
 -- Numbers.

@@ -2,9 +2,9 @@
 use Rattle.std.proofs.Common.{◌≡◌, ◌≢◌, ℕ, true, false, List, [], ◌∷◌, Some, length, refl, sym, ap, subst, arith}
 use Rattle.std.specs.List.{list_any}
 use Rattle.plain_store.specs.{Reply, Setup}
-use Rattle.record.specs.{Entry, Event, Mark, Past, all_takings, ends_span, entry_of, has, history, is_called, is_failed, own, past_of, since, value_of}
-use Rattle.record.specs.declared.marks.Mark.TheVariants.{Withdrew, Restarted}
-use Rattle.record.proofs.Width.{IsGood}
+use Rattle.model.specs.{Entry, Event, Mark, Past, all_takings, ends_span, entry_of, has, history, is_called, is_failed, own, past_of, since, value_of}
+use Rattle.model.specs.declared.marks.Mark.TheVariants.{Withdrew, Restarted}
+use Rattle.model.proofs.Width.{IsGood}
 use Rattle.laws.proofs.AtPlaces.{own-induction, either}
 use Rattle.laws.specs.{Doing, Rests, Lies, call, doing}
 use Rattle.laws.proofs.Doings.{Step}

@@ -3,8 +3,8 @@ use Rattle.std.proofs.Common.{◌≡◌, ℕ, zero, suc, ◌<◌, Bool, true, fa
 use Rattle.std.specs.List.{list_any}
 use Rattle.plain_store.specs.{Answer, Command, Reply}
 use Rattle.plain_store.specs.declared.Answer.TheVariants as answer
-use Rattle.record.specs.{Clears, Closing, IsAnswerTo, Mark, Over, Part, Past, Settles, Withdraws, all_takings, ends_span, has, is_called, is_failed, takings}
-use Rattle.record.specs.declared.marks.Mark.TheVariants.{Called, Answered, Down}
+use Rattle.model.specs.{Clears, Closing, IsAnswerTo, Mark, Over, Part, Past, Settles, Withdraws, all_takings, ends_span, has, is_called, is_failed, takings}
+use Rattle.model.specs.declared.marks.Mark.TheVariants.{Called, Answered, Down}
 use Rattle.laws.specs.{Doing, Rests, Lies, Runs, Closes}
 
 -- the commands that a call has taken at a part: nothing before its last read of an image, or the last end of its commit

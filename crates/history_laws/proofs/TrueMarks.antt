@@ -2,15 +2,15 @@
 use Rattle.std.proofs.Common.{◌≡◌, ℕ, ◌+◌, ◌<◌, ◌&&◌, Bool, true, false, cond, not, if◌then◌else◌, List, [], ◌∷◌, ◌++◌, length, map, zero, suc, Option, Some, None, refl, sym, ap, subst, ◌∙◌, arith, eqb-true, Contains}
 use Rattle.std.specs.List.{AllByRecursion}
 use Rattle.std.proofs.lemmas.Bool.{false≢true, true≢false}
-use Rattle.record.specs.reader_copies.Runs as copies
-use Rattle.record.specs.{Access, AsksImage, Call, Clears, Entry, Event, Field, Mark, Next, Part, Past, Place, Reading, Refuses, Run, Wait, Waits, WritesCommit, Writing, access_at, bits_with, call_of, caller, entered_if_none, entry_of, first_marks, history, is_fresh, is_last, last_call, last_marks, lets_by, marks_of, own, past_of, placed, read_at, reply, store_after, store_read, takings, value_of, valued, waits_of, width}
-use Rattle.record.specs.declared.access.Field.TheVariants.{Commit}
+use Rattle.model.specs.reader_copies.Runs as copies
+use Rattle.model.specs.{Access, AsksImage, Call, Clears, Entry, Event, Field, Mark, Next, Part, Past, Place, Reading, Refuses, Run, Wait, Waits, WritesCommit, Writing, access_at, bits_with, call_of, caller, entered_if_none, entry_of, first_marks, history, is_fresh, is_last, last_call, last_marks, lets_by, marks_of, own, past_of, placed, read_at, reply, store_after, store_read, takings, value_of, valued, waits_of, width}
+use Rattle.model.specs.declared.access.Field.TheVariants.{Commit}
 use Rattle.plain_store.specs.declared.Answer.TheVariants as answer
 use Rattle.plain_store.specs.{Command, Contents, Reply, Setup, changes, reply_to}
-use Rattle.record.specs.declared.marks.Mark.TheVariants as mark
-use Rattle.record.specs.Closings.{Closing, Withdraws, Settles, Frees, Lowers, Quit, Ended, closing_next, is_last_settled, is_last_written, is_unwritten, no_ticket, settled_marks}
-use Rattle.record.specs.Parts as part
-use Rattle.record.proofs.Width.{IsGood}
+use Rattle.model.specs.declared.marks.Mark.TheVariants as mark
+use Rattle.model.specs.Closings.{Closing, Withdraws, Settles, Frees, Lowers, Quit, Ended, closing_next, is_last_settled, is_last_written, is_unwritten, no_ticket, settled_marks}
+use Rattle.model.specs.Parts as part
+use Rattle.model.proofs.Width.{IsGood}
 use Rattle.laws.proofs.Always.{inv_of}
 use Rattle.laws.specs.{Doing, Runs, call, doing}
 use Rattle.laws.proofs.Frame.{Happens, a_call, a_withdrawal, a_failure, a_restart, a_step, a_closing}

@@ -1,8 +1,8 @@
 -- A write of a register that isn't committed leaves all that is kept of the data.
 use Rattle.std.proofs.Common.{◌≡◌, ◌≢◌, ◌⊎◌, ℕ, ◌<◌, Bool, true, false, List, not, refl, sym, ap, subst, ◌∙◌, arith, inl, inr, true≢false}
 use Rattle.std.proofs.lemmas.Bool.{cases_eq}
-use Rattle.record.specs.{Field, field_number, image_field, is_version, stamp_field}
-use Rattle.record.specs.declared.access.Field.TheVariants.{Commit, Stamp0, Stamp1, Image0, Image1}
+use Rattle.model.specs.{Field, field_number, image_field, is_version, stamp_field}
+use Rattle.model.specs.declared.access.Field.TheVariants.{Commit, Stamp0, Stamp1, Image0, Image1}
 use Rattle.plain_store.specs.{Contents, Setup}
 use Rattle.laws.specs.{Doing}
 use Rattle.laws.proofs.Invariant.{Wire, Wires, Closed}

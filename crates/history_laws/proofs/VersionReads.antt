@@ -4,16 +4,16 @@ use Rattle.std.proofs.Common.{◌≡◌, ◌≢◌, ℕ, ◌+◌, ◌%◌, ◌<�
 use Rattle.std.proofs.lemmas.Bool.{cases_eq, false_from_ne_true, false≢true}
 use Rattle.std.proofs.lemmas.List.Folds.{list_any_at}
 use Rattle.std.proofs.lemmas.List.FromFn.{get_or-range_with_len, length-range_with_len}
-use Rattle.record.specs.safe_bit.{Move, is_overlapped, read_value}
-use Rattle.record.specs.safe_bit.declared.Move.TheVariants.{BeginWrite, EndRead, EndWrite}
-use Rattle.record.proofs.safe_bit.Showing.{shows_moves}
-use Rattle.record.specs.{Access, Call, Closing, Entry, Event, Field, Part, Past, Place, Reading, Run, Withdraws, Writing, access_at, bit_written, cell_after, closing_after, copy, ended, ends_read, enter, entry_of, history, inside, is_last, is_over, is_read, is_somebody_inside, is_version, marks_of, moves_of, new_run, opening_bit, part_after, past-induction, past_of, place_after, placed, processes, read_at, run_after, value_of, valued, width, written_at}
-use Rattle.record.specs.safe_number.{new_write}
+use Rattle.model.specs.safe_bit.{Move, is_overlapped, read_value}
+use Rattle.model.specs.safe_bit.declared.Move.TheVariants.{BeginWrite, EndRead, EndWrite}
+use Rattle.model.proofs.safe_bit.Showing.{shows_moves}
+use Rattle.model.specs.{Access, Call, Closing, Entry, Event, Field, Part, Past, Place, Reading, Run, Withdraws, Writing, access_at, bit_written, cell_after, closing_after, copy, ended, ends_read, enter, entry_of, history, inside, is_last, is_over, is_read, is_somebody_inside, is_version, marks_of, moves_of, new_run, opening_bit, part_after, past-induction, past_of, place_after, placed, processes, read_at, run_after, value_of, valued, width, written_at}
+use Rattle.model.specs.safe_number.{new_write}
 use Rattle.plain_store.specs.{Command, Setup}
-use Rattle.record.proofs.Opens.{opened}
-use Rattle.record.proofs.TurnRecords.{turns_all}
-use Rattle.record.proofs.Singles.{is_write}
-use Rattle.record.proofs.Width.{IsGood}
+use Rattle.model.proofs.Opens.{opened}
+use Rattle.model.proofs.TurnRecords.{turns_all}
+use Rattle.model.proofs.Singles.{is_write}
+use Rattle.model.proofs.Width.{IsGood}
 use Rattle.laws.proofs.Alone.{touched_inside, version-at}
 use Rattle.laws.proofs.Always.{inv_of}
 use Rattle.laws.proofs.AtPlaces.{Stepping}

@@ -2,11 +2,11 @@
 use Rattle.std.proofs.Common.{◌≡◌, ◌≢◌, ℕ, ◌+◌, ◌<◌, ◌≤◌, ◌||◌, Bool, true, false, cond, ◌∷◌, not, Option, None, Some, refl, sym, ap, subst, ◌∙◌, arith, inl, inr, true≢false}
 use Rattle.std.specs.Prelude.{unwrap_or, if◌then◌else◌}
 use Rattle.std.proofs.lemmas.Bool.{cases_eq, eqb-true, eqb-false, false≢true}
-use Rattle.record.specs.reader_copies.Runs as copies
-use Rattle.record.specs.safe_bit.{read_value}
-use Rattle.record.specs.safe_bit.declared.Move.TheVariants.{BeginWrite, EndWrite, Settle}
-use Rattle.record.specs.{Access, Call, Entry, Field, Past, Settles, access_of, caller, closing_after, ended, freeing, is_last_settled, moves_of, opening_bit, valued}
-use Rattle.record.specs.declared.access.Field.TheVariants.{Commit}
+use Rattle.model.specs.reader_copies.Runs as copies
+use Rattle.model.specs.safe_bit.{read_value}
+use Rattle.model.specs.safe_bit.declared.Move.TheVariants.{BeginWrite, EndWrite, Settle}
+use Rattle.model.specs.{Access, Call, Entry, Field, Past, Settles, access_of, caller, closing_after, ended, freeing, is_last_settled, moves_of, opening_bit, valued}
+use Rattle.model.specs.declared.access.Field.TheVariants.{Commit}
 use Rattle.plain_store.specs.{Command, Contents, Reply, Setup, after}
 use Rattle.laws.specs.{Doing, Closes, call, closes}
 use Rattle.laws.proofs.FrameWires.{wire_after}

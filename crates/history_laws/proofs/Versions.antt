@@ -1,7 +1,7 @@
 -- The versions that the processes have committed, by the history: each changing command commits its process's other version, with the next stamp.
 use Rattle.std.specs.Prelude.{ℕ, ◌+◌, ◌==◌, Bool, false, not, cond, List, [], ◌∷◌, map, None, Some}
 use Rattle.plain_store.specs.{Contents, Setup, changes}
-use Rattle.record.specs.{Entry, Past, Version, history, last_call, own, reply_taken, store_after}
+use Rattle.model.specs.{Entry, Past, Version, history, last_call, own, reply_taken, store_after}
 use Rattle.laws.proofs.Notes.{set}
 
 pub record Versions : Type 0 where

@@ -4,7 +4,7 @@ use Rattle.std.specs.Prelude.{max, fold, slice_index_or}
 use Rattle.std.specs.List.{range_with_len}
 use Rattle.std.proofs.lemmas.Bool.{cases_eq}
 use Rattle.plain_store.specs.{Contents, Setup}
-use Rattle.record.specs.{Version, newest_stamp, processes, version_of}
+use Rattle.model.specs.{Version, newest_stamp, processes, version_of}
 use Rattle.laws.proofs.Invariant.{Wires}
 use Rattle.history_laws.proofs.Kept.{Kept}
 use Rattle.history_laws.proofs.Versions.{Versions, versions_of}

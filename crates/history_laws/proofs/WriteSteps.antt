@@ -1,11 +1,11 @@
 -- A process writes a change, by an access of the new image, of its stamp, or of the commit bit. The last end of the commit bit takes the command.
 use Rattle.std.proofs.Common.{◌≡◌, ℕ, Bool, true, false, cond, List, [], ◌∷◌, ◌++◌, length, map, Option, None, Some, refl, sym, ap, subst, ◌∙◌}
 use Rattle.std.proofs.lemmas.Bool.{false≢true}
-use Rattle.record.specs.{Access, Call, Entry, Event, Mark, Part, Past, Place, Reading, Run, Version, WritesCommit, WritesImage, WritesStamp, Writing, access_at, caller, entry_of, history, is_fresh, is_last, is_read, last_call, marks_of, own, past_of, place_after, placed, reply, reply_taken, value_of, valued, written_at}
-use Rattle.record.specs.safe_number.{NumberWrite}
+use Rattle.model.specs.{Access, Call, Entry, Event, Mark, Part, Past, Place, Reading, Run, Version, WritesCommit, WritesImage, WritesStamp, Writing, access_at, caller, entry_of, history, is_fresh, is_last, is_read, last_call, marks_of, own, past_of, place_after, placed, reply, reply_taken, value_of, valued, written_at}
+use Rattle.model.specs.safe_number.{NumberWrite}
 use Rattle.plain_store.specs.{Command, Contents, Reply, Setup, after}
-use Rattle.record.specs.declared.marks.Mark.TheVariants.{Taken}
-use Rattle.record.proofs.Width.{IsGood}
+use Rattle.model.specs.declared.marks.Mark.TheVariants.{Taken}
+use Rattle.model.proofs.Width.{IsGood}
 use Rattle.laws.proofs.Always.{inv_of}
 use Rattle.laws.specs.{Doing, Runs, call, runs, doing}
 use Rattle.laws.proofs.Frame.{Happens, a_call, a_withdrawal, a_failure, a_restart, a_step, a_closing}

@@ -1,7 +1,7 @@
 -- The laws of the data that are not among the main theorems of `record`. They hold of the record of every list of events.
 use Rattle.std.specs.Prelude.{◌≡◌, ℕ, ◌<◌, ◌≤◌, take, slice_get, Some, IsFalse}
 use Rattle.plain_store.specs.{reply_to}
-use Rattle.record.specs.{EachPastGiven, Taken, history, is_somebody_inside, max_of, newest_stamp, store_after, versions_held}
+use Rattle.model.specs.{EachPastGiven, Taken, history, is_somebody_inside, max_of, newest_stamp, store_after, versions_held}
 use Rattle.history_laws.specs.Stamps.{changes_taken}
 
 -- Each command of the history has the sequential store's reply after the commands before it.

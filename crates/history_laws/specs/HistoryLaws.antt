@@ -1,7 +1,7 @@
 -- The laws of the history that need no register and are not among the main theorems of `record`. They hold of the record of every list of events.
 use Rattle.std.specs.Prelude.{◌≡◌, ℕ, ◌∷◌, ◌++◌, length, map, Contains}
 use Rattle.plain_store.specs.{Reply, Setup}
-use Rattle.record.specs.{Call, EachEntry, Entry, Past, Taken, call_of, history, takings}
+use Rattle.model.specs.{Call, EachEntry, Entry, Past, Taken, call_of, history, takings}
 
 -- The place of a command that is taken is the number of commands taken before.
 abbrev pub TakenAtItsPlace : Type 0

@@ -1,7 +1,7 @@
 -- The stamp that a process has read is the number of changes that were taken before its command.
 use Rattle.std.specs.Prelude.{◌≡◌, ℕ, ◌<◌, ◌∷◌, Option, None, Some, IsTrue}
 use Rattle.plain_store.specs.{Setup, opening_store}
-use Rattle.record.specs.{AsksImage, EachEntry, EachPastGiven, Part, Past, WritesCommit, WritesImage, WritesStamp, count_changes, history, inside, newest_stamp}
+use Rattle.model.specs.{AsksImage, EachEntry, EachPastGiven, Part, Past, WritesCommit, WritesImage, WritesStamp, count_changes, history, inside, newest_stamp}
 use Rattle.laws.specs.{Doing, Runs, doing}
 
 -- the number of changes that were taken

@@ -2,7 +2,7 @@
 //! law holds for every setup that passes the check, every list of events, including refused ones, and every
 //! flick. If a law mentions a store, the names, values and counts of the events are assumed to be within what
 //! their types allow.
-ghost use Rattle.record.specs.Headline.{AskAnswersTheLatestChange, AskTellsOfCutCalls, Headline, HeadlineThroughout, ImagesAreOfTheStore, ImagesAreRead, MutualExclusion, NewestIsTheHistorys, NoOvertaking, OneHistory, StampsFullAfterAllChanges, VersionReadsAreUnoverlapped, VersionsAreWholeOutside};
+ghost use Rattle.model.specs.Headline.{AskAnswersTheLatestChange, AskTellsOfCutCalls, Headline, HeadlineThroughout, ImagesAreOfTheStore, ImagesAreRead, MutualExclusion, NewestIsTheHistorys, NoOvertaking, OneHistory, StampsFullAfterAllChanges, VersionReadsAreUnoverlapped, VersionsAreWholeOutside};
 ghost use Rattle.history_laws.specs.Stamps.{HistoryStandsWhileInside, StampsCountTheChanges};
 ghost use Rattle.history_laws.specs.DataLaws.{ChangesFitTheStamps, NewestStampCountsTheChanges, NumbersAscend, RepliesAreThoseOfTheirPlaces};
 

@@ -4,26 +4,26 @@ use Rattle.std.proofs.lemmas.Bool.{eqb-false}
 use Rattle.std.proofs.lemmas.Bool.Decides.{nat_tests}
 use Rattle.std.specs.Option.{is_some}
 use Rattle.std.specs.Prelude.{option_map}
-use Rattle.record.specs.reader_copies.Runs as copies
-use Rattle.record.specs.safe_bit.{Move, read_value}
-use Rattle.record.specs.safe_bit.declared.Move.TheVariants.{BeginWrite, EndWrite, BeginRead, EndRead, Settle}
-use Rattle.record.specs.safe_number.{NumberWrite}
-use Rattle.record.specs.{Access, Call, Clears, Entry, Event, Field, Next, Over, Part, Past, Place, Reading, Run, Stage, Writing, access_at, access_of, bit_written, ended, ended_with, entry_of, field_number, is_fresh, is_over, moves_of, opening_bit, past_of, stage, stage_of, width, written_at}
-use Rattle.record.specs.declared.stages.Stage.TheVariants as stages
+use Rattle.model.specs.reader_copies.Runs as copies
+use Rattle.model.specs.safe_bit.{Move, read_value}
+use Rattle.model.specs.safe_bit.declared.Move.TheVariants.{BeginWrite, EndWrite, BeginRead, EndRead, Settle}
+use Rattle.model.specs.safe_number.{NumberWrite}
+use Rattle.model.specs.{Access, Call, Clears, Entry, Event, Field, Next, Over, Part, Past, Place, Reading, Run, Stage, Writing, access_at, access_of, bit_written, ended, ended_with, entry_of, field_number, is_fresh, is_over, moves_of, opening_bit, past_of, stage, stage_of, width, written_at}
+use Rattle.model.specs.declared.stages.Stage.TheVariants as stages
 use Rattle.plain_store.specs.{Command, Setup}
-use Rattle.record.specs.Closings.{Closing, Withdraws, Settles, Frees, Lowers, Quit, Ended, closing_next, closing_stage, no_ticket}
-use Rattle.record.proofs.PlaceTurns.{access_in}
-use Rattle.record.proofs.Singles.{is_write}
-use Rattle.record.proofs.Turns.{and_false}
-use Rattle.record.proofs.Width.{IsGood}
-use Rattle.any_lock.specs.read_law.laws.{Closes, Doing, IsThere, Runs, call, doing, next_of}
-use Rattle.any_lock.proofs.read_law.laws.Doings as laws
-use Rattle.any_lock.proofs.read_law.laws.Frame.{Happens, a_call, a_withdrawal, a_failure, a_restart, a_step, a_closing}
-use Rattle.any_lock.proofs.read_law.laws.FrameCells.{ByProcess}
-use Rattle.any_lock.proofs.read_law.laws.FrameEvents.{Accepted, accepted}
-use Rattle.any_lock.proofs.read_law.laws.FrameInside.{stage-is}
-use Rattle.any_lock.proofs.read_law.laws.FrameSteps.{closing-writes, entry-by}
-use Rattle.any_lock.proofs.read_law.laws.HeldThere.{access_there}
+use Rattle.model.specs.Closings.{Closing, Withdraws, Settles, Frees, Lowers, Quit, Ended, closing_next, closing_stage, no_ticket}
+use Rattle.model.proofs.PlaceTurns.{access_in}
+use Rattle.model.proofs.Singles.{is_write}
+use Rattle.model.proofs.Turns.{and_false}
+use Rattle.model.proofs.Width.{IsGood}
+use Rattle.any_lock.specs.safe_monitor.laws.{Closes, Doing, IsThere, Runs, call, doing, next_of}
+use Rattle.any_lock.proofs.safe_monitor.laws.Doings as laws
+use Rattle.any_lock.proofs.safe_monitor.laws.Frame.{Happens, a_call, a_withdrawal, a_failure, a_restart, a_step, a_closing}
+use Rattle.any_lock.proofs.safe_monitor.laws.FrameCells.{ByProcess}
+use Rattle.any_lock.proofs.safe_monitor.laws.FrameEvents.{Accepted, accepted}
+use Rattle.any_lock.proofs.safe_monitor.laws.FrameInside.{stage-is}
+use Rattle.any_lock.proofs.safe_monitor.laws.FrameSteps.{closing-writes, entry-by}
+use Rattle.any_lock.proofs.safe_monitor.laws.HeldThere.{access_there}
 use Rattle.any_lock.specs.{AccessRefusal, Begun, Standing, access_refusal, begins_write, ends, first_that, is_end_of, is_of_bit, is_running, is_settling, may_move, opened, reads, refusal_of_access, settles, standing, torn}
 use Rattle.any_lock.specs.declared.refusals.AccessRefusal.TheVariants as access
 use Rattle.judge.proofs.OpenDoings.{opens}

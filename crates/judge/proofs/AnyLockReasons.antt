@@ -1,7 +1,7 @@
 -- The lines of the reasons of a bad verdict on a record of any lock.
 use Rattle.std.proofs.Common.{◌≡◌, ℕ, List, Option, Some, sym, subst, ◌∙◌}
 use Rattle.plain_store.specs.{Setup}
-use Rattle.record.specs.{Entry, Past}
+use Rattle.model.specs.{Entry, Past}
 use Rattle.any_lock.specs.{AnyLockLaw, AreReasons, AreReasonsAt, AreReasonsOf, HasJudged, JudgeState, Verdict, verdict_of}
 use Rattle.any_lock.specs.declared.reasons.Reasons.{Reasons}
 use Rattle.judge.specs.{AreAnyLockReasons, GivesReasons, any_reason_lines}

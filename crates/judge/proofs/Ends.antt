@@ -6,7 +6,7 @@ use Rattle.plain_store.specs.{Setup}
 use Rattle.files.specs.{EndHolds, Fault, FaultKind, Given, GoesToNext, IsTooLong, LineFault, LineState, TakesLine, TakesNext, Told, UnlessMemory, at_line, coming, lines, unless_ended, ◌>>=◌}
 use Rattle.files.specs.declared.faults.Fault.TheVariants as fault
 use Rattle.files.specs.declared.faults.FaultKind.TheVariants.{NotFirst, TooLong}
-use Rattle.record.specs.{Entry}
+use Rattle.model.specs.{Entry}
 use Rattle.record_file.specs.{Progress, cleared, entry_in, line_read, lines_read, record_of, rest_read, said_by}
 use Rattle.judge.specs.{IsInputFault, IsOfRecord, number_in, numbers_from, numbers_of}
 use Rattle.judge.specs.Trials.{GoesOn, HearsAt, IsHeard, Stands, count_in}

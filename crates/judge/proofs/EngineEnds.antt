@@ -6,7 +6,7 @@ use Rattle.files.proofs.EngineEnds.{kept}
 use Rattle.files.specs.Engines.{Streams}
 use Rattle.files.specs.{Fault, WritesFront, failed_reading}
 use Rattle.files.specs.declared.faults.Fault.TheVariants as fault
-use Rattle.record.specs.{Entry}
+use Rattle.model.specs.{Entry}
 use Rattle.judge.specs.Ends.{IsInputFault, IsOfRecord, TellsAll, TellsFront, TrialEnds}
 
 -- a consequence about the whole input, if it is known

@@ -2,10 +2,10 @@
 use Rattle.std.proofs.Common.{◌≡◌, ◌<◌, ◌^◌, ℕ, true, false, List, [], ◌∷◌, ◌++◌, length, reverse, refl, sym, ap, subst, ◌∙◌, true≢false}
 use Rattle.std.proofs.lemmas.List.{length-reverse}
 use Rattle.plain_store.specs.{Setup}
-use Rattle.record.specs.{Entry, Past}
-use Rattle.auditor.specs.read_law.{Verdict, is_good}
-use Rattle.auditor.specs.read_law.declared.verdicts.Verdict.TheVariants.{Good, Bad}
-use Rattle.auditor.proofs.read_law.GoodVerdicts.{good_is}
+use Rattle.model.specs.{Entry, Past}
+use Rattle.auditor.specs.safe_monitor.{Verdict, is_good}
+use Rattle.auditor.specs.safe_monitor.declared.verdicts.Verdict.TheVariants.{Good, Bad}
+use Rattle.auditor.proofs.safe_monitor.GoodVerdicts.{good_is}
 use Rattle.judge.specs.{AreLinesAt, AreLinesOf, GivesReasons, HasExplained}
 use Rattle.judge.proofs.LinesAt.{counted_on, lines_of_newest, lines_stay}
 use Rattle.judge.proofs.Splits.{at_newest}

@@ -8,7 +8,7 @@ use Rattle.std.proofs.lemmas.List.{length-append, length-take-le, take-append-le
 use Rattle.plain_store.specs.{Setup}
 use Rattle.files.specs.{FaultKind, words_of, words_read}
 use Rattle.files.specs.declared.faults.FaultKind.TheVariants.{TooLong}
-use Rattle.record.specs.{Access, Entry}
+use Rattle.model.specs.{Access, Entry}
 use Rattle.record_file.specs.{Progress, cleared, entry_in, entry_words, is_entry, line_read, record_grammar, step_entry}
 use Rattle.record_file.specs.scenario.{spaced}
 use Rattle.judge.specs.{number_in}

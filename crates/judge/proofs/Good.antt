@@ -5,9 +5,9 @@ use Rattle.std.specs.List.{list_all}
 use Rattle.std.specs.Option.{is_some}
 use Rattle.std.proofs.lemmas.Bool.{cases_eq}
 use Rattle.plain_store.specs.{Reply, Setup}
-use Rattle.record.specs.{Entry, Past, TakesItsPlace, has, history, inside, is_entered, takings}
+use Rattle.model.specs.{Entry, Past, TakesItsPlace, has, history, inside, is_entered, takings}
 use Rattle.judge.specs.auditor.{KeepsTogether}
-use Rattle.judge.specs.read_law.declared.verdicts.Law.TheVariants as law
+use Rattle.judge.specs.safe_monitor.declared.verdicts.Law.TheVariants as law
 use Rattle.any_lock.specs.{breaks_history, breaks_together, is_other_inside, is_that, other_inside, passage_in, right_reply, same_reply}
 use Rattle.any_lock.proofs.Breaks.{broken_by}
 use Rattle.judge.specs.{GoodKeepsOfAny}

@@ -2,19 +2,19 @@
 use Rattle.std.proofs.Common.{◌≡◌, true, false, List, [], ◌∷◌, Some, None, Ok, length, reverse, refl, sym, ap, subst, ◌∙◌, true≢false}
 use Rattle.std.specs.Prelude.{if◌then◌else◌}
 use Rattle.plain_store.specs.{Setup, checked}
-use Rattle.record.specs.{Entry, Event, Past, Withdraws, doorway_begin, entry_of, is_running, number_in_call, past_of, stage}
-use Rattle.record.proofs.Width.{IsGood, is_good}
-use Rattle.any_lock.specs.read_law.laws.{Doing, Runs, Closes, doing}
-use Rattle.any_lock.proofs.read_law.laws.Doings as laws
-use Rattle.any_lock.proofs.read_law.laws.FrameInside.{stage-is}
+use Rattle.model.specs.{Entry, Event, Past, Withdraws, doorway_begin, entry_of, is_running, number_in_call, past_of, stage}
+use Rattle.model.proofs.Width.{IsGood, is_good}
+use Rattle.any_lock.specs.safe_monitor.laws.{Doing, Runs, Closes, doing}
+use Rattle.any_lock.proofs.safe_monitor.laws.Doings as laws
+use Rattle.any_lock.proofs.safe_monitor.laws.FrameInside.{stage-is}
 use Rattle.judge.specs.auditor.{IsOfEvent, KeepsAll}
 use Rattle.judge.specs.auditor.Verdicts as own
-use Rattle.judge.specs.read_law.declared.verdicts.Law.TheVariants as law
+use Rattle.judge.specs.safe_monitor.declared.verdicts.Law.TheVariants as law
 use Rattle.judge.proofs.auditor.Recovers.{recovers}
 use Rattle.judge.proofs.auditor.Whole.{of_events}
 use Rattle.any_lock.specs.declared.any_lock_law.AnyLockLaw.TheVariants as any
 use Rattle.any_lock.specs.{AnyLockLaw, Verdict, breaks_overtaken, breaks_safe, broken_later, first_broken, has_access, refusal_of_access, refusal_of_marks, verdict_after, verdict_with}
-use Rattle.judge.specs.read_law.declared.verdicts.Verdict.TheVariants.{Good, Bad}
+use Rattle.judge.specs.safe_monitor.declared.verdicts.Verdict.TheVariants.{Good, Bad}
 use Rattle.any_lock.proofs.Alone.{AllKeep, Keeps}
 use Rattle.any_lock.proofs.Breaks.{at_inside, broken_by, inside_is}
 use Rattle.any_lock.proofs.Took.{CallTakes, all_take}

@@ -2,11 +2,11 @@
 use Rattle.std.proofs.Common.{◌≡◌, ℕ, ◌+◌, ◌++◌, Bool, true, false, List, [], ◌∷◌, length, reverse, Ok, Option, Some, None, refl, ap, sym, subst, ◌∙◌, arith}
 use Rattle.std.proofs.lemmas.List.{length-append, length-reverse}
 use Rattle.plain_store.specs.{Setup, checked}
-use Rattle.record.specs.{Entry, Past}
-use Rattle.auditor.specs.read_law.{AllAreOfThere, HasHeard as HasWatched, KeepsSafe, MatchBool, WatchState}
+use Rattle.model.specs.{Entry, Past}
+use Rattle.auditor.specs.safe_monitor.{AllAreOfThere, HasHeard as HasWatched, KeepsSafe, MatchBool, WatchState}
 use Rattle.auditor.specs.{AllKeep, AuditorState, BreaksFirst, HasHeard, IsAt, IsBadAt, IsHeard, IsVerdict, Law, Verdict}
-use Rattle.auditor.specs.read_law.declared.verdicts.Law.TheVariants as law
-use Rattle.auditor.specs.read_law.declared.verdicts.Verdict.TheVariants.{Good, Bad}
+use Rattle.auditor.specs.safe_monitor.declared.verdicts.Law.TheVariants as law
+use Rattle.auditor.specs.safe_monitor.declared.verdicts.Verdict.TheVariants.{Good, Bad}
 use Rattle.auditor.proofs.Firsts.{breaks_safe, breaks_then}
 use Rattle.auditor.proofs.Whole.{there_of}
 use Rattle.judge.specs.{AreReasons, BothHeard, GivesReasons, HasAudited, HasJudged, JudgeState, Writes, found, reason_lines}

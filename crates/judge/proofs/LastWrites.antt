@@ -1,16 +1,16 @@
 -- The write that a process has open, as any lock's look-back finds it, is its last one, and its last one is open, if that is a begin.
 use Rattle.std.proofs.Common.{◌≡◌, ℕ, ◌<◌, ◌+◌, ◌==◌, ◌&&◌, not, Bool, true, false, cond, [], ◌∷◌, Option, Some, None, length, refl, sym, ap, subst, ◌∙◌, true≢false}
-use Rattle.record.specs.safe_bit.{Move}
-use Rattle.record.specs.safe_bit.declared.Move.TheVariants.{BeginWrite, EndWrite, BeginRead, EndRead, Settle}
-use Rattle.record.specs.{Access, Entry, Mark, Past, Withdraws, is_begin, last_write, own, unfinished}
+use Rattle.model.specs.safe_bit.{Move}
+use Rattle.model.specs.safe_bit.declared.Move.TheVariants.{BeginWrite, EndWrite, BeginRead, EndRead, Settle}
+use Rattle.model.specs.{Access, Entry, Mark, Past, Withdraws, is_begin, last_write, own, unfinished}
 use Rattle.plain_store.specs.{Setup}
-use Rattle.record.specs.declared.marks.Mark.TheVariants as mark
-use Rattle.record.proofs.Opens.{last-none}
-use Rattle.record.proofs.Singles.{is_write}
-use Rattle.any_lock.specs.read_law.laws.{Doing, Runs, Closes}
-use Rattle.any_lock.proofs.read_law.laws.Frame.{own-own}
-use Rattle.any_lock.proofs.read_law.laws.FrameCells.{ByProcess}
-use Rattle.any_lock.proofs.read_law.laws.FrameCuts.{last-made}
+use Rattle.model.specs.declared.marks.Mark.TheVariants as mark
+use Rattle.model.proofs.Opens.{last-none}
+use Rattle.model.proofs.Singles.{is_write}
+use Rattle.any_lock.specs.safe_monitor.laws.{Doing, Runs, Closes}
+use Rattle.any_lock.proofs.safe_monitor.laws.Frame.{own-own}
+use Rattle.any_lock.proofs.safe_monitor.laws.FrameCells.{ByProcess}
+use Rattle.any_lock.proofs.safe_monitor.laws.FrameCuts.{last-made}
 use Rattle.any_lock.specs.{Begun, begins, left_open, opened, write_of}
 use Rattle.any_lock.proofs.Markings.{ArePlain}
 use Rattle.judge.proofs.OpenDoings.{opened_access, opened_marked}

@@ -1,6 +1,6 @@
 pub use Rattle.any_lock.proofs as any_lock
 pub use Rattle.auditor.proofs as auditor
-pub use Rattle.auditor.proofs.read_law as read_law
+pub use Rattle.auditor.proofs.safe_monitor as safe_monitor
 pub use Rattle.auditor.proofs.world.history_laws_proofs as history_laws
 pub use Rattle.record_file.proofs as record_file
 -- A file, line by line

@@ -7,7 +7,7 @@ use Rattle.std.specs.Str.{bytes_eq}
 use Rattle.files.specs.{FaultKind, begins_with, fault_if, known, statement_read, word, words_of, words_read, ◌>>=◌}
 use Rattle.files.specs.declared.faults.FaultKind.TheVariants.{NotFirst, Unknown, TooLong}
 use Rattle.files.proofs.Passing.{passed, no_fault}
-use Rattle.record.specs.{Entry}
+use Rattle.model.specs.{Entry}
 use Rattle.record_file.specs.{LineKind, Progress, begins_with_digit, cleared, entry_in, entry_of, first_read, head_read, kind_in, kind_of, line_read, line_said, pair_read, record_grammar}
 use Rattle.record_file.specs.scenario.{Opener, Progress as Head, at_version, heading_read, open_read, opener_of}
 use Rattle.record_file.specs.scenario.declared.keywords.Opener.TheVariants as opener

@@ -1,23 +1,23 @@
 -- The entry of an event keeps the law `Marks` of any lock.
 use Rattle.std.proofs.Common.{◌≡◌, ℕ, ◌==◌, ◌&&◌, ◌||◌, not, nat_le, nat_lt, Bool, true, false, cond, List, [], ◌∷◌, Option, Some, None, length, map, refl, sym, ap, subst, ◌∙◌, true≢false}
 use Rattle.std.specs.List.{list_any}
-use Rattle.record.specs.{Access, Call, Clears, Closing, Ended, Entry, Event, Mark, Part, Past, Place, Quit, Refusal, Settles, Withdraws, added, all_takings, bits_with, calls_full, calls_in, closing_after, enter, entry_of, history, inside, is_call, is_failed, is_fresh, is_last, is_over, is_waiting_stage, marks_of, own, part_after, past_of, place_after, placed, process_of, refused_at, run_after, stage, stage_of, starts, value_of}
+use Rattle.model.specs.{Access, Call, Clears, Closing, Ended, Entry, Event, Mark, Part, Past, Place, Quit, Refusal, Settles, Withdraws, added, all_takings, bits_with, calls_full, calls_in, closing_after, enter, entry_of, history, inside, is_call, is_failed, is_fresh, is_last, is_over, is_waiting_stage, marks_of, own, part_after, past_of, place_after, placed, process_of, refused_at, run_after, stage, stage_of, starts, value_of}
 use Rattle.plain_store.specs.{Command, Setup}
-use Rattle.record.specs.declared.events.Event.TheVariants as event
-use Rattle.record.specs.declared.marks.Mark.TheVariants as mark
-use Rattle.record.specs.declared.refusals.Refusal.TheVariants as refused_by
-use Rattle.record.specs.declared.stages.Stage.TheVariants as stages
-use Rattle.record.proofs.Turns.{and_false}
-use Rattle.record.proofs.Width.{IsGood}
-use Rattle.record.proofs.World.{entry-accepted}
-use Rattle.any_lock.specs.read_law.laws.{Closes, Doing, Lies, Rests, Runs, call, closes, doing, is_inside, next_of, runs}
-use Rattle.any_lock.proofs.read_law.laws.Alone.{ClosesInside, closes_inside}
-use Rattle.any_lock.proofs.read_law.laws.AtPlaces.{AtPlace}
-use Rattle.any_lock.proofs.read_law.laws.Doings as laws
-use Rattle.any_lock.proofs.read_law.laws.Frame.{Happens, a_call, a_withdrawal, a_failure, a_restart, a_step, a_closing, may_fail}
-use Rattle.any_lock.proofs.read_law.laws.FrameEvents.{Accepted, accepted}
-use Rattle.any_lock.proofs.read_law.laws.FrameInside.{inside-is, stage-is}
-use Rattle.any_lock.proofs.read_law.laws.Steps.{step_is}
+use Rattle.model.specs.declared.events.Event.TheVariants as event
+use Rattle.model.specs.declared.marks.Mark.TheVariants as mark
+use Rattle.model.specs.declared.refusals.Refusal.TheVariants as refused_by
+use Rattle.model.specs.declared.stages.Stage.TheVariants as stages
+use Rattle.model.proofs.Turns.{and_false}
+use Rattle.model.proofs.Width.{IsGood}
+use Rattle.model.proofs.World.{entry-accepted}
+use Rattle.any_lock.specs.safe_monitor.laws.{Closes, Doing, Lies, Rests, Runs, call, closes, doing, is_inside, next_of, runs}
+use Rattle.any_lock.proofs.safe_monitor.laws.Alone.{ClosesInside, closes_inside}
+use Rattle.any_lock.proofs.safe_monitor.laws.AtPlaces.{AtPlace}
+use Rattle.any_lock.proofs.safe_monitor.laws.Doings as laws
+use Rattle.any_lock.proofs.safe_monitor.laws.Frame.{Happens, a_call, a_withdrawal, a_failure, a_restart, a_step, a_closing, may_fail}
+use Rattle.any_lock.proofs.safe_monitor.laws.FrameEvents.{Accepted, accepted}
+use Rattle.any_lock.proofs.safe_monitor.laws.FrameInside.{inside-is, stage-is}
+use Rattle.any_lock.proofs.safe_monitor.laws.Steps.{step_is}
 use Rattle.judge.proofs.history_laws.Told.{told}
 use Rattle.judge.proofs.history_laws.Took.{TookBy}
 use Rattle.any_lock.specs.{Begun, MarkRefusal, Standing, accessed, first_that, has_one_mark, is_down, is_running, is_settling, its_call, mark_refusal, opened, refusal_of_marks, refusal_on, standing, stands_alone, torn, torn_after}

@@ -1,9 +1,9 @@
 -- The entries that may follow a good record.
 use Rattle.std.proofs.Common.{◌≡◌, Bool, Some, ap, subst}
-use Rattle.record.specs.{Entry, Event, added, entry_made, entry_of}
-use Rattle.record.specs.declared.events.Event.TheVariants as event
-use Rattle.record.proofs.Local.{option_map-some}
-use Rattle.record.proofs.World.{entry-accepted}
+use Rattle.model.specs.{Entry, Event, added, entry_made, entry_of}
+use Rattle.model.specs.declared.events.Event.TheVariants as event
+use Rattle.model.proofs.Local.{option_map-some}
+use Rattle.model.proofs.World.{entry-accepted}
 use Rattle.auditor.specs.{IsOfEvent}
 use Rattle.auditor.proofs.Obeys.{obeys}
 use Rattle.auditor.proofs.Recovers.{recovers}

@@ -2,19 +2,19 @@
 use Rattle.std.proofs.Common.{◌≡◌, ◌≢◌, ℕ, ◌==◌, not, ◌&&◌, Bool, true, false, cond, List, [], ◌∷◌, Option, Some, None, length, refl, sym, ap, subst, ◌∙◌, ne_eqb, true≢false}
 use Rattle.std.specs.List.{list_any}
 use Rattle.std.specs.Option.{is_some}
-use Rattle.record.specs.{Access, Call, Entry, Event, OvertakesNobody, Past, Place, begins_doorway, doorway_begin, doorway_end, entry_of, first_of, has, history, is_before, is_called, is_entered, is_fresh, is_over, is_waiting_stage, last_write, number_in_call, own, past_of, place_after, stage, unfinished, value_of, write_moved}
+use Rattle.model.specs.{Access, Call, Entry, Event, OvertakesNobody, Past, Place, begins_doorway, doorway_begin, doorway_end, entry_of, first_of, has, history, is_before, is_called, is_entered, is_fresh, is_over, is_waiting_stage, last_write, number_in_call, own, past_of, place_after, stage, unfinished, value_of, write_moved}
 use Rattle.plain_store.specs.{Command, Setup}
-use Rattle.record.specs.reader_copies.Runs as copies
-use Rattle.record.specs.safe_number.{new_write}
-use Rattle.record.specs.Closings.{Closing, Withdraws, Settles, Frees, Lowers, Quit, Ended, closing_after, freeing, is_last_settled, is_last_written, no_ticket, settling_from}
-use Rattle.record.proofs.Turns.{and_false}
-use Rattle.record.proofs.Width.{IsGood}
-use Rattle.any_lock.specs.read_law.laws.{Doing, Rests, Runs, Closes, call, closes, doing, runs}
-use Rattle.any_lock.proofs.read_law.laws.AtPlaces.{IsOfLock, any-closing, any-placed, own-induction}
-use Rattle.any_lock.proofs.read_law.laws.Frame.{Happens, a_call, a_withdrawal, a_failure, a_restart, a_step, a_closing, doing-other}
-use Rattle.any_lock.proofs.read_law.laws.FrameDoorways.{begins-is, begins_at, begins_with}
-use Rattle.any_lock.proofs.read_law.laws.FrameEvents.{accepted}
-use Rattle.any_lock.proofs.read_law.laws.FrameMarks.{called-is, is_raising, is_resting, is_running}
+use Rattle.model.specs.reader_copies.Runs as copies
+use Rattle.model.specs.safe_number.{new_write}
+use Rattle.model.specs.Closings.{Closing, Withdraws, Settles, Frees, Lowers, Quit, Ended, closing_after, freeing, is_last_settled, is_last_written, no_ticket, settling_from}
+use Rattle.model.proofs.Turns.{and_false}
+use Rattle.model.proofs.Width.{IsGood}
+use Rattle.any_lock.specs.safe_monitor.laws.{Doing, Rests, Runs, Closes, call, closes, doing, runs}
+use Rattle.any_lock.proofs.safe_monitor.laws.AtPlaces.{IsOfLock, any-closing, any-placed, own-induction}
+use Rattle.any_lock.proofs.safe_monitor.laws.Frame.{Happens, a_call, a_withdrawal, a_failure, a_restart, a_step, a_closing, doing-other}
+use Rattle.any_lock.proofs.safe_monitor.laws.FrameDoorways.{begins-is, begins_at, begins_with}
+use Rattle.any_lock.proofs.safe_monitor.laws.FrameEvents.{accepted}
+use Rattle.any_lock.proofs.safe_monitor.laws.FrameMarks.{called-is, is_raising, is_resting, is_running}
 use Rattle.any_lock.specs.{Standing, breaks_overtaken, has_access, is_ahead, other_ahead, passage_in}
 use Rattle.any_lock.proofs.Steps.{if_there, number-called, number-mine, standing-other}
 use Rattle.judge.proofs.NoneBelow.{none_below}

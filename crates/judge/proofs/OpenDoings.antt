@@ -2,24 +2,24 @@
 use Rattle.std.proofs.Common.{◌≡◌, ◌≢◌, ℕ, ◌<◌, ◌+◌, ◌==◌, ◌&&◌, ◌||◌, Bool, true, false, cond, List, [], ◌∷◌, Option, Some, None, length, refl, sym, ap, subst, ◌∙◌, arith, true≢false, eqb-true, ne_eqb}
 use Rattle.std.proofs.lemmas.Bool.{and_parts}
 use Rattle.std.specs.Prelude.{fold}
-use Rattle.record.specs.reader_copies.Runs as copies
-use Rattle.record.specs.safe_bit.{Move, read_value}
-use Rattle.record.specs.safe_bit.declared.Move.TheVariants.{BeginWrite, EndWrite, BeginRead, EndRead, Settle}
-use Rattle.record.specs.safe_number.{new_write}
-use Rattle.record.specs.{Access, Call, Entry, Event, Field, Mark, Next, Part, Past, Raises, Reading, Run, Wait, Waits, Writing, access_at, access_of, bits_with, ended_with, enter, history, is_last, is_over, is_read, last_write, made_with, moves_of, new_run, next_written, opening_bit, own, part_after, past_of, place_after, read_at, run_after, same_bit, unfinished, value_of, width, write_moved, written_at}
-use Rattle.record.specs.declared.access.Field.TheVariants.{Choosing, Ticket}
+use Rattle.model.specs.reader_copies.Runs as copies
+use Rattle.model.specs.safe_bit.{Move, read_value}
+use Rattle.model.specs.safe_bit.declared.Move.TheVariants.{BeginWrite, EndWrite, BeginRead, EndRead, Settle}
+use Rattle.model.specs.safe_number.{new_write}
+use Rattle.model.specs.{Access, Call, Entry, Event, Field, Mark, Next, Part, Past, Raises, Reading, Run, Wait, Waits, Writing, access_at, access_of, bits_with, ended_with, enter, history, is_last, is_over, is_read, last_write, made_with, moves_of, new_run, next_written, opening_bit, own, part_after, past_of, place_after, read_at, run_after, same_bit, unfinished, value_of, width, write_moved, written_at}
+use Rattle.model.specs.declared.access.Field.TheVariants.{Choosing, Ticket}
 use Rattle.plain_store.specs.{Command, Setup}
-use Rattle.record.specs.declared.marks.Mark.TheVariants as mark
-use Rattle.record.specs.Closings.{Closing, Withdraws, Settles, Frees, Lowers, Quit, Ended, closing_after, closing_next, failing, freeing, is_last_written, no_ticket, settling_from}
-use Rattle.record.proofs.PlaceTurns.{access_in}
-use Rattle.record.proofs.Width.{IsGood}
-use Rattle.any_lock.specs.read_law.laws.{Closes, Doing, IsThere, Rests, Runs, call, closes, doing, next_of, runs}
-use Rattle.any_lock.proofs.read_law.laws.AtPlaces.{own-induction}
-use Rattle.any_lock.proofs.read_law.laws.Frame.{Happens, a_call, a_withdrawal, a_failure, a_restart, a_step, a_closing, doing-other}
-use Rattle.any_lock.proofs.read_law.laws.FrameCuts.{LeftClosing, LeftIn, LeftRun, left}
-use Rattle.any_lock.proofs.read_law.laws.FrameEvents.{accepted}
-use Rattle.any_lock.proofs.read_law.laws.FrameSteps.{left-is}
-use Rattle.any_lock.proofs.read_law.laws.HeldThere.{access_there}
+use Rattle.model.specs.declared.marks.Mark.TheVariants as mark
+use Rattle.model.specs.Closings.{Closing, Withdraws, Settles, Frees, Lowers, Quit, Ended, closing_after, closing_next, failing, freeing, is_last_written, no_ticket, settling_from}
+use Rattle.model.proofs.PlaceTurns.{access_in}
+use Rattle.model.proofs.Width.{IsGood}
+use Rattle.any_lock.specs.safe_monitor.laws.{Closes, Doing, IsThere, Rests, Runs, call, closes, doing, next_of, runs}
+use Rattle.any_lock.proofs.safe_monitor.laws.AtPlaces.{own-induction}
+use Rattle.any_lock.proofs.safe_monitor.laws.Frame.{Happens, a_call, a_withdrawal, a_failure, a_restart, a_step, a_closing, doing-other}
+use Rattle.any_lock.proofs.safe_monitor.laws.FrameCuts.{LeftClosing, LeftIn, LeftRun, left}
+use Rattle.any_lock.proofs.safe_monitor.laws.FrameEvents.{accepted}
+use Rattle.any_lock.proofs.safe_monitor.laws.FrameSteps.{left-is}
+use Rattle.any_lock.proofs.safe_monitor.laws.HeldThere.{access_there}
 use Rattle.any_lock.specs.{Begun, Standing, begun_by, left_open, opened, reads, write_of}
 use Rattle.any_lock.proofs.Markings.{ArePlain}
 use Rattle.any_lock.proofs.Steps.{opened-mine, standing-other}

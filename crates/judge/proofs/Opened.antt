@@ -1,11 +1,11 @@
 -- The open access of a process, as any lock's look-back finds it, is the begin of its next access, if that is an end; otherwise no access is open.
 use Rattle.std.proofs.Common.{◌≡◌, ◌≢◌, ℕ, ◌+◌, ◌*◌, ◌/◌, ◌%◌, ◌<◌, ◌==◌, ◌&&◌, Bool, true, false, cond, List, Option, Some, None, refl, sym, ap, arith, true≢false, eqb-true, eq-eqb, ne_eqb}
 use Rattle.std.proofs.lemmas.Bool.{eqb-false}
-use Rattle.record.specs.reader_copies.Runs as copies
-use Rattle.record.specs.safe_bit.{Move}
-use Rattle.record.specs.safe_bit.declared.Move.TheVariants.{BeginWrite, EndWrite}
-use Rattle.record.specs.safe_number.{NumberWrite, write_on}
-use Rattle.record.specs.{Access, Field, access_of, bit_written, ended_with, field_number, next_written, same_bit, write_moved}
+use Rattle.model.specs.reader_copies.Runs as copies
+use Rattle.model.specs.safe_bit.{Move}
+use Rattle.model.specs.safe_bit.declared.Move.TheVariants.{BeginWrite, EndWrite}
+use Rattle.model.specs.safe_number.{NumberWrite, write_on}
+use Rattle.model.specs.{Access, Field, access_of, bit_written, ended_with, field_number, next_written, same_bit, write_moved}
 use Rattle.any_lock.specs.{Begun, begun_by, ends, is_end_of}
 
 -- the open access fits the next one

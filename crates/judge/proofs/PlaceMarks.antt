@@ -1,16 +1,16 @@
 -- No mark of a step is refused by any lock's tables.
 use Rattle.std.proofs.Common.{◌≡◌, ℕ, ◌&&◌, ◌||◌, not, Bool, true, false, cond, List, [], ◌∷◌, ◌++◌, Option, Some, None, refl, sym, ap, subst, ◌∙◌, true≢false}
 use Rattle.std.specs.Prelude.{if◌then◌else◌}
-use Rattle.record.specs.reader_copies.Runs as copies
-use Rattle.record.specs.{AsksImage, Call, Clears, Field, IsAnswerTo, Mark, Next, Part, Refuses, Waits, WritesCommit, entered_if_none, first_marks, is_commit, is_over, is_version, last_marks, lets_by, part_after, reply, stage_after, stage_of, store_read, waits_of, write_moved}
-use Rattle.record.specs.declared.access.Field.TheVariants.{Commit}
+use Rattle.model.specs.reader_copies.Runs as copies
+use Rattle.model.specs.{AsksImage, Call, Clears, Field, IsAnswerTo, Mark, Next, Part, Refuses, Waits, WritesCommit, entered_if_none, first_marks, is_commit, is_over, is_version, last_marks, lets_by, part_after, reply, stage_after, stage_of, store_read, waits_of, write_moved}
+use Rattle.model.specs.declared.access.Field.TheVariants.{Commit}
 use Rattle.plain_store.specs.{Answer, Command, Reply, Setup, changes}
 use Rattle.plain_store.specs.declared.Answer.TheVariants as answer
-use Rattle.record.specs.declared.marks.Mark.TheVariants.{Waiting, Taken, Left, Answered, Settled, Down}
-use Rattle.record.specs.Closings.{Closing, Withdraws, Settles, Frees, Lowers, Quit, Ended, closing_after, closing_next, closing_stage, freeing, is_last_settled, is_last_written, is_unwritten, no_ticket, settled_marks}
-use Rattle.record.specs.Parts as part
-use Rattle.any_lock.specs.read_law.laws.{Closes, call, is_inside_at, is_inside_closing}
-use Rattle.any_lock.proofs.read_law.laws.Alone.{SettlesInside}
+use Rattle.model.specs.declared.marks.Mark.TheVariants.{Waiting, Taken, Left, Answered, Settled, Down}
+use Rattle.model.specs.Closings.{Closing, Withdraws, Settles, Frees, Lowers, Quit, Ended, closing_after, closing_next, closing_stage, freeing, is_last_settled, is_last_written, is_unwritten, no_ticket, settled_marks}
+use Rattle.model.specs.Parts as part
+use Rattle.any_lock.specs.safe_monitor.laws.{Closes, call, is_inside_at, is_inside_closing}
+use Rattle.any_lock.proofs.safe_monitor.laws.Alone.{SettlesInside}
 use Rattle.judge.proofs.history_laws.Took.{TookAt, TookIn}
 use Rattle.any_lock.specs.{Standing, is_in_doorway, is_leaving, is_withdrawn, marked}
 use Rattle.any_lock.proofs.Took.{Takes}

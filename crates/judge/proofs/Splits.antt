@@ -1,7 +1,7 @@
 -- One entry of a list, and the entries after it.
 use Rattle.std.proofs.Common.{◌≡◌, ℕ, List, ◌++◌, [], ◌∷◌, length, reverse, sym, ap, ◌∙◌, arith}
 use Rattle.std.proofs.lemmas.List.{length-append, length-reverse}
-use Rattle.record.specs.{Entry, Past}
+use Rattle.model.specs.{Entry, Past}
 use Rattle.auditor.specs.{IsAt}
 use Rattle.judge.specs.ThisLockVerdicts.{newest_first}
 

@@ -3,12 +3,12 @@ use Rattle.std.specs.Prelude.{◌&&◌}
 use Rattle.std.proofs.Common.{◌≡◌, ℕ, Bool, true, false, cond, List, [], ◌∷◌, Some, map, refl, ap, ◌∙◌}
 use Rattle.std.specs.List.{list_any}
 use Rattle.plain_store.specs.{Reply, changes}
-use Rattle.record.specs.{Call, Closing, Mark, Next, Place, Wait, bits_with, closing_next, entered_if_none, is_last, lets_by, marks_of, placed, reply, store_read, waits_of}
-use Rattle.record.specs.declared.marks.Mark.TheVariants.{Taken}
-use Rattle.record.specs.Parts.{Part, Lowers, Waits, AsksImage, last_marks}
-use Rattle.record.proofs.Turns.{and_false}
+use Rattle.model.specs.{Call, Closing, Mark, Next, Place, Wait, bits_with, closing_next, entered_if_none, is_last, lets_by, marks_of, placed, reply, store_read, waits_of}
+use Rattle.model.specs.declared.marks.Mark.TheVariants.{Taken}
+use Rattle.model.specs.Parts.{Part, Lowers, Waits, AsksImage, last_marks}
+use Rattle.model.proofs.Turns.{and_false}
 use Rattle.any_lock.specs.{stands_alone}
-use Rattle.any_lock.proofs.read_law.laws.AtPlaces.{IsOfLock, any-closing, any-marks, any-placed}
+use Rattle.any_lock.proofs.safe_monitor.laws.AtPlaces.{IsOfLock, any-closing, any-marks, any-placed}
 use Rattle.any_lock.proofs.Markings.{ArePlain}
 
 of_plain : IsOfLock stands_alone

@@ -1,14 +1,14 @@
 -- The torn bit of a process, as any lock's look-back finds it, is the copy that its memory unit reaches and settles. Without a unit that settles there is none.
 use Rattle.std.proofs.Common.{◌≡◌, ◌≢◌, ℕ, ◌<◌, ◌≤◌, ◌+◌, ◌*◌, ◌==◌, ◌||◌, Bool, true, false, cond, [], ◌∷◌, Option, Some, None, refl, sym, ap, subst, ◌∙◌, arith, true≢false, eqb-true}
 use Rattle.std.proofs.lemmas.Bool.{eqb-false}
-use Rattle.record.specs.reader_copies.Runs as copies
-use Rattle.record.specs.safe_bit.declared.Move.TheVariants.{BeginWrite, EndWrite, Settle}
-use Rattle.record.specs.safe_number.{new_write}
-use Rattle.record.specs.{Access, Call, Field, Next, Place, access_of, is_over, write_moved}
+use Rattle.model.specs.reader_copies.Runs as copies
+use Rattle.model.specs.safe_bit.declared.Move.TheVariants.{BeginWrite, EndWrite, Settle}
+use Rattle.model.specs.safe_number.{new_write}
+use Rattle.model.specs.{Access, Call, Field, Next, Place, access_of, is_over, write_moved}
 use Rattle.plain_store.specs.{Command, Reply, Setup}
-use Rattle.record.specs.Closings.{Closing, Withdraws, Settles, Frees, Lowers, Quit, Ended, closing_after, closing_next, freeing, is_last_written, no_ticket}
-use Rattle.record.proofs.PlaceTurns.{access_in}
-use Rattle.any_lock.specs.read_law.laws.{Doing, Rests, Runs, Closes, call, closes, runs}
+use Rattle.model.specs.Closings.{Closing, Withdraws, Settles, Frees, Lowers, Quit, Ended, closing_after, closing_next, freeing, is_last_written, no_ticket}
+use Rattle.model.proofs.PlaceTurns.{access_in}
+use Rattle.any_lock.specs.safe_monitor.laws.{Doing, Rests, Runs, Closes, call, closes, runs}
 use Rattle.any_lock.specs.{Begun, settles, torn, torn_after}
 
 -- Torn bits.

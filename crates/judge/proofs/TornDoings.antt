@@ -1,22 +1,22 @@
 -- The torn bit of each process, and its last write, in the record of every list of events.
 use Rattle.std.proofs.Common.{◌≡◌, ◌≢◌, ℕ, ◌+◌, ◌*◌, ◌==◌, ◌&&◌, not, Bool, true, false, cond, List, ◌∷◌, Option, Some, None, length, refl, sym, ap, subst, ◌∙◌, arith, true≢false, ne_eqb}
 use Rattle.std.specs.List.{list_any}
-use Rattle.record.specs.{Access, Call, Closing, Entry, Event, Part, Past, Place, Reading, Run, Wait, Waits, Withdraws, Writing, access_at, closing_after, failing, has, history, is_begin, is_failed, is_finished, is_over, last_write, made_with, moves_of, opening_bit, own, past_of, place_after, settling_from, unfinished, value_of, written_at}
+use Rattle.model.specs.{Access, Call, Closing, Entry, Event, Part, Past, Place, Reading, Run, Wait, Waits, Withdraws, Writing, access_at, closing_after, failing, has, history, is_begin, is_failed, is_finished, is_over, last_write, made_with, moves_of, opening_bit, own, past_of, place_after, settling_from, unfinished, value_of, written_at}
 use Rattle.plain_store.specs.{Command, Setup}
-use Rattle.record.specs.declared.marks.Mark.TheVariants as mark
-use Rattle.record.specs.safe_bit.{read_value}
-use Rattle.record.specs.safe_bit.declared.Move.TheVariants.{BeginRead, EndRead}
-use Rattle.record.proofs.Opens.{last-none}
-use Rattle.record.proofs.Singles.{is_write}
-use Rattle.record.proofs.Width.{IsGood}
-use Rattle.any_lock.specs.read_law.laws.{Closes, Doing, IsThere, Rests, Runs, call, closes, doing, runs}
-use Rattle.any_lock.proofs.read_law.laws.AtPlaces.{own-induction}
-use Rattle.any_lock.proofs.read_law.laws.Frame.{Happens, a_call, a_withdrawal, a_failure, a_restart, a_step, a_closing, doing-other, may_fail, own-other, own-own}
-use Rattle.any_lock.proofs.read_law.laws.FrameCells.{ByProcess, EntryBy, makes, marks_only}
-use Rattle.any_lock.proofs.read_law.laws.FrameCuts.{LeftIn, LeftRun, last-made, left, written-writes}
-use Rattle.any_lock.proofs.read_law.laws.FrameEvents.{accepted}
-use Rattle.any_lock.proofs.read_law.laws.FrameSteps.{closing-writes, entry-by, is_write-ended, left-is}
-use Rattle.any_lock.proofs.read_law.laws.HeldThere.{access_there}
+use Rattle.model.specs.declared.marks.Mark.TheVariants as mark
+use Rattle.model.specs.safe_bit.{read_value}
+use Rattle.model.specs.safe_bit.declared.Move.TheVariants.{BeginRead, EndRead}
+use Rattle.model.proofs.Opens.{last-none}
+use Rattle.model.proofs.Singles.{is_write}
+use Rattle.model.proofs.Width.{IsGood}
+use Rattle.any_lock.specs.safe_monitor.laws.{Closes, Doing, IsThere, Rests, Runs, call, closes, doing, runs}
+use Rattle.any_lock.proofs.safe_monitor.laws.AtPlaces.{own-induction}
+use Rattle.any_lock.proofs.safe_monitor.laws.Frame.{Happens, a_call, a_withdrawal, a_failure, a_restart, a_step, a_closing, doing-other, may_fail, own-other, own-own}
+use Rattle.any_lock.proofs.safe_monitor.laws.FrameCells.{ByProcess, EntryBy, makes, marks_only}
+use Rattle.any_lock.proofs.safe_monitor.laws.FrameCuts.{LeftIn, LeftRun, last-made, left, written-writes}
+use Rattle.any_lock.proofs.safe_monitor.laws.FrameEvents.{accepted}
+use Rattle.any_lock.proofs.safe_monitor.laws.FrameSteps.{closing-writes, entry-by, is_write-ended, left-is}
+use Rattle.any_lock.proofs.safe_monitor.laws.HeldThere.{access_there}
 use Rattle.any_lock.specs.{Begun, Standing, opened, standing, torn, torn_after, write_of}
 use Rattle.any_lock.proofs.Markings.{ArePlain, no_failure, none_of}
 use Rattle.any_lock.proofs.Steps.{standing-other, torn-mine}

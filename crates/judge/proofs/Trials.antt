@@ -4,7 +4,7 @@ use Rattle.std.specs.Option.{option_to_list}
 use Rattle.plain_store.specs.{Setup}
 use Rattle.files.specs.{FaultKind, UnlessMemory, words_of, words_read}
 use Rattle.files.specs.declared.faults.FaultKind.TheVariants.{Memory}
-use Rattle.record.specs.{Access, Entry}
+use Rattle.model.specs.{Access, Entry}
 use Rattle.record_file.specs.{Progress, cleared, entry_in, entry_words, is_entry, record_grammar, step_entry}
 use Rattle.record_file.specs.scenario.{Progress as Head, spaced}
 use Rattle.record_file.proofs.EntryLines.{entry_of_line}

@@ -1,18 +1,18 @@
 -- Calls that were withdrawn, and calls that return `withdrawn`.
 use Rattle.std.proofs.Common.{◌≡◌, ℕ, ◌+◌, ◌==◌, ◌||◌, Bool, true, false, cond, List, [], ◌∷◌, length, Option, Some, None, refl, sym, ap, subst, ◌∙◌, ne_eqb}
 use Rattle.std.specs.List.{list_any}
-use Rattle.record.specs.{Access, Asks, AsksImage, AsksStamp, Call, Clears, Entry, Event, Part, Past, Place, Raises, Refuses, TakesTicket, Version, Wait, Waits, WritesImage, bits_with, enter, first_full, greatest, has, history, is_called, is_last, is_over, last_write, lets_by, max_of, newest_stamp, others, own, part_after, past_of, place_after, processes, reply, run_after, since, store_read, to_b, to_c, to_d, to_e, unfinished, value_of, waits_of, write_moved}
+use Rattle.model.specs.{Access, Asks, AsksImage, AsksStamp, Call, Clears, Entry, Event, Part, Past, Place, Raises, Refuses, TakesTicket, Version, Wait, Waits, WritesImage, bits_with, enter, first_full, greatest, has, history, is_called, is_last, is_over, last_write, lets_by, max_of, newest_stamp, others, own, part_after, past_of, place_after, processes, reply, run_after, since, store_read, to_b, to_c, to_d, to_e, unfinished, value_of, waits_of, write_moved}
 use Rattle.plain_store.specs.declared.Answer.TheVariants as answer
 use Rattle.plain_store.specs.{Command, Setup, changes}
-use Rattle.record.specs.reader_copies.Runs as copies
-use Rattle.record.specs.safe_number.{new_write}
-use Rattle.record.specs.Closings.{Closing, Withdraws, Settles, Frees, Lowers, Quit, Ended, closing_after, freeing, is_last_settled, is_last_written, no_ticket, settling_from}
-use Rattle.record.specs.Parts as part
-use Rattle.record.proofs.Width.{IsGood}
-use Rattle.any_lock.specs.read_law.laws.{Doing, Rests, Runs, Closes, call, closes, doing, runs}
-use Rattle.any_lock.proofs.read_law.laws.AtPlaces.{AtPlace, own-induction, place-induction}
-use Rattle.any_lock.proofs.read_law.laws.Frame.{Happens, a_call, a_withdrawal, a_failure, a_restart, a_step, a_closing, doing-other}
-use Rattle.any_lock.proofs.read_law.laws.FrameEvents.{accepted}
+use Rattle.model.specs.reader_copies.Runs as copies
+use Rattle.model.specs.safe_number.{new_write}
+use Rattle.model.specs.Closings.{Closing, Withdraws, Settles, Frees, Lowers, Quit, Ended, closing_after, freeing, is_last_settled, is_last_written, no_ticket, settling_from}
+use Rattle.model.specs.Parts as part
+use Rattle.model.proofs.Width.{IsGood}
+use Rattle.any_lock.specs.safe_monitor.laws.{Doing, Rests, Runs, Closes, call, closes, doing, runs}
+use Rattle.any_lock.proofs.safe_monitor.laws.AtPlaces.{AtPlace, own-induction, place-induction}
+use Rattle.any_lock.proofs.safe_monitor.laws.Frame.{Happens, a_call, a_withdrawal, a_failure, a_restart, a_step, a_closing, doing-other}
+use Rattle.any_lock.proofs.safe_monitor.laws.FrameEvents.{accepted}
 use Rattle.any_lock.specs.{Standing, is_withdrawal, its_call}
 use Rattle.any_lock.proofs.Markings.{withdrawn-plain}
 use Rattle.any_lock.proofs.Steps.{own-mine, standing-other}

@@ -1,7 +1,7 @@
 -- The lines of reasons, as they are written one after another.
 use Rattle.std.proofs.Common.{◌≡◌, ℕ, Bool, true, false, List, ◌++◌, Option, cond, codes, ap, ◌∙◌, append_assoc}
 use Rattle.plain_store.specs.{Setup}
-use Rattle.record.specs.{Entry, Event, Refusal, Stage, refused}
+use Rattle.model.specs.{Entry, Event, Refusal, Stage, refused}
 use Rattle.auditor.specs.world.{stage_in}
 use Rattle.auditor.specs.{AuditorState, OfHeard}
 use Rattle.judge.specs.Reasons.{Writes, event_or_step, is_crowded, may_lines, reason_lines, refusal_line, refused_line}

@@ -2,9 +2,9 @@
 use Rattle.std.specs.Prelude.{◌≡◌, ℕ, List, [], ◌∷◌, ◌++◌, length, Option, None, Some}
 use Rattle.std.proofs.Common.{refl, sym, ◌∙◌}
 use Rattle.plain_store.specs.{Setup}
-use Rattle.record.specs.{Entry}
+use Rattle.model.specs.{Entry}
 use Rattle.any_lock.specs.{AnyLockLaw, IsVerdict, Verdict, first_broken, verdict_with}
-use Rattle.any_lock.specs.read_law.declared.verdicts.Verdict.TheVariants.{Good, Bad}
+use Rattle.any_lock.specs.safe_monitor.declared.verdicts.Verdict.TheVariants.{Good, Bad}
 use Rattle.any_lock.proofs.Told.{verdict_bad, verdict_good}
 use Rattle.std.specs.Prelude.{reverse}
 

@@ -2,7 +2,7 @@
 use Rattle.std.specs.Prelude.{◌≡◌, ℕ, ◌+◌, List, [], ◌∷◌, ◌++◌, codes, Option, Some, None}
 use Rattle.std.specs.Fmt.{decimal}
 use Rattle.plain_store.specs.{Setup}
-use Rattle.record.specs.{Entry, Past}
+use Rattle.model.specs.{Entry, Past}
 use Rattle.judge.specs.ReasonLines.{bad_lines, named_entry, number_line, stage_line, word_line}
 use Rattle.any_lock.specs.{AnyLockLaw, AreReasons, Refused, Remedy, access_refusal_text, changed, mark_refusal_text}
 use Rattle.any_lock.specs.declared.reasons.Reasons.{Reasons}

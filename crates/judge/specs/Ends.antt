@@ -5,7 +5,7 @@ use Rattle.plain_store.specs.{Setup}
 use Rattle.files.specs.Engines.{Streams}
 use Rattle.files.specs.{Fault, UnlessMemory, WritesFront}
 use Rattle.files.specs.declared.faults.Fault.TheVariants as fault
-use Rattle.record.specs.{Entry}
+use Rattle.model.specs.{Entry}
 use Rattle.record_file.specs.{Said, record_of}
 use Rattle.judge.specs.Numbers.{numbers_of}
 

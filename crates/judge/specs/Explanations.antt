@@ -1,10 +1,10 @@
 -- The reasons of a bad verdict, for any judge.
 use Rattle.std.specs.Prelude.{◌≡◌, ◌<◌, ◌^◌, ℕ, List, [], length}
 use Rattle.plain_store.specs.{Setup}
-use Rattle.record.specs.{Entry, Past}
+use Rattle.model.specs.{Entry, Past}
 use Rattle.auditor.specs.{IsAt}
-use Rattle.auditor.specs.read_law.{Verdict}
-use Rattle.auditor.specs.read_law.declared.verdicts.Verdict.TheVariants.{Good, Bad}
+use Rattle.auditor.specs.safe_monitor.{Verdict}
+use Rattle.auditor.specs.safe_monitor.declared.verdicts.Verdict.TheVariants.{Good, Bad}
 use Rattle.judge.specs.ReasonLines.{AreLinesAt}
 
 -- the lines of the reasons of a verdict on a record: a good one has none, a bad one has those of its entry

@@ -1,7 +1,7 @@
 -- The first entries of a record.
 use Rattle.std.specs.Prelude.{◌≡◌, ℕ, List, length, take, Option, None, Some}
 use Rattle.plain_store.specs.{Setup}
-use Rattle.record.specs.{Entry}
+use Rattle.model.specs.{Entry}
 
 -- an observer has observed these entries, or the first n of them
 abbrev pub HasHeardFirsts : {H : Type 0} → Option ℕ → (H → Setup → List Entry → List ℕ → Type 0) → H → Setup → List Entry → List ℕ → Type 0

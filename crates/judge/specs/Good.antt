@@ -1,9 +1,9 @@
 -- A record that is good for this project's lock is good for any lock.
 use Rattle.std.specs.Prelude.{◌≡◌, ℕ, List, ◌∷◌, false, true, Ok}
 use Rattle.plain_store.specs.{Setup, checked}
-use Rattle.record.specs.{Entry, Past, doorway_begin, is_running, number_in_call, stage}
+use Rattle.model.specs.{Entry, Past, doorway_begin, is_running, number_in_call, stage}
 use Rattle.auditor.specs.{AllKeep, IsVerdict}
-use Rattle.auditor.specs.read_law.declared.verdicts.Verdict.TheVariants.{Good}
+use Rattle.auditor.specs.safe_monitor.declared.verdicts.Verdict.TheVariants.{Good}
 use Rattle.any_lock.specs.{breaks_history, breaks_safe, breaks_together, has_access, verdict_of}
 
 -- the laws `Safe`, `Together` and `History` of any lock are kept

@@ -1,9 +1,9 @@
 -- The text and the status of the engine `judge`, for any judge.
 use Rattle.std.specs.Prelude.{◌≡◌, ℕ, Bool, true, false, List, ◌++◌, codes, length, Result}
 use Rattle.plain_store.specs.{Setup}
-use Rattle.record.specs.{Entry, Past}
-use Rattle.auditor.specs.read_law.{Verdict, verdict_text}
-use Rattle.auditor.specs.read_law.declared.verdicts.Verdict.TheVariants.{Good, Bad}
+use Rattle.model.specs.{Entry, Past}
+use Rattle.auditor.specs.safe_monitor.{Verdict, verdict_text}
+use Rattle.auditor.specs.safe_monitor.declared.verdicts.Verdict.TheVariants.{Good, Bad}
 use Rattle.judge.specs.Ends.{TrialEnds}
 use Rattle.files.specs.Engines.{Streams}
 use Rattle.files.specs.{Fault}

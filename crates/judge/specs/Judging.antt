@@ -1,11 +1,11 @@
 -- The state of a judge after the entries that it has observed.
 use Rattle.std.specs.Prelude.{◌≡◌, ℕ, Bool, true, false, List, [], ◌∷◌, ◌++◌, length, reverse, Option, Ok}
 use Rattle.plain_store.specs.{Setup, checked}
-use Rattle.record.specs.{Entry, Past}
-use Rattle.auditor.specs.read_law.{HasHeard as HasWatched, WatchState, verdict_with}
+use Rattle.model.specs.{Entry, Past}
+use Rattle.auditor.specs.safe_monitor.{HasHeard as HasWatched, WatchState, verdict_with}
 use Rattle.auditor.specs.{AuditorState, HasHeard, IsAt, IsVerdict, Law, Verdict}
-use Rattle.auditor.specs.read_law.declared.verdicts.Law.TheVariants.{Safe}
-use Rattle.auditor.specs.read_law.declared.verdicts.Verdict.TheVariants.{Good, Bad}
+use Rattle.auditor.specs.safe_monitor.declared.verdicts.Law.TheVariants.{Safe}
+use Rattle.auditor.specs.safe_monitor.declared.verdicts.Verdict.TheVariants.{Good, Bad}
 
 -- a watch, an auditor, the verdict so far, and the number of entries observed
 pub record JudgeState : Type 0 where

@@ -2,9 +2,9 @@
 use Rattle.std.specs.Prelude.{◌≡◌, true, false, List}
 use Rattle.std.proofs.Common.{ap, sym, true≢false, ◌∙◌}
 use Rattle.plain_store.specs.{Setup}
-use Rattle.record.specs.{Entry}
-use Rattle.auditor.specs.read_law.{Verdict, is_good}
-use Rattle.auditor.specs.read_law.declared.verdicts.Verdict.TheVariants.{Good, Bad}
+use Rattle.model.specs.{Entry}
+use Rattle.auditor.specs.safe_monitor.{Verdict, is_good}
+use Rattle.auditor.specs.safe_monitor.declared.verdicts.Verdict.TheVariants.{Good, Bad}
 
 -- if the verdict is good, each entry keeps all laws
 pub found_good : {L : Type 0} (IsVerdict : Setup → List Entry → Verdict L → Type 0) (s : Setup) (entries : List Entry) (v : Verdict L) → IsVerdict s entries v → is_good v ≡ true → IsVerdict s entries Good

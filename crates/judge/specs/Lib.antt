@@ -1,6 +1,6 @@
 pub use Rattle.any_lock.specs as any_lock
 pub use Rattle.auditor.specs as auditor
-pub use Rattle.auditor.specs.read_law as read_law
+pub use Rattle.auditor.specs.safe_monitor as safe_monitor
 pub use Rattle.files.specs as files
 pub use Rattle.record_file.specs as record_file
 -- A record file, line by line

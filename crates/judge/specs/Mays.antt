@@ -1,8 +1,8 @@
 -- The entries that may follow a good record.
 use Rattle.std.specs.Prelude.{◌≡◌, ℕ, Bool, List, Some, Ok}
 use Rattle.plain_store.specs.{Setup, checked}
-use Rattle.record.specs.{Access, AreGiven, Entry, Event, Past, entry_of, past_of}
-use Rattle.record.specs.declared.events.Event.TheVariants.{Step}
+use Rattle.model.specs.{Access, AreGiven, Entry, Event, Past, entry_of, past_of}
+use Rattle.model.specs.declared.events.Event.TheVariants.{Step}
 use Rattle.auditor.specs.{KeepsAll}
 
 -- The entry that a Step adds keeps all laws.

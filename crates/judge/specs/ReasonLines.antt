@@ -2,7 +2,7 @@
 use Rattle.std.specs.Prelude.{◌≡◌, ℕ, List, [], ◌∷◌, ◌++◌, codes, length, reverse, slice_get, Option, Some, None}
 use Rattle.std.specs.Fmt.{decimal}
 use Rattle.plain_store.specs.{Setup}
-use Rattle.record.specs.{Entry, Past, Stage, stage_word}
+use Rattle.model.specs.{Entry, Past, Stage, stage_word}
 use Rattle.record_file.specs.{entry_line}
 
 -- a word and a number

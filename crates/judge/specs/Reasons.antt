@@ -3,8 +3,8 @@ use Rattle.std.specs.Prelude.{◌≡◌, ◌<◌, ◌^◌, ℕ, Bool, false, tru
 use Rattle.std.specs.Option.{is_some}
 use Rattle.std.specs.Str.{bytes_eq}
 use Rattle.plain_store.specs.{Setup}
-use Rattle.record.specs.{Entry, Event, Past, Refusal, Stage, entry_of, has, refusal_text, refused}
-use Rattle.record.specs.declared.events.Event.TheVariants.{Step}
+use Rattle.model.specs.{Entry, Event, Past, Refusal, Stage, entry_of, has, refusal_text, refused}
+use Rattle.model.specs.declared.events.Event.TheVariants.{Step}
 use Rattle.auditor.specs.world.{stage_in}
 use Rattle.auditor.specs.{AuditorState, Law, OfHeard, event_in, tells_event}
 use Rattle.judge.specs.ReasonLines.{bad_lines, named_entry, stage_line, word_line}

@@ -2,7 +2,7 @@
 use Rattle.std.specs.Prelude.{◌≡◌, ℕ, Bool, true, List, [], ◌++◌, Option, Some, None, Result, Ok, Err}
 use Rattle.plain_store.specs.{Setup}
 use Rattle.files.specs.{FaultKind, UnlessMemory}
-use Rattle.record.specs.{Entry}
+use Rattle.model.specs.{Entry}
 use Rattle.record_file.specs.{Progress, cleared, entry_in, line_read}
 use Rattle.judge.specs.Numbers.{number_in}
 

@@ -8,7 +8,7 @@ use crate::record_judge::RecordJudge;
 use any_lock::{AnyLockLaw, Judge};
 use auditor::Audited;
 use plain_store::{NestedTypes, Setup};
-use record::{Access, Entry, Mark};
+use model::{Access, Entry, Mark};
 use std::alloc::{AllocError, Global};
 
 impl RecordJudge for Judge {

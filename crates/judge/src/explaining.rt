@@ -1,7 +1,7 @@
 //! A judge that reports the reasons of a bad verdict too.
 ghost use Rattle.std.specs.Prelude.{◌≡◌, IfOk};
-ghost use Rattle.auditor.specs.read_law.declared.verdicts.Verdict.TheVariants.{Good};
-ghost use Rattle.auditor.specs.read_law.{entry_by, is_good};
+ghost use Rattle.auditor.specs.safe_monitor.declared.verdicts.Verdict.TheVariants.{Good};
+ghost use Rattle.auditor.specs.safe_monitor.{entry_by, is_good};
 ghost use Rattle.judge.specs.Explanations.{GivesReasons, HasExplained};
 ghost use Rattle.judge.specs.Judgements.{TellsReasons};
 ghost use Rattle.judge.specs.KeepingLaws.{found_bad, found_good};
@@ -11,7 +11,7 @@ use crate::reason_lines::entry_of_parts;
 use crate::record_judge::RecordJudge;
 use crate::verdicts::{verdict_line, verdict_status};
 use plain_store::Setup;
-use record::{Access, Mark};
+use model::{Access, Mark};
 use std::alloc::{AllocError, Global};
 
 /// A judge, and the lines of its reasons once its verdict is bad.

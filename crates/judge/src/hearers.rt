@@ -1,10 +1,10 @@
 //! Observers of the entries of a record file.
 ghost use Rattle.std.specs.Prelude.{◌≡◌, ◌-◌, ◌^◌, ◌<◌, ◌∷◌, ◌++◌, [], IfOk, List, Ok, OnOk, length, ℕ};
 ghost use Rattle.plain_store.specs.{checked};
-ghost use Rattle.auditor.specs.read_law.{entry_by};
+ghost use Rattle.auditor.specs.safe_monitor.{entry_by};
 
 use plain_store::Setup;
-use record::{Access, Mark};
+use model::{Access, Mark};
 use std::alloc::{AllocError, Global};
 
 /// The report on a record: a text, and an exit status.
@@ -17,7 +17,7 @@ pub struct Telling {
 /// An observer of the entries of a record, each with the number of its line. It then gives a report on them.
 pub trait Hearer: Sized + Drop {
     ghost use Rattle.plain_store.specs.declared.setups.Setup.{Setup as Given};
-    ghost use Rattle.record.specs.{Entry as Noted};
+    ghost use Rattle.model.specs.{Entry as Noted};
 
     /// It has observed these entries of a record with this setup, and these are the numbers of their lines.
     ghost HasHeard: { Self → Given → List Noted → List ℕ → Type 0 };
@@ -64,7 +64,7 @@ pub trait Hearer: Sized + Drop {
 pub trait Judging: Hearer {
     ghost use Rattle.std.specs.Prelude.{Bool, true, false};
     ghost use Rattle.plain_store.specs.declared.setups.Setup.{Setup as Given};
-    ghost use Rattle.record.specs.{Entry as Noted};
+    ghost use Rattle.model.specs.{Entry as Noted};
 
     /// Each entry of such a record keeps all laws.
     ghost Keeps: { Given → List Noted → Type 0 };

@@ -1,7 +1,7 @@
 //! The engine `judge`: the verdict on the record in a file, which is read line by line.
 ghost use Rattle.std.specs.Prelude.{◌-◌, ◌^◌, ◌<◌};
 ghost use Rattle.any_lock.specs.{IsVerdict as IsAnyLockVerdict, law_text as any_lock_law};
-ghost use Rattle.auditor.specs.read_law.{law_text};
+ghost use Rattle.auditor.specs.safe_monitor.{law_text};
 ghost use Rattle.auditor.specs.{IsVerdict};
 ghost use Rattle.files.specs.{streams};
 ghost use Rattle.judge.specs.AnyReasons.{AreAnyLockReasons};

@@ -5,7 +5,7 @@ use crate::hearers::{Hearer, Telling};
 use crate::record_judge::RecordJudge;
 use crate::verdicts::{verdict_line, verdict_status};
 use plain_store::Setup;
-use record::{Access, Mark};
+use model::{Access, Mark};
 use std::alloc::{AllocError, Global};
 
 /// A judge whose verdict is reported without reasons.

@@ -1,11 +1,11 @@
 //! The lines of reasons that all judges have.
 ghost use Rattle.std.specs.Prelude.{◌≡◌, ◌++◌, IfOk, OnOk};
 ghost use Rattle.std.specs.String.{string_bytes};
-ghost use Rattle.auditor.specs.read_law.{entry_by};
+ghost use Rattle.auditor.specs.safe_monitor.{entry_by};
 ghost use Rattle.judge.specs.ReasonLines.{bad_lines, named_entry, number_line, stage_line, word_line};
 
 use plain_store::NestedTypes;
-use record::{Access, Act, Entry, Mark, Stage};
+use model::{Access, Act, Entry, Mark, Stage};
 use record_file::print_entry;
 use smallvec::SmallVec;
 use std::alloc::{AllocError, Global};

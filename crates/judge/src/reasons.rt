@@ -1,7 +1,7 @@
 //! The lines of the reasons of a bad verdict on a record of this project's lock.
 ghost use Rattle.std.specs.Prelude.{◌≡◌, ◌++◌, [], IfOk, OnOk, codes};
-ghost use Rattle.record.specs.declared.events.Event.TheVariants.{Step};
-ghost use Rattle.record.specs.{entry_of, refusal_text as text_of_refusal};
+ghost use Rattle.model.specs.declared.events.Event.TheVariants.{Step};
+ghost use Rattle.model.specs.{entry_of, refusal_text as text_of_refusal};
 ghost use Rattle.files.specs.{GivesText};
 ghost use Rattle.judge.specs.ReasonLines.{word_line};
 ghost use Rattle.judge.specs.Reasons.{Writes, event_or_step, is_crowded, may_line as line_of_may, may_lines, reason_lines, refusal_line, refused_line, without_twin};
@@ -9,7 +9,7 @@ ghost use Rattle.judge.specs.Reasons.{Writes, event_or_step, is_crowded, may_lin
 use crate::reason_lines::{push_bad, push_entry, push_stage, push_word};
 use auditor::{Auditor, event_in, tells_event};
 use plain_store::NestedTypes;
-use record::{Act, Entry, Event, Refusal, Stage};
+use model::{Act, Entry, Event, Refusal, Stage};
 use std::alloc::{AllocError, Global};
 
 /// Writes the reasons of a bad entry, which is in line `number`. The auditor has observed the entries before it.

@@ -1,20 +1,20 @@
 //! Judges of records.
 ghost use Rattle.std.specs.Prelude.{◌≡◌, ◌+◌, ◌-◌, ◌^◌, ◌<◌, ◌∷◌, ◌++◌, [], IfOk, List, Ok, length, ℕ};
 ghost use Rattle.plain_store.specs.{checked};
-ghost use Rattle.auditor.specs.read_law.declared.verdicts.Verdict.TheVariants.{Bad, Good};
-ghost use Rattle.auditor.specs.read_law.{entry_by, is_good};
+ghost use Rattle.auditor.specs.safe_monitor.declared.verdicts.Verdict.TheVariants.{Bad, Good};
+ghost use Rattle.auditor.specs.safe_monitor.{entry_by, is_good};
 ghost use Rattle.judge.specs.Explanations.{GivesReasons};
 
 use auditor::{Audited, NamedLaw};
 use plain_store::Setup;
-use record::{Access, Entry, Mark};
+use model::{Access, Entry, Mark};
 use std::alloc::{AllocError, Global};
 
 /// A judge of records. It observes the entries of a record one by one, in memory of a fixed size, by laws of its own.
 pub trait RecordJudge: Sized + Drop {
     ghost use Rattle.plain_store.specs.declared.setups.Setup.{Setup as Given};
-    ghost use Rattle.record.specs.{Entry as Noted, Past};
-    ghost use Rattle.auditor.specs.read_law.declared.verdicts.Verdict.{Verdict as Found};
+    ghost use Rattle.model.specs.{Entry as Noted, Past};
+    ghost use Rattle.auditor.specs.safe_monitor.declared.verdicts.Verdict.{Verdict as Found};
 
     /// The laws that it checks.
     type Law: NamedLaw + Drop;

@@ -1,8 +1,8 @@
 //! The judge of records of this project's lock.
 ghost use Rattle.std.specs.Prelude.{◌≡◌, ◌+◌, ◌-◌, ◌^◌, ◌<◌, ◌∷◌, ◌++◌, [], List};
 ghost use Rattle.plain_store.specs.declared.setups.Setup.{Setup as Given};
-ghost use Rattle.record.specs.{Entry as Noted};
-ghost use Rattle.auditor.specs.read_law.{entry_by};
+ghost use Rattle.model.specs.{Entry as Noted};
+ghost use Rattle.auditor.specs.safe_monitor.{entry_by};
 ghost use Rattle.auditor.specs.{IsVerdict as IsTheVerdict};
 ghost use Rattle.auditor.proofs.Unique.{one_verdict};
 ghost use Rattle.judge.specs.Judging.{BothHearOneMore, HasJudged as HasHeardAll, IsNextVerdict, StaysBefore, found as verdict_found};
@@ -13,7 +13,7 @@ use crate::reasons::push_reasons;
 use crate::record_judge::RecordJudge;
 use auditor::{Audited, Auditor, Core, Law, Verdict, Watch};
 use plain_store::{NestedTypes, Setup};
-use record::{Access, Entry, Mark};
+use model::{Access, Entry, Mark};
 use std::alloc::{AllocError, Global};
 use std::marker::Model;
 

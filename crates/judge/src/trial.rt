@@ -1,6 +1,6 @@
 ghost use Rattle.std.specs.Prelude.{◌≡◌, ◌-◌, ◌^◌, ◌<◌, ◌≤◌, ◌∷◌, ◌++◌, [], ℕ, None, Some, true, false, IfOk, IsSome, List, Ok, OnOk, Option, length};
 ghost use Rattle.plain_store.specs.{checked};
-ghost use Rattle.record.specs.{Entry as Noted};
+ghost use Rattle.model.specs.{Entry as Noted};
 ghost use Rattle.record_file.specs.{Progress};
 ghost use Rattle.judge.specs.Firsts.{HasHeardFirsts};
 ghost use Rattle.judge.specs.Trials.{GoesOn, Hears, IsHeard, LineEnds, Stands, count_in, good_in};
@@ -9,7 +9,7 @@ use crate::hearers::{Hearer, Judging};
 use auditor::parts;
 use files::{FaultKind, read_any_line};
 use plain_store::{NestedTypes, Setup};
-use record::Entry;
+use model::Entry;
 use record_file::{RecordReader, read_step};
 use std::alloc::{AllocError, Global};
 

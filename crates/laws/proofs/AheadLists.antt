@@ -5,9 +5,9 @@ use Rattle.std.proofs.lemmas.List.Elements.{All-contains, All-filter, All-contai
 use Rattle.std.proofs.lemmas.List.FromFn.{length-range_with_len, get_or-range_with_len}
 use Rattle.std.proofs.lemmas.List.Kept.{AllPairs-filter}
 use Rattle.plain_store.specs.{Setup}
-use Rattle.record.specs.{Entry, Event, Past, Stage, ahead, doorway_begin, doorway_end, entry_of, has, is_ahead, is_before, is_entered, is_queued, is_waiting_stage, past_of, processes, stage}
-use Rattle.record.specs.declared.stages.Stage.TheVariants as stages
-use Rattle.record.proofs.Width.{IsGood}
+use Rattle.model.specs.{Entry, Event, Past, Stage, ahead, doorway_begin, doorway_end, entry_of, has, is_ahead, is_before, is_entered, is_queued, is_waiting_stage, past_of, processes, stage}
+use Rattle.model.specs.declared.stages.Stage.TheVariants as stages
+use Rattle.model.proofs.Width.{IsGood}
 use Rattle.laws.specs.{WaitsBefore}
 use Rattle.laws.proofs.Doings.{stage_of}
 use Rattle.laws.proofs.DoorwayParts.{both}

@@ -1,9 +1,9 @@
 -- The invariant holds of every past of a record: before the first entry, and with each entry that an event adds.
 use Rattle.std.proofs.Common.{◌≡◌, ℕ, ◌<◌, Bool, true, false, List, [], ◌∷◌, Some, refl, sym, ap, ◌∙◌, arith}
 use Rattle.std.proofs.lemmas.Bool.{false≢true}
-use Rattle.record.specs.{Access, Entry, Event, Past, Place, access_at, entry_of, is_over, is_read, past-induction, past_of, place_after, value_of, valued}
+use Rattle.model.specs.{Access, Entry, Event, Past, Place, access_at, entry_of, is_over, is_read, past-induction, past_of, place_after, value_of, valued}
 use Rattle.plain_store.specs.{Command, Setup}
-use Rattle.record.proofs.Width.{IsGood}
+use Rattle.model.proofs.Width.{IsGood}
 use Rattle.laws.specs.{Doing, Runs, call, runs, doing}
 use Rattle.laws.proofs.Doings.{Step, calls, withdraws, fails, restarts, steps, closes_on}
 use Rattle.laws.proofs.Invariant.{Inv}

@@ -3,11 +3,11 @@ use Rattle.std.specs.Prelude.{◌≡◌, ◌≢◌, ℕ, suc, ◌+◌, ◌^◌, 
 use Rattle.std.specs.List.{AllByRecursion}
 use Rattle.std.proofs.Common.{refl, sym, ◌∙◌, subst, arith, append_assoc}
 use Rattle.std.proofs.lemmas.List.{length_push}
-use Rattle.record.specs.declared.access.Field.TheVariants.{Ticket}
-use Rattle.record.specs.safe_number.{number_of_bits}
+use Rattle.model.specs.declared.access.Field.TheVariants.{Ticket}
+use Rattle.model.specs.safe_number.{number_of_bits}
 use Rattle.plain_store.specs.{Command, Setup}
-use Rattle.record.specs.{Asks, Past, enter, to_b}
-use Rattle.record.proofs.Width.{IsGood}
+use Rattle.model.specs.{Asks, Past, enter, to_b}
+use Rattle.model.proofs.Width.{IsGood}
 use Rattle.laws.proofs.Bits.{number_small}
 use Rattle.laws.specs.{call, runs}
 use Rattle.laws.proofs.Invariant.{Asked, InAsking, Moves, Touches, next_time, wires}

@@ -4,14 +4,14 @@ use Rattle.std.proofs.Common.{◌≡◌, ◌≢◌, ℕ, ◌==◌, ◌&&◌, ◌
 use Rattle.std.proofs.lemmas.Bool.{eqb-false}
 use Rattle.std.specs.List.{list_any}
 use Rattle.std.proofs.lemmas.List.Folds.{list_any-append}
-use Rattle.record.specs.{Access, Call, Clears, Entry, Event, Mark, Next, Part, Past, Place, Raises, Reading, Run, Writing, access_at, bits_with, enter, entry_of, first_marks, has, history, is_fresh, is_last, is_over, is_read, last_marks, marks_of, new_run, part_after, past-induction, past_of, place_after, placed, run_after, starts, value_of, valued, width, written_at}
-use Rattle.record.specs.safe_number.{new_write}
+use Rattle.model.specs.{Access, Call, Clears, Entry, Event, Mark, Next, Part, Past, Place, Raises, Reading, Run, Writing, access_at, bits_with, enter, entry_of, first_marks, has, history, is_fresh, is_last, is_over, is_read, last_marks, marks_of, new_run, part_after, past-induction, past_of, place_after, placed, run_after, starts, value_of, valued, width, written_at}
+use Rattle.model.specs.safe_number.{new_write}
 use Rattle.plain_store.specs.declared.Answer.TheVariants as answer
 use Rattle.plain_store.specs.{Command, Reply, Setup}
-use Rattle.record.specs.declared.marks.Mark.TheVariants.{Called, Taken, Left, Answered, Settled, Down}
-use Rattle.record.specs.Closings.{Closing, Withdraws, Settles, Frees, Lowers, Quit, Ended, closing_next, closing_after, settled_marks}
-use Rattle.record.proofs.Width.{IsGood}
-use Rattle.record.proofs.Staging.{no_start-marks, no_start-placed}
+use Rattle.model.specs.declared.marks.Mark.TheVariants.{Called, Taken, Left, Answered, Settled, Down}
+use Rattle.model.specs.Closings.{Closing, Withdraws, Settles, Frees, Lowers, Quit, Ended, closing_next, closing_after, settled_marks}
+use Rattle.model.proofs.Width.{IsGood}
+use Rattle.model.proofs.Staging.{no_start-marks, no_start-placed}
 use Rattle.laws.specs.{Doing, Rests, Lies, Runs, Closes, call, runs, closes, doing}
 use Rattle.laws.proofs.Frame.{Happens, a_call, a_withdrawal, a_failure, a_restart, a_step, a_closing, doing-other}
 use Rattle.laws.proofs.FrameEvents.{accepted}

@@ -4,8 +4,8 @@ use Rattle.std.proofs.Common.{sym, ap, ◌∙◌, subst, arith, inl, inr}
 use Rattle.std.proofs.Math.Seq.{get_or-append_seam}
 use Rattle.std.proofs.lemmas.Bool.{cases_lt}
 use Rattle.std.proofs.lemmas.List.{ext_get_or, get_or_append_left, length_push}
-use Rattle.record.specs.safe_number.{number_of_bits, bits_of_number}
-use Rattle.record.proofs.safe_number.Bits.{number-bits, number-fits, length-bits_of_number}
+use Rattle.model.specs.safe_number.{number_of_bits, bits_of_number}
+use Rattle.model.proofs.safe_number.Bits.{number-bits, number-fits, length-bits_of_number}
 
 -- the bits are a prefix of the ticket's bits
 abbrev pub AreBitsOf : (ticket bits : List Bool) → Type 0

@@ -1,7 +1,7 @@
 -- An access of a write shows nothing new: it breaks what its field showed, or leaves it.
 use Rattle.std.proofs.Common.{◌≡◌, ◌≢◌, ℕ, suc, ◌<◌, Bool, true, false, refl, sym, ap, subst, arith}
-use Rattle.record.specs.{Field, Past, field_number, image_field, stamp_field}
-use Rattle.record.specs.declared.access.Field.TheVariants.{Choosing, Ticket, Commit, Stamp0, Stamp1, Image0, Image1}
+use Rattle.model.specs.{Field, Past, field_number, image_field, stamp_field}
+use Rattle.model.specs.declared.access.Field.TheVariants.{Choosing, Ticket, Commit, Stamp0, Stamp1, Image0, Image1}
 use Rattle.plain_store.specs.{Setup}
 use Rattle.laws.proofs.Notes.{Notes}
 use Rattle.laws.proofs.Invariant.{Wires, Wire, Touches, Closed, bit, ticket_of, next_time}

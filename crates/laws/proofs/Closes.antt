@@ -1,12 +1,12 @@
 -- The accesses of a withdrawal and of a memory unit.
 use Rattle.std.proofs.Common.{◌≡◌, ℕ, ◌&&◌, Bool, true, false, cond, [], ◌∷◌, Option, None, Some, refl, sym, ap, subst, ◌∙◌}
 use Rattle.std.proofs.lemmas.Bool.{false≢true}
-use Rattle.record.specs.reader_copies.Runs as copies
-use Rattle.record.specs.{Call, Closing, Ended, Field, Frees, Next, Past, Quit, Settles, Withdraws, closing_after, closing_next, freeing, is_last_settled, is_last_written, is_unwritten, no_ticket, write_moved}
-use Rattle.record.specs.declared.access.Field.TheVariants.{Choosing, Ticket, Commit, Stamp0, Stamp1, Image0, Image1}
-use Rattle.record.specs.safe_number.{NumberWrite, new_write}
+use Rattle.model.specs.reader_copies.Runs as copies
+use Rattle.model.specs.{Call, Closing, Ended, Field, Frees, Next, Past, Quit, Settles, Withdraws, closing_after, closing_next, freeing, is_last_settled, is_last_written, is_unwritten, no_ticket, write_moved}
+use Rattle.model.specs.declared.access.Field.TheVariants.{Choosing, Ticket, Commit, Stamp0, Stamp1, Image0, Image1}
+use Rattle.model.specs.safe_number.{NumberWrite, new_write}
 use Rattle.plain_store.specs.{Command, Reply, Setup}
-use Rattle.record.specs.Closings as closing
+use Rattle.model.specs.Closings as closing
 use Rattle.laws.proofs.FrameInside.{moved-unfresh}
 use Rattle.laws.specs.{Lies, call, closes, is_inside_closing}
 use Rattle.laws.proofs.Notes.{Notes, broken, field_of, breaks_announced, breaks_ticket}

@@ -2,14 +2,14 @@
 use Rattle.std.proofs.Common.{◌≡◌, ℕ, ◌<◌, Bool, true, false, cond, List, [], ◌∷◌, Option, Some, None, refl, sym, ap, subst, ◌∙◌, arith, inl, inr}
 use Rattle.std.proofs.lemmas.Bool.{cases_eq}
 use Rattle.std.specs.Prelude.{option_map}
-use Rattle.record.specs.{Access, Call, Entry, Event, Next, Part, Past, Place, Reading, Run, Writing, entry_of, last_write, own, past-induction, past_of, place_after, unfinished, value_of, valued, write_moved}
-use Rattle.record.specs.declared.access.Field.TheVariants.{Choosing, Ticket}
-use Rattle.record.specs.safe_number.{new_write}
+use Rattle.model.specs.{Access, Call, Entry, Event, Next, Part, Past, Place, Reading, Run, Writing, entry_of, last_write, own, past-induction, past_of, place_after, unfinished, value_of, valued, write_moved}
+use Rattle.model.specs.declared.access.Field.TheVariants.{Choosing, Ticket}
+use Rattle.model.specs.safe_number.{new_write}
 use Rattle.plain_store.specs.{Command, Setup}
-use Rattle.record.specs.Closings.{Closing, Withdraws, Settles, Frees, Lowers, Quit, Ended, closing_next, closing_after, freeing, settling_from, is_last_settled, is_last_written, no_ticket}
-use Rattle.record.specs.reader_copies.Runs as copies
-use Rattle.record.proofs.safe_number.Bits.{length-bits_of_number}
-use Rattle.record.proofs.Width.{IsGood}
+use Rattle.model.specs.Closings.{Closing, Withdraws, Settles, Frees, Lowers, Quit, Ended, closing_next, closing_after, freeing, settling_from, is_last_settled, is_last_written, no_ticket}
+use Rattle.model.specs.reader_copies.Runs as copies
+use Rattle.model.proofs.safe_number.Bits.{length-bits_of_number}
+use Rattle.model.proofs.Width.{IsGood}
 use Rattle.laws.specs.{Closes, Doing, Lies, Rests, RegisterWrite, Runs, call, closes, doing, register_write, write_at}
 use Rattle.laws.proofs.Always.{inv_of}
 use Rattle.laws.proofs.Frame.{Happens, a_call, a_withdrawal, a_failure, a_restart, a_step, a_closing, doing-other}

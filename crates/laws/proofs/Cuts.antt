@@ -1,12 +1,12 @@
 -- The memory unit of a process that fails is that of what it was doing.
 use Rattle.std.proofs.Common.{◌≡◌, ℕ, List, None, sym, ap, ◌∙◌}
 use Rattle.plain_store.specs.{Setup}
-use Rattle.record.specs.{Call, Event, Past, call_number, cut_at, cut_closing, failing, freeing, inside, last_call, last_command, own, past_of, refused_at, stage}
-use Rattle.record.specs.declared.events.Event.TheVariants as event
-use Rattle.record.specs.declared.stages.Stage.TheVariants as stages
-use Rattle.record.proofs.CutRecords.{running-cut, withdrawn-cut, rest-cut}
-use Rattle.record.proofs.OpenSteps.{place_at, leaving_at}
-use Rattle.record.proofs.Width.{IsGood}
+use Rattle.model.specs.{Call, Event, Past, call_number, cut_at, cut_closing, failing, freeing, inside, last_call, last_command, own, past_of, refused_at, stage}
+use Rattle.model.specs.declared.events.Event.TheVariants as event
+use Rattle.model.specs.declared.stages.Stage.TheVariants as stages
+use Rattle.model.proofs.CutRecords.{running-cut, withdrawn-cut, rest-cut}
+use Rattle.model.proofs.OpenSteps.{place_at, leaving_at}
+use Rattle.model.proofs.Width.{IsGood}
 use Rattle.laws.specs.{Closes, Doing, Rests, Runs, cut_of, doing, is_inside}
 use Rattle.laws.proofs.Frame.{Does, at_rest, lying, running, leaving, settling}
 use Rattle.laws.proofs.FrameEvents.{does_all}

@@ -1,11 +1,11 @@
 -- The state of a process: whether it is inside, its stage, and its change by one accepted event.
 use Rattle.std.specs.Prelude.{◌≡◌, ℕ, Bool, false, cond, List, None, Some}
-use Rattle.record.specs.reader_copies.Runs as copies
-use Rattle.record.specs.{Access, Call, Closing, Entry, Next, Past, Place, Raises, Run, Settles, Stage, Wait, Waits, Withdraws, access_at, closing_after, closing_next, closing_stage, enter, freeing, is_commit, is_fresh, is_over, is_read, is_unwritten, place_after, stage_at, value_of, valued, withdrawing, written_at}
-use Rattle.record.specs.declared.access.Field.TheVariants.{Ticket}
-use Rattle.record.specs.safe_number.{NumberWrite}
+use Rattle.model.specs.reader_copies.Runs as copies
+use Rattle.model.specs.{Access, Call, Closing, Entry, Next, Past, Place, Raises, Run, Settles, Stage, Wait, Waits, Withdraws, access_at, closing_after, closing_next, closing_stage, enter, freeing, is_commit, is_fresh, is_over, is_read, is_unwritten, place_after, stage_at, value_of, valued, withdrawing, written_at}
+use Rattle.model.specs.declared.access.Field.TheVariants.{Ticket}
+use Rattle.model.specs.safe_number.{NumberWrite}
 use Rattle.plain_store.specs.{Command, Reply, Setup}
-use Rattle.record.specs.declared.stages.Stage.TheVariants as stage
+use Rattle.model.specs.declared.stages.Stage.TheVariants as stage
 use Rattle.laws.specs.{Doing, Rests, Lies, Runs, Closes, call, runs, closes, is_inside_at}
 
 -- the stage of p

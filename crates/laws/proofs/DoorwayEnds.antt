@@ -3,10 +3,10 @@ use Rattle.std.proofs.Common.{◌≡◌, ◌↔◌, ℕ, zero, suc, ◌==◌, �
 use Rattle.std.specs.List.{list_any}
 use Rattle.plain_store.specs.{Answer, Setup, changes}
 use Rattle.plain_store.specs.declared.Answer.TheVariants as answer
-use Rattle.record.specs.{Call, Entry, Event, Mark, Numbers, Past, Wait, bits_with, entered_if_none, entry_of, has, history, is_fresh, is_last, is_waiting, lets_by, others, past_of, placed, reply, store_read, tickets_read, value_of, waits_of}
-use Rattle.record.specs.declared.marks.Mark.TheVariants.{Waiting, Taken, Answered}
-use Rattle.record.specs.Parts.{Part, Lowers, Refuses, Waits, AsksImage, Clears, first_marks, last_marks}
-use Rattle.record.proofs.Width.{IsGood}
+use Rattle.model.specs.{Call, Entry, Event, Mark, Numbers, Past, Wait, bits_with, entered_if_none, entry_of, has, history, is_fresh, is_last, is_waiting, lets_by, others, past_of, placed, reply, store_read, tickets_read, value_of, waits_of}
+use Rattle.model.specs.declared.marks.Mark.TheVariants.{Waiting, Taken, Answered}
+use Rattle.model.specs.Parts.{Part, Lowers, Refuses, Waits, AsksImage, Clears, first_marks, last_marks}
+use Rattle.model.proofs.Width.{IsGood}
 use Rattle.laws.specs.{call, doing, ends_doorway}
 use Rattle.laws.proofs.Frame.{Happens, a_call, a_withdrawal, a_failure, a_restart, a_step, a_closing}
 use Rattle.laws.proofs.FrameEvents.{accepted}

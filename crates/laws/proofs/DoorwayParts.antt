@@ -3,12 +3,12 @@ use Rattle.std.proofs.Common.{◌≡◌, ℕ, ◌+◌, ◌/◌, ◌%◌, ◌==�
 use Rattle.std.proofs.lemmas.Bool.{eqb-true}
 use Rattle.std.specs.Prelude.{unwrap_or}
 use Rattle.std.specs.List.{list_any}
-use Rattle.record.specs.reader_copies.Runs as copies
-use Rattle.record.specs.safe_bit.declared.Move.TheVariants.{BeginWrite, EndWrite}
-use Rattle.record.specs.{Access, Call, Entry, Place, Reading, Run, Version, Wait, Writing, access_at, begins_doorway, bits_with, ended, ended_with, enter, entered_if_none, first_full, greatest, is_fresh, is_last, is_waiting, lets_by, max_of, newest_stamp, others, place_after, processes, raises, reply, run_after, store_read, waits_of}
-use Rattle.record.specs.declared.access.Field.TheVariants.{Choosing}
-use Rattle.record.specs.declared.marks.Mark.TheVariants.{Taken}
-use Rattle.record.specs.Parts.{Part, Raises, Asks, TakesTicket, Lowers, Refuses, Waits, AsksCommit, AsksStamp, AsksImage, WritesImage, Clears, is_over, last_marks, to_b, to_d, to_e, to_g, part_after}
+use Rattle.model.specs.reader_copies.Runs as copies
+use Rattle.model.specs.safe_bit.declared.Move.TheVariants.{BeginWrite, EndWrite}
+use Rattle.model.specs.{Access, Call, Entry, Place, Reading, Run, Version, Wait, Writing, access_at, begins_doorway, bits_with, ended, ended_with, enter, entered_if_none, first_full, greatest, is_fresh, is_last, is_waiting, lets_by, max_of, newest_stamp, others, place_after, processes, raises, reply, run_after, store_read, waits_of}
+use Rattle.model.specs.declared.access.Field.TheVariants.{Choosing}
+use Rattle.model.specs.declared.marks.Mark.TheVariants.{Taken}
+use Rattle.model.specs.Parts.{Part, Raises, Asks, TakesTicket, Lowers, Refuses, Waits, AsksCommit, AsksStamp, AsksImage, WritesImage, Clears, is_over, last_marks, to_b, to_d, to_e, to_g, part_after}
 use Rattle.plain_store.specs.declared.Answer.TheVariants as answer
 use Rattle.plain_store.specs.{Contents, changes}
 use Rattle.laws.proofs.Notes.{began_by, ended_by}

@@ -2,16 +2,16 @@
 use Rattle.std.proofs.Common.{◌≡◌, ◌≢◌, ℕ, ◌+◌, ◌*◌, ◌/◌, ◌%◌, ◌==◌, ◌||◌, Bool, true, false, cond, if◌then◌else◌, List, [], ◌∷◌, refl, sym, ap, ◌∙◌, subst, arith, Option, Some, None, inl, inr, eq-eqb}
 use Rattle.std.proofs.lemmas.Bool.{cases_eq}
 use Rattle.std.specs.Prelude.{option_map, unwrap_or}
-use Rattle.record.specs.safe_bit.declared.Move.TheVariants.{BeginWrite, EndWrite, BeginRead, EndRead, Settle}
-use Rattle.record.specs.safe_bit.Cell.{Cell}
-use Rattle.record.specs.reader_copies.Runs as copies
-use Rattle.record.specs.{Access, Call, Entry, Event, Field, Next, Part, Past, Place, Raises, Reading, Run, Writing, access_at, access_of, bit_written, bits_with, enter, entry_of, inside, is_last, is_over, is_read, last_write, made_with, next_written, own, part_after, past-induction, past_of, place_after, run_after, unfinished, value_of, valued, width, write_moved, written_at}
-use Rattle.record.specs.declared.access.Field.TheVariants.{Choosing, Ticket}
-use Rattle.record.specs.safe_number.{NumberWrite, new_write}
+use Rattle.model.specs.safe_bit.declared.Move.TheVariants.{BeginWrite, EndWrite, BeginRead, EndRead, Settle}
+use Rattle.model.specs.safe_bit.Cell.{Cell}
+use Rattle.model.specs.reader_copies.Runs as copies
+use Rattle.model.specs.{Access, Call, Entry, Event, Field, Next, Part, Past, Place, Raises, Reading, Run, Writing, access_at, access_of, bit_written, bits_with, enter, entry_of, inside, is_last, is_over, is_read, last_write, made_with, next_written, own, part_after, past-induction, past_of, place_after, run_after, unfinished, value_of, valued, width, write_moved, written_at}
+use Rattle.model.specs.declared.access.Field.TheVariants.{Choosing, Ticket}
+use Rattle.model.specs.safe_number.{NumberWrite, new_write}
 use Rattle.plain_store.specs.{Command, Setup}
-use Rattle.record.specs.Closings.{Closing, Withdraws, Settles, Frees, Lowers, Quit, Ended, closing_next, closing_after, failing, freeing, settling_from, is_last_settled, is_last_written, no_ticket}
-use Rattle.record.proofs.Singles.{is_write}
-use Rattle.record.proofs.Width.{IsGood}
+use Rattle.model.specs.Closings.{Closing, Withdraws, Settles, Frees, Lowers, Quit, Ended, closing_next, closing_after, failing, freeing, settling_from, is_last_settled, is_last_written, no_ticket}
+use Rattle.model.proofs.Singles.{is_write}
+use Rattle.model.proofs.Width.{IsGood}
 use Rattle.laws.specs.{Closes, Doing, Lies, Rests, Runs, being_written, call, cell_held, closes, doing, next_of, runs}
 use Rattle.laws.proofs.Frame.{Happens, a_call, a_withdrawal, a_failure, a_restart, a_step, a_closing, doing-other}
 use Rattle.laws.proofs.FrameEvents.{accepted}

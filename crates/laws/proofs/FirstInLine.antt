@@ -3,9 +3,9 @@ use Rattle.std.proofs.Common.{◌≡◌, ◌≢◌, ◌⊎◌, ℕ, ◌<◌, ◌
 use Rattle.std.specs.Prelude.{fold}
 use Rattle.std.proofs.lemmas.Bool.{lt-ltb}
 use Rattle.plain_store.specs.{Setup}
-use Rattle.record.specs.{Entry, Event, Past, entry_of, has, inside, is_below, is_entered, is_fresh, is_waiting_stage, past_of, stage, stage_after}
-use Rattle.record.specs.declared.stages.Stage.TheVariants.{Waiting}
-use Rattle.record.proofs.Width.{IsGood}
+use Rattle.model.specs.{Entry, Event, Past, entry_of, has, inside, is_below, is_entered, is_fresh, is_waiting_stage, past_of, stage, stage_after}
+use Rattle.model.specs.declared.stages.Stage.TheVariants.{Waiting}
+use Rattle.model.proofs.Width.{IsGood}
 use Rattle.laws.specs.{StandsBefore, doing, is_inside, is_inside_at, ticket_told}
 use Rattle.laws.proofs.Always.{inv_of}
 use Rattle.laws.proofs.AtPlaces.{AtPlace}

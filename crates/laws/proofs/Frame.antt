@@ -1,20 +1,20 @@
 -- The state of each process agrees with the look-backs of its entries. One accepted event is a step of its process.
 use Rattle.std.proofs.Common.{◌≡◌, ◌≢◌, ℕ, suc, ◌==◌, Bool, true, false, cond, List, [], ◌∷◌, Some, None, length, map, refl, sym, ap, ◌∙◌, eq-eqb, ne_eqb}
 use Rattle.std.specs.Prelude.{fold}
-use Rattle.record.specs.safe_bit.{read_value}
-use Rattle.record.specs.{Access, Call, Closing, Entry, Event, Next, Part, Past, Place, Raises, Run, Stage, Wait, Waits, Withdraws, access_at, accesses_of, call_number, closing_after, closing_next, ended_with, enter, entry_at, failing, has, history, is_over, is_running, last_call, last_command, last_start, marks_of, moves_of, opening_bit, own, past_of, place_after, place_of, placed, since, stage, stage_after, stage_of, start_in, starts, stepped, value_of, valued, withdrawing}
+use Rattle.model.specs.safe_bit.{read_value}
+use Rattle.model.specs.{Access, Call, Closing, Entry, Event, Next, Part, Past, Place, Raises, Run, Stage, Wait, Waits, Withdraws, access_at, accesses_of, call_number, closing_after, closing_next, ended_with, enter, entry_at, failing, has, history, is_over, is_running, last_call, last_command, last_start, marks_of, moves_of, opening_bit, own, past_of, place_after, place_of, placed, since, stage, stage_after, stage_of, start_in, starts, stepped, value_of, valued, withdrawing}
 use Rattle.plain_store.specs.{Command, Setup}
-use Rattle.record.specs.declared.marks.Mark.TheVariants.{Called, Failed, Withdrew, Restarted}
-use Rattle.record.specs.declared.stages.Stage.TheVariants as stages
-use Rattle.record.specs.Parts as part
-use Rattle.record.proofs.Follow.{Spot, moved_on}
-use Rattle.record.proofs.Local.{Running, start-plain, since-plain, call-plain, command-plain, calls-plain, running_steps, over-idle, stage-moved}
-use Rattle.record.proofs.Marking.{spot_marks}
-use Rattle.record.proofs.OpenSteps.{place_at, leaving_at, failing_at}
-use Rattle.record.proofs.Staging.{stage-placed, no_start}
-use Rattle.record.proofs.Standing.{at_place, running_next}
-use Rattle.record.proofs.Ties.{Tied, tied-on, tied-marks, end-with}
-use Rattle.record.proofs.Width.{IsGood}
+use Rattle.model.specs.declared.marks.Mark.TheVariants.{Called, Failed, Withdrew, Restarted}
+use Rattle.model.specs.declared.stages.Stage.TheVariants as stages
+use Rattle.model.specs.Parts as part
+use Rattle.model.proofs.Follow.{Spot, moved_on}
+use Rattle.model.proofs.Local.{Running, start-plain, since-plain, call-plain, command-plain, calls-plain, running_steps, over-idle, stage-moved}
+use Rattle.model.proofs.Marking.{spot_marks}
+use Rattle.model.proofs.OpenSteps.{place_at, leaving_at, failing_at}
+use Rattle.model.proofs.Staging.{stage-placed, no_start}
+use Rattle.model.proofs.Standing.{at_place, running_next}
+use Rattle.model.proofs.Ties.{Tied, tied-on, tied-marks, end-with}
+use Rattle.model.proofs.Width.{IsGood}
 use Rattle.laws.specs.{Doing, Rests, Lies, Runs, Closes, call, runs, closes, goes_on, does_after, doing}
 use Rattle.laws.proofs.Notes.{notes, notes_after}
 

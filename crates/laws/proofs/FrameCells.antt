@@ -1,16 +1,16 @@
 -- The effect of an entry on the cells, and the value that the end of a read gives.
 use Rattle.std.proofs.Common.{◌≡◌, ◌≢◌, ℕ, ◌==◌, ◌&&◌, Bool, true, false, cond, List, [], ◌∷◌, ◌++◌, Some, None, refl, sym, ap, subst, ◌∙◌, eqb-true, eq-eqb}
-use Rattle.record.specs.safe_bit.Cell.{Cell, cell_of, read_answer}
-use Rattle.record.specs.safe_bit.Cell as bit
-use Rattle.record.specs.safe_bit.{Move}
-use Rattle.record.specs.safe_bit.declared.Move.TheVariants.{BeginWrite, EndWrite, BeginRead, EndRead, Settle}
-use Rattle.record.proofs.safe_bit.Showing.{answer-shows, shows_moves}
-use Rattle.record.specs.{Access, Entry, Event, Field, Past, cell_after, copy, ended, ended_with, field_number, moves_of, opening_bit, past_of, same_bit, value_of, valued}
-use Rattle.record.specs.declared.access.Field.TheVariants.{Choosing, Ticket, Commit, Stamp0, Stamp1, Image0, Image1}
+use Rattle.model.specs.safe_bit.Cell.{Cell, cell_of, read_answer}
+use Rattle.model.specs.safe_bit.Cell as bit
+use Rattle.model.specs.safe_bit.{Move}
+use Rattle.model.specs.safe_bit.declared.Move.TheVariants.{BeginWrite, EndWrite, BeginRead, EndRead, Settle}
+use Rattle.model.proofs.safe_bit.Showing.{answer-shows, shows_moves}
+use Rattle.model.specs.{Access, Entry, Event, Field, Past, cell_after, copy, ended, ended_with, field_number, moves_of, opening_bit, past_of, same_bit, value_of, valued}
+use Rattle.model.specs.declared.access.Field.TheVariants.{Choosing, Ticket, Commit, Stamp0, Stamp1, Image0, Image1}
 use Rattle.plain_store.specs.{Setup}
-use Rattle.record.proofs.Singles.{is_write}
-use Rattle.record.proofs.TurnRecords.{turns_all}
-use Rattle.record.proofs.Width.{IsGood}
+use Rattle.model.proofs.Singles.{is_write}
+use Rattle.model.proofs.TurnRecords.{turns_all}
+use Rattle.model.proofs.Width.{IsGood}
 
 -- the cells of o after the past: each reader's copy of each bit of each field
 abbrev pub cells : Setup → Past → ℕ → Field → ℕ → ℕ → Cell

@@ -1,18 +1,18 @@
 -- A step of a process that withdrew, and of a memory unit, agrees with the look-backs.
 use Rattle.std.proofs.Common.{◌≡◌, ℕ, ◌==◌, Bool, true, false, cond, List, ◌∷◌, Some, map, refl, sym, ap, ◌∙◌, true≢false}
 use Rattle.std.specs.Prelude.{fold}
-use Rattle.record.specs.safe_bit.{read_value}
-use Rattle.record.specs.{Access, Call, Entry, Event, Next, Past, before, call_number, has, is_failed, last_call, last_command, last_start, moves_of, opening_bit, own, past_of, since, stage, stage_after, starts, stepped, value_written}
+use Rattle.model.specs.safe_bit.{read_value}
+use Rattle.model.specs.{Access, Call, Entry, Event, Next, Past, before, call_number, has, is_failed, last_call, last_command, last_start, moves_of, opening_bit, own, past_of, since, stage, stage_after, starts, stepped, value_written}
 use Rattle.plain_store.specs.{Command, Setup}
-use Rattle.record.specs.declared.marks.Mark.TheVariants.{Failed, Withdrew}
-use Rattle.record.specs.declared.stages.Stage.TheVariants as stages
-use Rattle.record.specs.Closings.{Closing, Withdraws, Settles, Frees, Lowers, Quit, Ended, withdrawing, failing, closing_after, closing_stage}
-use Rattle.record.proofs.ClosingStanding.{is_unit, keeps-kind, failing-kind}
-use Rattle.record.proofs.Local.{start-plain, command-plain, calls-plain}
-use Rattle.record.proofs.OpenSteps.{leaving_at, failing_at, closing-same}
-use Rattle.record.proofs.Staging.{no_start}
-use Rattle.record.proofs.Width.{IsGood}
-use Rattle.record.proofs.ClosingSteps.{ClosingStep, withdrawn-step, unit-step, leaving-then, failing-then}
+use Rattle.model.specs.declared.marks.Mark.TheVariants.{Failed, Withdrew}
+use Rattle.model.specs.declared.stages.Stage.TheVariants as stages
+use Rattle.model.specs.Closings.{Closing, Withdraws, Settles, Frees, Lowers, Quit, Ended, withdrawing, failing, closing_after, closing_stage}
+use Rattle.model.proofs.ClosingStanding.{is_unit, keeps-kind, failing-kind}
+use Rattle.model.proofs.Local.{start-plain, command-plain, calls-plain}
+use Rattle.model.proofs.OpenSteps.{leaving_at, failing_at, closing-same}
+use Rattle.model.proofs.Staging.{no_start}
+use Rattle.model.proofs.Width.{IsGood}
+use Rattle.model.proofs.ClosingSteps.{ClosingStep, withdrawn-step, unit-step, leaving-then, failing-then}
 use Rattle.laws.specs.{Doing, Closes, call, closes, goes_on, does_after, doing}
 use Rattle.laws.proofs.Frame.{Does, at_rest, lying, leaving, settling, a_closing, Goes, then_doing}
 

@@ -1,22 +1,22 @@
 -- The unfinished write of a process, by its state: its memory unit begins with it where the process fails.
 use Rattle.std.proofs.Common.{◌≡◌, ℕ, ◌+◌, ◌*◌, ◌%◌, ◌<◌, ◌==◌, Bool, true, false, cond, List, [], ◌∷◌, Option, Some, None, length, refl, sym, ap, subst, ◌∙◌, arith, true≢false, eqb-true}
 use Rattle.std.specs.Prelude.{is_none}
-use Rattle.record.specs.safe_bit.{Move}
-use Rattle.record.specs.safe_bit.declared.Move.TheVariants.{BeginWrite, EndWrite, BeginRead, EndRead, Settle}
-use Rattle.record.specs.reader_copies.Runs as copies
-use Rattle.record.specs.{Access, Call, Entry, Field, Next, Part, Past, Place, Reading, Run, Writing, access_at, access_of, bit_written, bits_with, enter, inside, is_last, is_over, is_read, last_write, new_run, next_written, part_after, place_after, run_after, unfinished, width, write_moved, written_at}
-use Rattle.record.specs.declared.access.Field.TheVariants.{Choosing, Ticket}
-use Rattle.record.specs.safe_number.{NumberWrite, new_write, write_on}
+use Rattle.model.specs.safe_bit.{Move}
+use Rattle.model.specs.safe_bit.declared.Move.TheVariants.{BeginWrite, EndWrite, BeginRead, EndRead, Settle}
+use Rattle.model.specs.reader_copies.Runs as copies
+use Rattle.model.specs.{Access, Call, Entry, Field, Next, Part, Past, Place, Reading, Run, Writing, access_at, access_of, bit_written, bits_with, enter, inside, is_last, is_over, is_read, last_write, new_run, next_written, part_after, place_after, run_after, unfinished, width, write_moved, written_at}
+use Rattle.model.specs.declared.access.Field.TheVariants.{Choosing, Ticket}
+use Rattle.model.specs.safe_number.{NumberWrite, new_write, write_on}
 use Rattle.plain_store.specs.{Command, Setup}
-use Rattle.record.specs.Closings.{Closing, Withdraws, Settles, Frees, Lowers, Quit, Ended, no_ticket, is_last_written, is_last_settled, freeing, settling_from, closing_next, closing_after}
-use Rattle.record.proofs.Closing.{ticket_width, further}
-use Rattle.record.proofs.Cursors.{Goes}
-use Rattle.record.proofs.PlaceTurns.{access_in}
-use Rattle.record.proofs.Singles.{is_write}
-use Rattle.record.proofs.Ties.{written-width}
-use Rattle.record.proofs.Width.{IsGood, width-pos}
-use Rattle.record.proofs.ClosingScripts.{new-goes}
-use Rattle.record.proofs.Left.{ends-bit}
+use Rattle.model.specs.Closings.{Closing, Withdraws, Settles, Frees, Lowers, Quit, Ended, no_ticket, is_last_written, is_last_settled, freeing, settling_from, closing_next, closing_after}
+use Rattle.model.proofs.Closing.{ticket_width, further}
+use Rattle.model.proofs.Cursors.{Goes}
+use Rattle.model.proofs.PlaceTurns.{access_in}
+use Rattle.model.proofs.Singles.{is_write}
+use Rattle.model.proofs.Ties.{written-width}
+use Rattle.model.proofs.Width.{IsGood, width-pos}
+use Rattle.model.proofs.ClosingScripts.{new-goes}
+use Rattle.model.proofs.Left.{ends-bit}
 use Rattle.laws.specs.{Doing, Rests, Lies, Runs, Closes, call, runs, closes}
 
 -- The last write, after an entry.

@@ -1,18 +1,18 @@
 -- The steps with which a doorway begins, and the state of each process, by each of its look-backs.
 use Rattle.std.proofs.Common.{◌≡◌, ◌≢◌, ℕ, ◌/◌, ◌%◌, ◌<◌, ◌==◌, ◌&&◌, Bool, true, false, cond, List, [], ◌∷◌, Option, Some, None, refl, sym, ap, subst, ◌∙◌, arith, eqb-true, ne_eqb}
 use Rattle.std.specs.Prelude.{is_none, not, slice_index_or, unwrap_or}
-use Rattle.record.specs.reader_copies.Runs as copies
-use Rattle.record.specs.safe_bit.{Move, read_value}
-use Rattle.record.specs.safe_bit.declared.Move.TheVariants.{BeginWrite, EndWrite, BeginRead, EndRead}
-use Rattle.record.specs.{Access, Call, Clears, Entry, Event, Field, Next, Part, Past, Raises, Reading, Refuses, Run, TakesTicket, WritesCommit, WritesImage, WritesStamp, Writing, access_at, begins_doorway, bit_written, ended, ended_with, entry_of, image_field, is_fresh, is_over, is_read, moves_of, opening_bit, own, past_of, raises, read_at, stamp_field, version_of, written_at}
-use Rattle.record.specs.declared.access.Field.TheVariants.{Choosing}
-use Rattle.record.specs.safe_number.{NumberWrite}
+use Rattle.model.specs.reader_copies.Runs as copies
+use Rattle.model.specs.safe_bit.{Move, read_value}
+use Rattle.model.specs.safe_bit.declared.Move.TheVariants.{BeginWrite, EndWrite, BeginRead, EndRead}
+use Rattle.model.specs.{Access, Call, Clears, Entry, Event, Field, Next, Part, Past, Raises, Reading, Refuses, Run, TakesTicket, WritesCommit, WritesImage, WritesStamp, Writing, access_at, begins_doorway, bit_written, ended, ended_with, entry_of, image_field, is_fresh, is_over, is_read, moves_of, opening_bit, own, past_of, raises, read_at, stamp_field, version_of, written_at}
+use Rattle.model.specs.declared.access.Field.TheVariants.{Choosing}
+use Rattle.model.specs.safe_number.{NumberWrite}
 use Rattle.plain_store.specs.{Command, Setup}
-use Rattle.record.specs.Closings.{Closing, Withdraws, Settles, Frees, Lowers, Quit, Ended, closing_next}
-use Rattle.record.specs.Parts as part
-use Rattle.record.proofs.PlaceTurns.{access_in}
-use Rattle.record.proofs.Turns.{and_false, and_true}
-use Rattle.record.proofs.Width.{IsGood}
+use Rattle.model.specs.Closings.{Closing, Withdraws, Settles, Frees, Lowers, Quit, Ended, closing_next}
+use Rattle.model.specs.Parts as part
+use Rattle.model.proofs.PlaceTurns.{access_in}
+use Rattle.model.proofs.Turns.{and_false, and_true}
+use Rattle.model.proofs.Width.{IsGood}
 use Rattle.laws.specs.{Doing, Runs, Closes, call, doing}
 use Rattle.laws.proofs.Frame.{Happens, a_call, a_withdrawal, a_failure, a_restart, a_step, a_closing}
 use Rattle.laws.proofs.FrameCuts.{left, WriteOn, LeftRun, LeftClosing, LeftIn}

@@ -3,17 +3,17 @@ use Rattle.std.proofs.Common.{◌≡◌, ℕ, ◌<◌, ◌==◌, Bool, true, fal
 use Rattle.std.proofs.lemmas.Bool.Decides.{nat_tests}
 use Rattle.std.specs.Prelude.{fold, nat_lt}
 use Rattle.plain_store.specs.{Command, Setup}
-use Rattle.record.specs.{Entry, Event, Part, Past, Place, Stage, Wait, Waits, added, call_number, entry_of, is_running, last_command, own, past_of, process_of, refused_at, stage, stage_after}
-use Rattle.record.specs.declared.events.Event.TheVariants as event
-use Rattle.record.specs.declared.marks.Mark.TheVariants.{Called, Failed, Withdrew, Restarted}
-use Rattle.record.specs.declared.stages.Stage.TheVariants as stages
-use Rattle.record.specs.Closings.{Closing, Withdraws, closing_stage}
-use Rattle.record.specs.Parts as part
-use Rattle.record.proofs.ClosingStanding.{withdrawn_stands}
-use Rattle.record.proofs.OpenSteps.{place_at, leaving_at}
-use Rattle.record.proofs.Standing.{running_stands}
-use Rattle.record.proofs.Width.{IsGood}
-use Rattle.record.proofs.World.{entry-accepted, entry_view, view, refused-idle}
+use Rattle.model.specs.{Entry, Event, Part, Past, Place, Stage, Wait, Waits, added, call_number, entry_of, is_running, last_command, own, past_of, process_of, refused_at, stage, stage_after}
+use Rattle.model.specs.declared.events.Event.TheVariants as event
+use Rattle.model.specs.declared.marks.Mark.TheVariants.{Called, Failed, Withdrew, Restarted}
+use Rattle.model.specs.declared.stages.Stage.TheVariants as stages
+use Rattle.model.specs.Closings.{Closing, Withdraws, closing_stage}
+use Rattle.model.specs.Parts as part
+use Rattle.model.proofs.ClosingStanding.{withdrawn_stands}
+use Rattle.model.proofs.OpenSteps.{place_at, leaving_at}
+use Rattle.model.proofs.Standing.{running_stands}
+use Rattle.model.proofs.Width.{IsGood}
+use Rattle.model.proofs.World.{entry-accepted, entry_view, view, refused-idle}
 use Rattle.laws.specs.{Doing, Rests, Lies, Runs, Closes, doing}
 use Rattle.laws.proofs.Frame.{Does, at_rest, lying, running, leaving, settling, may_fail, Happens, a_call, a_withdrawal, a_failure, a_restart, Goes, then_doing, running-goes, doing-goes}
 use Rattle.laws.proofs.FrameClosings.{leaving-goes, settling-goes}

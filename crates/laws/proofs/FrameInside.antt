@@ -2,19 +2,19 @@
 use Rattle.std.proofs.Common.{◌≡◌, ℕ, ◌+◌, ◌*◌, ◌==◌, ◌&&◌, Bool, true, false, cond, List, [], ◌∷◌, ◌++◌, Option, Some, None, length, map, refl, sym, ap, subst, ◌∙◌, arith, true≢false, eqb-true, eq-eqb, ne_eqb}
 use Rattle.std.proofs.lemmas.List.{length_push}
 use Rattle.std.specs.Prelude.{fold, not}
-use Rattle.record.specs.reader_copies.Runs as copies
-use Rattle.record.specs.{Access, Asks, AsksCommit, AsksImage, AsksStamp, Call, Clears, Entry, Event, Mark, Next, Over, Part, Past, Place, Raises, Reading, Refuses, Run, TakesTicket, Version, Wait, Waits, WritesCommit, WritesImage, WritesStamp, Writing, bit_written, bits_with, enter, entered_if_none, entry_of, first_full, first_marks, greatest, history, inside, inside_after, is_fresh, is_last, is_over, is_read, last_marks, last_write, lets_by, marks_of, max_of, new_run, newest_stamp, others, own, part_after, past-induction, past_of, place_after, placed, processes, reply, run_after, stage, store_read, to_b, to_d, to_e, to_g, unfinished, value_of, waits_of, width, write_moved, written_at}
-use Rattle.record.specs.safe_number.{NumberWrite, new_write, write_on}
+use Rattle.model.specs.reader_copies.Runs as copies
+use Rattle.model.specs.{Access, Asks, AsksCommit, AsksImage, AsksStamp, Call, Clears, Entry, Event, Mark, Next, Over, Part, Past, Place, Raises, Reading, Refuses, Run, TakesTicket, Version, Wait, Waits, WritesCommit, WritesImage, WritesStamp, Writing, bit_written, bits_with, enter, entered_if_none, entry_of, first_full, first_marks, greatest, history, inside, inside_after, is_fresh, is_last, is_over, is_read, last_marks, last_write, lets_by, marks_of, max_of, new_run, newest_stamp, others, own, part_after, past-induction, past_of, place_after, placed, processes, reply, run_after, stage, store_read, to_b, to_d, to_e, to_g, unfinished, value_of, waits_of, width, write_moved, written_at}
+use Rattle.model.specs.safe_number.{NumberWrite, new_write, write_on}
 use Rattle.plain_store.specs.declared.Answer.TheVariants as answer
 use Rattle.plain_store.specs.{Command, Contents, Reply, Setup, changes}
-use Rattle.record.specs.declared.marks.Mark.TheVariants.{Taken, Left, Answered, Settled, Down}
-use Rattle.record.specs.Closings.{Closing, Withdraws, Settles, Frees, Lowers, Quit, Ended, no_ticket, is_unwritten, is_last_written, is_last_settled, freeing, settling_from, failing, closing_next, closing_after, settled_marks}
-use Rattle.record.specs.Parts as part
-use Rattle.record.proofs.ClosingStanding.{withdrawn_stands, unit_stands}
-use Rattle.record.proofs.Standing.{running_stands}
-use Rattle.record.proofs.Turns.{and_false, and_true}
-use Rattle.record.proofs.Width.{IsGood}
-use Rattle.record.proofs.CutRecords.{inside-own}
+use Rattle.model.specs.declared.marks.Mark.TheVariants.{Taken, Left, Answered, Settled, Down}
+use Rattle.model.specs.Closings.{Closing, Withdraws, Settles, Frees, Lowers, Quit, Ended, no_ticket, is_unwritten, is_last_written, is_last_settled, freeing, settling_from, failing, closing_next, closing_after, settled_marks}
+use Rattle.model.specs.Parts as part
+use Rattle.model.proofs.ClosingStanding.{withdrawn_stands, unit_stands}
+use Rattle.model.proofs.Standing.{running_stands}
+use Rattle.model.proofs.Turns.{and_false, and_true}
+use Rattle.model.proofs.Width.{IsGood}
+use Rattle.model.proofs.CutRecords.{inside-own}
 use Rattle.laws.specs.{Doing, Rests, Runs, call, runs, closes, doing, is_inside, is_inside_at, is_inside_closing}
 use Rattle.laws.proofs.Doings.{stage_of}
 use Rattle.laws.proofs.Frame.{Does, at_rest, lying, running, leaving, settling, Happens, a_call, a_withdrawal, a_failure, a_restart, a_step, a_closing, doing-other}

@@ -2,17 +2,17 @@
 use Rattle.std.proofs.Common.{◌≡◌, ℕ, ◌&&◌, ◌||◌, Bool, true, false, cond, not, List, [], ◌∷◌, ◌++◌, Option, Some, None, length, map, refl, sym, ap, subst, ◌∙◌, true≢false}
 use Rattle.std.specs.List.{list_any}
 use Rattle.std.proofs.lemmas.List.Folds.{list_any-append}
-use Rattle.record.specs.reader_copies.Runs as copies
-use Rattle.record.specs.{Access, AsksImage, Call, Clears, Entry, Event, Mark, Next, Part, Past, Place, Raises, Refuses, Wait, Waits, WritesCommit, bits_with, enter, entered_if_none, entry_of, first_marks, has, history, is_called, is_entered, is_fresh, is_last, is_waiting, last_marks, lets_by, marks_of, part_after, past_of, place_after, placed, processes, reply, run_after, store_read, to_d, to_e, value_of, waits_of}
+use Rattle.model.specs.reader_copies.Runs as copies
+use Rattle.model.specs.{Access, AsksImage, Call, Clears, Entry, Event, Mark, Next, Part, Past, Place, Raises, Refuses, Wait, Waits, WritesCommit, bits_with, enter, entered_if_none, entry_of, first_marks, has, history, is_called, is_entered, is_fresh, is_last, is_waiting, last_marks, lets_by, marks_of, part_after, past_of, place_after, placed, processes, reply, run_after, store_read, to_d, to_e, value_of, waits_of}
 use Rattle.plain_store.specs.declared.Answer.TheVariants as answer
 use Rattle.plain_store.specs.{Command, Reply, Setup, changes}
-use Rattle.record.specs.declared.marks.Mark.TheVariants.{Called, Waiting, Entered, Taken, Left, Answered, Failed, Settled, Down, Withdrew, Restarted}
-use Rattle.record.specs.Closings.{Closing, Withdraws, Settles, Frees, Lowers, Quit, Ended, no_ticket, is_unwritten, is_last_written, is_last_settled, closing_next, settled_marks}
-use Rattle.record.specs.Parts as part
-use Rattle.record.proofs.OpenSteps.{closing-plain}
-use Rattle.record.proofs.Staging.{no_called, no_start-marks}
-use Rattle.record.proofs.Turns.{and_false}
-use Rattle.record.proofs.Width.{IsGood}
+use Rattle.model.specs.declared.marks.Mark.TheVariants.{Called, Waiting, Entered, Taken, Left, Answered, Failed, Settled, Down, Withdrew, Restarted}
+use Rattle.model.specs.Closings.{Closing, Withdraws, Settles, Frees, Lowers, Quit, Ended, no_ticket, is_unwritten, is_last_written, is_last_settled, closing_next, settled_marks}
+use Rattle.model.specs.Parts as part
+use Rattle.model.proofs.OpenSteps.{closing-plain}
+use Rattle.model.proofs.Staging.{no_called, no_start-marks}
+use Rattle.model.proofs.Turns.{and_false}
+use Rattle.model.proofs.Width.{IsGood}
 use Rattle.laws.specs.{Doing, Rests, Runs, call, runs, doing, is_inside, is_inside_at}
 use Rattle.laws.proofs.Frame.{Happens, a_call, a_withdrawal, a_failure, a_restart, a_step, a_closing}
 use Rattle.laws.proofs.FrameEvents.{accepted}

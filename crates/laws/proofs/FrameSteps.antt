@@ -1,20 +1,20 @@
 -- Every accepted event of every record is a step.
 use Rattle.std.proofs.Common.{◌≡◌, ◌≢◌, ℕ, ◌<◌, ◌≤◌, ◌==◌, ◌%◌, ◌&&◌, Bool, true, false, cond, List, [], ◌∷◌, Option, Some, None, refl, sym, ap, subst, ◌∙◌, arith, true≢false, eqb-true, eq-eqb}
 use Rattle.std.specs.Prelude.{is_none}
-use Rattle.record.specs.safe_bit.{Move, read_value}
-use Rattle.record.specs.safe_bit.declared.Move.TheVariants.{BeginWrite, EndWrite, BeginRead, EndRead, Settle}
-use Rattle.record.specs.reader_copies.Runs as copies
-use Rattle.record.specs.{Access, Call, Entry, Event, Field, Next, Part, Past, Raises, Reading, Run, Wait, Waits, Writing, access_at, bit_written, ended, ended_with, entry_of, inside, is_called, is_fresh, last_read, last_write, made_with, moves_of, opening_bit, own, past-induction, past_of, process_of, read_so_far, since, unfinished, value_begun, value_of, valued, written_at}
-use Rattle.record.specs.declared.access.Field.TheVariants.{Ticket}
-use Rattle.record.specs.safe_number.{NumberWrite}
+use Rattle.model.specs.safe_bit.{Move, read_value}
+use Rattle.model.specs.safe_bit.declared.Move.TheVariants.{BeginWrite, EndWrite, BeginRead, EndRead, Settle}
+use Rattle.model.specs.reader_copies.Runs as copies
+use Rattle.model.specs.{Access, Call, Entry, Event, Field, Next, Part, Past, Raises, Reading, Run, Wait, Waits, Writing, access_at, bit_written, ended, ended_with, entry_of, inside, is_called, is_fresh, last_read, last_write, made_with, moves_of, opening_bit, own, past-induction, past_of, process_of, read_so_far, since, unfinished, value_begun, value_of, valued, written_at}
+use Rattle.model.specs.declared.access.Field.TheVariants.{Ticket}
+use Rattle.model.specs.safe_number.{NumberWrite}
 use Rattle.plain_store.specs.{Command, Setup}
-use Rattle.record.specs.Closings.{Closing, Withdraws, Settles, Frees, Lowers, Quit, Ended, no_ticket, is_unwritten, freeing, settling_from, failing, closing_next, reply_with}
-use Rattle.record.proofs.PlaceTurns.{access_in}
-use Rattle.record.proofs.Singles.{is_write}
-use Rattle.record.proofs.Turns.{and_false}
-use Rattle.record.proofs.Width.{IsGood}
-use Rattle.record.proofs.Opens.{last-none}
-use Rattle.record.proofs.CutRecords.{inside-own}
+use Rattle.model.specs.Closings.{Closing, Withdraws, Settles, Frees, Lowers, Quit, Ended, no_ticket, is_unwritten, freeing, settling_from, failing, closing_next, reply_with}
+use Rattle.model.proofs.PlaceTurns.{access_in}
+use Rattle.model.proofs.Singles.{is_write}
+use Rattle.model.proofs.Turns.{and_false}
+use Rattle.model.proofs.Width.{IsGood}
+use Rattle.model.proofs.Opens.{last-none}
+use Rattle.model.proofs.CutRecords.{inside-own}
 use Rattle.laws.specs.{Doing, Rests, Lies, Runs, Closes, call, doing, is_inside, is_inside_at}
 use Rattle.laws.proofs.Doings.{IsCut, Step, calls, withdraws, fails, restarts, steps, closes_on}
 use Rattle.laws.proofs.Doings as doings

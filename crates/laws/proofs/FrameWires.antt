@@ -1,13 +1,13 @@
 -- The effect of an entry on the registers and on the marks of overlap.
 use Rattle.std.proofs.Common.{◌≡◌, ◌≢◌, ℕ, Bool, true, false, cond, List, ◌∷◌, Some, None, refl, ap, ◌∙◌}
-use Rattle.record.specs.safe_bit.Cell.{Cell}
-use Rattle.record.specs.safe_bit.Cell as bit
-use Rattle.record.specs.safe_bit.{Move}
-use Rattle.record.specs.safe_bit.declared.Move.TheVariants.{BeginWrite, EndWrite, BeginRead, EndRead, Settle}
-use Rattle.record.specs.{Access, Entry, Event, Field, Past, copy, past_of, same_bit, value_of, valued}
+use Rattle.model.specs.safe_bit.Cell.{Cell}
+use Rattle.model.specs.safe_bit.Cell as bit
+use Rattle.model.specs.safe_bit.{Move}
+use Rattle.model.specs.safe_bit.declared.Move.TheVariants.{BeginWrite, EndWrite, BeginRead, EndRead, Settle}
+use Rattle.model.specs.{Access, Entry, Event, Field, Past, copy, past_of, same_bit, value_of, valued}
 use Rattle.plain_store.specs.{Setup}
-use Rattle.record.proofs.Singles.{is_write}
-use Rattle.record.proofs.Width.{IsGood}
+use Rattle.model.proofs.Singles.{is_write}
+use Rattle.model.proofs.Width.{IsGood}
 use Rattle.laws.proofs.FrameCells.{cells, cells-entry, cells-kept, cells-others, cells-apart, KeptBits, EntryBy, off-field, off-reader, itself, answer-read}
 use Rattle.laws.proofs.Invariant.{Wire, wire, wires, touches}
 

@@ -4,17 +4,17 @@ use Rattle.std.proofs.lemmas.List.{length_push, map-append}
 use Rattle.std.proofs.lemmas.Nat.{pow_pos}
 use Rattle.std.proofs.Math.Nat.{pow-suc}
 use Rattle.std.specs.List.{list_any}
-use Rattle.record.specs.safe_bit.{read_value}
-use Rattle.record.specs.safe_bit.declared.Move.TheVariants.{BeginWrite, EndWrite}
-use Rattle.record.specs.safe_number.{new_write, number_of_bits}
-use Rattle.record.proofs.safe_number.Bits.{number-fits}
-use Rattle.record.specs.{Access, Call, Entry, Event, Numbers, Past, Place, ReadSoFar, Reading, Run, Version, Wait, Writing, access_at, bit_written, ended, ended_with, enter, first_full, greatest, index_of, is_called, is_last, lets_by, lowest_full, max_of, moves_of, new_run, newest_stamp, opening_bit, others, own, past_of, place_after, processes, read_so_far, reply, run_after, since, store_read, value_of, waits_of, width, with_access, with_move}
+use Rattle.model.specs.safe_bit.{read_value}
+use Rattle.model.specs.safe_bit.declared.Move.TheVariants.{BeginWrite, EndWrite}
+use Rattle.model.specs.safe_number.{new_write, number_of_bits}
+use Rattle.model.proofs.safe_number.Bits.{number-fits}
+use Rattle.model.specs.{Access, Call, Entry, Event, Numbers, Past, Place, ReadSoFar, Reading, Run, Version, Wait, Writing, access_at, bit_written, ended, ended_with, enter, first_full, greatest, index_of, is_called, is_last, lets_by, lowest_full, max_of, moves_of, new_run, newest_stamp, opening_bit, others, own, past_of, place_after, processes, read_so_far, reply, run_after, since, store_read, value_of, waits_of, width, with_access, with_move}
 use Rattle.plain_store.specs.{Answer, Command, Contents, Setup, changes}
 use Rattle.plain_store.specs.declared.Answer.TheVariants as answer
-use Rattle.record.specs.declared.marks.Mark.TheVariants.{Called}
-use Rattle.record.specs.Parts.{Part, Raises, Asks, TakesTicket, Lowers, Refuses, Waits, AsksCommit, AsksStamp, AsksImage, WritesImage, WritesStamp, WritesCommit, Clears, Over, is_read, is_over, read_at, to_b, to_d, to_e, to_g, part_after, written_at}
-use Rattle.record.proofs.Local.{since_called-plain}
-use Rattle.record.proofs.Width.{IsGood}
+use Rattle.model.specs.declared.marks.Mark.TheVariants.{Called}
+use Rattle.model.specs.Parts.{Part, Raises, Asks, TakesTicket, Lowers, Refuses, Waits, AsksCommit, AsksStamp, AsksImage, WritesImage, WritesStamp, WritesCommit, Clears, Over, is_read, is_over, read_at, to_b, to_d, to_e, to_g, part_after, written_at}
+use Rattle.model.proofs.Local.{since_called-plain}
+use Rattle.model.proofs.Width.{IsGood}
 use Rattle.laws.specs.{call, doing}
 use Rattle.laws.proofs.Frame.{own-other, own-own}
 use Rattle.laws.proofs.AtPlaces.{AtPlace, Stepping, place-induction, plain-stepping}

@@ -2,16 +2,16 @@
 use Rattle.std.proofs.Common.{◌≡◌, ◌==◌, ◌&&◌, ◌||◌, Bool, true, false, cond, List, [], ◌∷◌, ◌++◌, Option, Some, None, refl, sym, ap, subst, ◌∙◌}
 use Rattle.std.specs.Prelude.{flat_map}
 use Rattle.std.specs.List.{list_any}
-use Rattle.record.specs.safe_bit.Cell.{Cell, BitCall, Makes, Drops, AreWritesInTurn, MayMove, MayWrite, cell_after, cell_of_calls, without_read, read_answer}
-use Rattle.record.specs.safe_bit.{Move, Shows, read_value}
-use Rattle.record.specs.safe_bit.declared.Move.TheVariants.{BeginWrite, EndWrite, BeginRead, EndRead, Settle}
-use Rattle.record.proofs.safe_bit.Showing.{answer-shows, shows_dropped, shows_moves}
-use Rattle.record.specs.{Access, Entry, Event, Mark, Past, ends_read, entry_of, is_failed, moves_of, opening_bit, past_of, same_bit}
+use Rattle.model.specs.safe_bit.Cell.{Cell, BitCall, Makes, Drops, AreWritesInTurn, MayMove, MayWrite, cell_after, cell_of_calls, without_read, read_answer}
+use Rattle.model.specs.safe_bit.{Move, Shows, read_value}
+use Rattle.model.specs.safe_bit.declared.Move.TheVariants.{BeginWrite, EndWrite, BeginRead, EndRead, Settle}
+use Rattle.model.proofs.safe_bit.Showing.{answer-shows, shows_dropped, shows_moves}
+use Rattle.model.specs.{Access, Entry, Event, Mark, Past, ends_read, entry_of, is_failed, moves_of, opening_bit, past_of, same_bit}
 use Rattle.plain_store.specs.{Setup}
-use Rattle.record.specs.Newest as record_cells
-use Rattle.record.proofs.Singles.{is_write}
-use Rattle.record.proofs.TurnRecords.{turns_all}
-use Rattle.record.proofs.Width.{IsGood}
+use Rattle.model.specs.Newest as record_cells
+use Rattle.model.proofs.Singles.{is_write}
+use Rattle.model.proofs.TurnRecords.{turns_all}
+use Rattle.model.proofs.Width.{IsGood}
 use Rattle.laws.specs.{calls_on, cell_held, drops, is_withdrawn}
 use Rattle.laws.proofs.FrameCells.{cells-entry, cells-kept, itself}
 use Rattle.laws.proofs.SafeRecords.{ends_as_it_may}

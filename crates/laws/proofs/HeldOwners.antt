@@ -4,12 +4,12 @@ use Rattle.std.proofs.lemmas.Bool.{eqb-false}
 use Rattle.std.proofs.lemmas.List.{length-map, length_push}
 use Rattle.std.proofs.lemmas.List.FromFn.{length-range_with_len}
 use Rattle.std.specs.List.{AllByRecursion, range_with_len}
-use Rattle.record.specs.safe_number.{number_of_bits}
+use Rattle.model.specs.safe_number.{number_of_bits}
 use Rattle.plain_store.specs.declared.Answer.TheVariants as answer
 use Rattle.plain_store.specs.{Command, Contents, Setup, changes}
-use Rattle.record.specs.{Call, Event, Place, Version, Wait, bits_with, enter, first_full, greatest, index_of, is_last, lets_by, max_of, newest_process, newest_stamp, others, past_of, place_after, processes, reply, run_after, store_read, value_of, waits_of}
-use Rattle.record.specs.Parts.{Part, Raises, Asks, TakesTicket, Lowers, Refuses, Waits, AsksCommit, AsksStamp, AsksImage, WritesImage, Clears, is_read, read_at, part_after, to_b, to_c, to_d, to_e, to_g}
-use Rattle.record.proofs.Width.{IsGood}
+use Rattle.model.specs.{Call, Event, Place, Version, Wait, bits_with, enter, first_full, greatest, index_of, is_last, lets_by, max_of, newest_process, newest_stamp, others, past_of, place_after, processes, reply, run_after, store_read, value_of, waits_of}
+use Rattle.model.specs.Parts.{Part, Raises, Asks, TakesTicket, Lowers, Refuses, Waits, AsksCommit, AsksStamp, AsksImage, WritesImage, Clears, is_read, read_at, part_after, to_b, to_c, to_d, to_e, to_g}
+use Rattle.model.proofs.Width.{IsGood}
 use Rattle.laws.proofs.AtPlaces.{AtPlace, place-induction}
 use Rattle.laws.specs.{call, doing}
 use Rattle.laws.proofs.Invariant.{waits}

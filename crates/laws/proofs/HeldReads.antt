@@ -1,15 +1,15 @@
 -- The reads that are open in what the registers hold are those that the processes have open at their places.
 use Rattle.std.proofs.Common.{◌≡◌, ◌≢◌, ℕ, ◌==◌, ◌&&◌, Bool, true, false, cond, List, [], ◌∷◌, Some, None, refl, sym, ap, subst, ◌∙◌, true≢false, eqb-true, eq-eqb, ne_eqb}
 use Rattle.std.proofs.lemmas.Bool.{eqb-false}
-use Rattle.record.specs.safe_bit.Cell.{Cell, cell_after}
-use Rattle.record.specs.safe_bit.{read_value}
-use Rattle.record.specs.{Access, Call, Closing, Entry, Event, Part, Past, Place, Reading, Run, Withdraws, Writing, access_at, bits_with, closing_after, ended_with, ends_read, enter, entry_of, is_last, is_over, is_read, moves_of, new_run, opening_bit, part_after, past-induction, past_of, place_after, run_after, same_bit, value_of, valued, width, written_at}
-use Rattle.record.specs.safe_number.{NumberWrite, new_write}
+use Rattle.model.specs.safe_bit.Cell.{Cell, cell_after}
+use Rattle.model.specs.safe_bit.{read_value}
+use Rattle.model.specs.{Access, Call, Closing, Entry, Event, Part, Past, Place, Reading, Run, Withdraws, Writing, access_at, bits_with, closing_after, ended_with, ends_read, enter, entry_of, is_last, is_over, is_read, moves_of, new_run, opening_bit, part_after, past-induction, past_of, place_after, run_after, same_bit, value_of, valued, width, written_at}
+use Rattle.model.specs.safe_number.{NumberWrite, new_write}
 use Rattle.plain_store.specs.{Command, Setup}
-use Rattle.record.specs.declared.marks.Mark.TheVariants.{Called, Failed, Withdrew, Restarted}
-use Rattle.record.proofs.Singles.{is_write}
-use Rattle.record.proofs.Turns.{and_false}
-use Rattle.record.proofs.Width.{IsGood}
+use Rattle.model.specs.declared.marks.Mark.TheVariants.{Called, Failed, Withdrew, Restarted}
+use Rattle.model.proofs.Singles.{is_write}
+use Rattle.model.proofs.Turns.{and_false}
+use Rattle.model.proofs.Width.{IsGood}
 use Rattle.laws.specs.{Closes, Doing, Lies, Rests, Runs, call, cell_held, closes, doing, drops, runs}
 use Rattle.laws.proofs.Frame.{Happens, a_call, a_withdrawal, a_failure, a_restart, a_step, a_closing, doing-other}
 use Rattle.laws.proofs.FrameCells.{EntryBy, marks_only, makes, itself, on-copy}

@@ -1,17 +1,17 @@
 -- Every access of a record is of a register that exists.
 use Rattle.std.proofs.Common.{◌≡◌, ◌≢◌, ℕ, ◌+◌, ◌/◌, ◌*◌, ◌<◌, ◌==◌, ◌||◌, Bool, true, false, cond, List, [], ◌∷◌, Option, Some, None, length, refl, sym, ap, subst, ◌∙◌, arith}
 use Rattle.std.proofs.lemmas.Bool.{eqb-false}
-use Rattle.record.specs.reader_copies.Runs as copies
-use Rattle.record.specs.{Access, Call, Entry, Event, Next, Part, Past, Place, Reading, Run, Writing, access_at, bit_written, entry_of, is_finished, is_over, last_write, own, past_of, place_after, unfinished, value_of, width, write_moved, written_at}
-use Rattle.record.specs.safe_number.{new_write}
+use Rattle.model.specs.reader_copies.Runs as copies
+use Rattle.model.specs.{Access, Call, Entry, Event, Next, Part, Past, Place, Reading, Run, Writing, access_at, bit_written, entry_of, is_finished, is_over, last_write, own, past_of, place_after, unfinished, value_of, width, write_moved, written_at}
+use Rattle.model.specs.safe_number.{new_write}
 use Rattle.plain_store.specs.{Command, Setup}
-use Rattle.record.specs.Closings.{Closing, Withdraws, Settles, Frees, Lowers, Quit, Ended, closing_after, closing_next, freeing, is_last_settled, is_last_written, no_ticket, settling_from}
-use Rattle.record.proofs.Closing.{ticket_width}
-use Rattle.record.proofs.PlaceTurns.{access_in}
-use Rattle.record.proofs.Singles.{is_write}
-use Rattle.record.proofs.Ties.{written-width}
-use Rattle.record.proofs.Width.{IsGood}
-use Rattle.record.proofs.Opens.{last-none}
+use Rattle.model.specs.Closings.{Closing, Withdraws, Settles, Frees, Lowers, Quit, Ended, closing_after, closing_next, freeing, is_last_settled, is_last_written, no_ticket, settling_from}
+use Rattle.model.proofs.Closing.{ticket_width}
+use Rattle.model.proofs.PlaceTurns.{access_in}
+use Rattle.model.proofs.Singles.{is_write}
+use Rattle.model.proofs.Ties.{written-width}
+use Rattle.model.proofs.Width.{IsGood}
+use Rattle.model.proofs.Opens.{last-none}
 use Rattle.laws.specs.{Closes, Doing, IsThere, Lies, Rests, Runs, call, closes, doing, runs}
 use Rattle.laws.proofs.Always.{inv_of}
 use Rattle.laws.proofs.AtPlaces.{AtPlace, own-induction}

@@ -2,10 +2,10 @@
 use Rattle.std.proofs.Common.{◌≡◌, ◌≢◌, ℕ, suc, Bool, true, false, cond, List, [], ◌∷◌, Some, None, length, refl, sym, ap, subst, ◌∙◌, true≢false, eq-eqb, ne_eqb}
 use Rattle.std.specs.Prelude.{fold}
 use Rattle.std.specs.List.{list_any}
-use Rattle.record.specs.{Access, Call, Closing, Entry, Event, Mark, Past, Place, entry_of, history, inside, inside_after, is_entered, is_fresh, is_last, is_waiting, marks_of, past_of, place_after, value_of}
+use Rattle.model.specs.{Access, Call, Closing, Entry, Event, Mark, Past, Place, entry_of, history, inside, inside_after, is_entered, is_fresh, is_last, is_waiting, marks_of, past_of, place_after, value_of}
 use Rattle.plain_store.specs.{Command, Setup}
-use Rattle.record.specs.declared.marks.Mark.TheVariants.{Waiting, Entered, Left}
-use Rattle.record.proofs.Width.{IsGood}
+use Rattle.model.specs.declared.marks.Mark.TheVariants.{Waiting, Entered, Left}
+use Rattle.model.proofs.Width.{IsGood}
 use Rattle.laws.specs.{Closes, call, doing, is_inside, runs, ticket_after, ticket_told}
 use Rattle.laws.proofs.AtPlaces.{AtPlace, IsOfLock, Stepping, any-closing, any-placed, own-induction, place-induction}
 use Rattle.laws.proofs.DoorwayParts.{of_waiting}

@@ -1,12 +1,12 @@
 -- Every access is in its turn on the registers, and each open read is of the register that its process reads at its place.
 use Rattle.std.proofs.Common.{◌≡◌, ℕ, true, false, List, ◌∷◌, Option, Some, None, refl, sym, ap, subst, ◌∙◌, true≢false}
-use Rattle.record.specs.safe_bit.{MayMove}
-use Rattle.record.specs.{Access, Call, Entry, Event, Part, Past, Place, Reading, Run, Writing, access_at, entry_of, is_read, is_running, last_call, last_start, own, past_of, read_at, stage}
+use Rattle.model.specs.safe_bit.{MayMove}
+use Rattle.model.specs.{Access, Call, Entry, Event, Part, Past, Place, Reading, Run, Writing, access_at, entry_of, is_read, is_running, last_call, last_start, own, past_of, read_at, stage}
 use Rattle.plain_store.specs.{Command, Setup}
-use Rattle.record.specs.declared.marks.Mark.TheVariants.{Called}
-use Rattle.record.proofs.OpenSteps.{place_at}
-use Rattle.record.proofs.Singles.{is_write}
-use Rattle.record.proofs.Width.{IsGood}
+use Rattle.model.specs.declared.marks.Mark.TheVariants.{Called}
+use Rattle.model.proofs.OpenSteps.{place_at}
+use Rattle.model.proofs.Singles.{is_write}
+use Rattle.model.proofs.Width.{IsGood}
 use Rattle.laws.specs.{cell_held, doing}
 use Rattle.laws.proofs.Frame.{Does, at_rest, lying, running, leaving, settling}
 use Rattle.laws.proofs.FrameCells.{EntryBy, marks_only, makes, on-copy}

@@ -1,12 +1,12 @@
 -- The invariant of the lock. Own part: the knowledge of each process about itself and its registers. Pair part: the knowledge of a reader about an owner, in any state of the reader.
 use Rattle.std.specs.Prelude.{◌≡◌, ◌≢◌, ◌⊎◌, ℕ, suc, ◌+◌, ◌*◌, ◌/◌, ◌%◌, ◌^◌, ◌<◌, ◌≤◌, Bool, true, false, List, [], ◌∷◌, ◌++◌, length, slice_index_or, flat_map}
-use Rattle.record.specs.safe_bit.Cell.{Cell}
-use Rattle.record.specs.{Call, Closing, Ended, Field, Frees, Past, Quit, Reading, Run, Settles, Wait, Withdraws, Writing, bit_written, cell_after, copy, greatest, is_fresh, is_unwritten, others, width}
-use Rattle.record.specs.declared.access.Field.TheVariants.{Choosing, Ticket}
-use Rattle.record.specs.safe_number.{NumberWrite, bits_of_number}
+use Rattle.model.specs.safe_bit.Cell.{Cell}
+use Rattle.model.specs.{Call, Closing, Ended, Field, Frees, Past, Quit, Reading, Run, Settles, Wait, Withdraws, Writing, bit_written, cell_after, copy, greatest, is_fresh, is_unwritten, others, width}
+use Rattle.model.specs.declared.access.Field.TheVariants.{Choosing, Ticket}
+use Rattle.model.specs.safe_number.{NumberWrite, bits_of_number}
 use Rattle.plain_store.specs.{Setup}
-use Rattle.record.specs.Closings as closing
-use Rattle.record.specs.Parts.{Part, Raises, Asks, TakesTicket, Lowers, Refuses, Waits, AsksCommit, AsksStamp, AsksImage, WritesImage, WritesStamp, WritesCommit, Clears, Over, is_read, read_at, written_at}
+use Rattle.model.specs.Closings as closing
+use Rattle.model.specs.Parts.{Part, Raises, Asks, TakesTicket, Lowers, Refuses, Waits, AsksCommit, AsksStamp, AsksImage, WritesImage, WritesStamp, WritesCommit, Clears, Over, is_read, read_at, written_at}
 use Rattle.laws.specs.{Doing, Rests, Lies, Runs, Closes, call, doing, is_inside}
 use Rattle.laws.proofs.Notes.{Notes, notes}
 

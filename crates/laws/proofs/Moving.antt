@@ -2,7 +2,7 @@
 use Rattle.std.proofs.Common.{◌≡◌, ◌≢◌, ℕ, suc, ◌<◌, ◌∷◌, sym, ap, subst, ◌∙◌, arith, inl, inr}
 use Rattle.std.proofs.lemmas.Bool.{cases_eq}
 use Rattle.plain_store.specs.{Setup}
-use Rattle.record.specs.{Entry, Past}
+use Rattle.model.specs.{Entry, Past}
 use Rattle.laws.specs.{Doing, doing}
 use Rattle.laws.proofs.Notes.{Notes, notes}
 use Rattle.laws.proofs.Invariant.{Wires, wires, Touches, touches, IsPast, Own, Pair, Inv, Moves, next_time}

@@ -4,11 +4,11 @@ use Rattle.std.proofs.lemmas.Bool.{eqb-false, true≢false}
 use Rattle.std.proofs.lemmas.Nat.{pow_pos}
 use Rattle.std.specs.Prelude.{fold}
 use Rattle.std.specs.List.{AllByRecursion}
-use Rattle.record.specs.declared.access.Field.TheVariants.{Choosing, Ticket}
+use Rattle.model.specs.declared.access.Field.TheVariants.{Choosing, Ticket}
 use Rattle.plain_store.specs.{Answer, Command, Contents, Setup, changes}
 use Rattle.plain_store.specs.declared.Answer.TheVariants as answer
-use Rattle.record.specs.{Asks, AsksCommit, AsksImage, Call, Clears, Past, Refuses, TakesTicket, Version, Waits, WritesImage, enter, first_full, greatest, max_of, newest_stamp, others, processes, reply, to_b, to_c, to_d, to_e, to_g}
-use Rattle.record.proofs.Width.{IsGood}
+use Rattle.model.specs.{Asks, AsksCommit, AsksImage, Call, Clears, Past, Refuses, TakesTicket, Version, Waits, WritesImage, enter, first_full, greatest, max_of, newest_stamp, others, processes, reply, to_b, to_c, to_d, to_e, to_g}
+use Rattle.model.proofs.Width.{IsGood}
 use Rattle.laws.specs.{call, runs}
 use Rattle.laws.proofs.Notes.{Notes}
 use Rattle.laws.proofs.Invariant.{Wires, Touches, Passed, IsInDoorway, Asked, waits, AllPassed, Moves}

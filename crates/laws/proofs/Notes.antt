@@ -1,11 +1,11 @@
 -- The history variables of a process: what it has shown to the others and what it has seen of them, and when. No step of a program reads them. A time is the number of an entry plus one.
 use Rattle.std.specs.Prelude.{ℕ, suc, ◌==◌, Bool, false, cond, ◌&&◌, List, [], ◌∷◌, length, Option, None, Some}
-use Rattle.record.specs.{Access, Call, Closing, Ended, Field, Frees, Past, Quit, Settles, Withdraws, bits_with, is_fresh, is_last, lets_by, value_of}
-use Rattle.record.specs.declared.access.Field.TheVariants.{Choosing, Ticket}
-use Rattle.record.specs.safe_number.{number_of_bits}
+use Rattle.model.specs.{Access, Call, Closing, Ended, Field, Frees, Past, Quit, Settles, Withdraws, bits_with, is_fresh, is_last, lets_by, value_of}
+use Rattle.model.specs.declared.access.Field.TheVariants.{Choosing, Ticket}
+use Rattle.model.specs.safe_number.{number_of_bits}
 use Rattle.plain_store.specs.{Setup}
-use Rattle.record.specs.Closings as closing
-use Rattle.record.specs.Parts.{Part, Raises, Asks, TakesTicket, Lowers, Refuses, Waits, Clears}
+use Rattle.model.specs.Closings as closing
+use Rattle.model.specs.Parts.{Part, Raises, Asks, TakesTicket, Lowers, Refuses, Waits, Clears}
 use Rattle.laws.specs.{Doing, Rests, Lies, Runs, Closes, call, doing}
 
 pub record Notes : Type 0 where

@@ -3,7 +3,7 @@ use Rattle.std.specs.Prelude.{◌≡◌, ◌≢◌, ℕ, suc, ◌<◌, ◌≤◌
 use Rattle.std.proofs.Common.{refl, sym, subst, arith}
 use Rattle.std.proofs.lemmas.Bool.{false≢true, cond_both, cond-true, cond-false, eqb-true, eq-eqb, ne_eqb}
 use Rattle.plain_store.specs.{Setup}
-use Rattle.record.specs.{Past}
+use Rattle.model.specs.{Past}
 use Rattle.laws.proofs.Invariant.{Knows, Touches, Wires, next_time}
 use Rattle.laws.proofs.Notes.{Notes, notes, set}
 use Rattle.laws.proofs.Owner.{owner_shows_no_more}

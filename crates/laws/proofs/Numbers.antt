@@ -1,12 +1,12 @@
 -- The beginning and the end of the doorway of a call. `doorway_begin` and `doorway_end` find the entries that the notes have, from the first access of the doorway on, and while the process waits.
 use Rattle.std.proofs.Common.{◌≡◌, ◌≢◌, ℕ, suc, ◌<◌, ◌≤◌, ◌&&◌, ◌||◌, Bool, true, false, List, [], ◌∷◌, Option, Some, None, length, refl, sym, ap, subst, ◌∙◌, true≢false, arith, eq-eqb, ne_eqb}
 use Rattle.std.specs.List.{list_any}
-use Rattle.record.specs.safe_bit.{read_value}
+use Rattle.model.specs.safe_bit.{read_value}
 use Rattle.plain_store.specs.{Command, Setup}
-use Rattle.record.specs.{Call, Entry, Event, Past, Place, Raises, access_at, begins_doorway, bits_with, doorway_begin, doorway_end, ended, enter, first_of, has, is_called, is_fresh, is_last, is_over, is_waiting, moves_of, number_in_call, opening_bit, past_of, place_after, value_of}
-use Rattle.record.specs.declared.marks.Mark.TheVariants.{Called}
-use Rattle.record.proofs.Staging.{no_called}
-use Rattle.record.proofs.Width.{IsGood}
+use Rattle.model.specs.{Call, Entry, Event, Past, Place, Raises, access_at, begins_doorway, bits_with, doorway_begin, doorway_end, ended, enter, first_of, has, is_called, is_fresh, is_last, is_over, is_waiting, moves_of, number_in_call, opening_bit, past_of, place_after, value_of}
+use Rattle.model.specs.declared.marks.Mark.TheVariants.{Called}
+use Rattle.model.proofs.Staging.{no_called}
+use Rattle.model.proofs.Width.{IsGood}
 use Rattle.laws.specs.{call, doing}
 use Rattle.laws.proofs.Notes.{Notes, notes, notes_after, noted, began_by, ended_by}
 use Rattle.laws.proofs.Frame.{notes-other, notes-goes}

@@ -4,7 +4,7 @@ use Rattle.std.proofs.lemmas.Bool.{false≢true, cases_eq, eqb-false, ne_eqb, no
 use Rattle.std.specs.Prelude.{not, filter}
 use Rattle.std.specs.List.{range_with_len, AllByRecursion}
 use Rattle.plain_store.specs.{Setup}
-use Rattle.record.specs.{others}
+use Rattle.model.specs.{others}
 
 -- a property of the numbers of a range that pass a test is a property of each such number
 each_kept : (P : ℕ → Type 0) (test : ℕ → Bool) (from n : ℕ) → AllByRecursion P (filter test (range_with_len from n)) → (j : ℕ) → from ≤ j → j < from + n → test j ≡ true → P j

@@ -1,9 +1,9 @@
 -- The knowledge of a reader about an owner, when the owner moves.
 use Rattle.std.proofs.Common.{◌≡◌, ℕ, ◌<◌, Bool, true, false, List, length, inl, inr, sym, ap, ◌∙◌, arith}
 use Rattle.std.proofs.lemmas.Bool.{false≢true}
-use Rattle.record.specs.declared.access.Field.TheVariants.{Choosing, Ticket}
+use Rattle.model.specs.declared.access.Field.TheVariants.{Choosing, Ticket}
 use Rattle.plain_store.specs.{Setup}
-use Rattle.record.specs.{Asks, Part, Reading, Run, Wait, Waits}
+use Rattle.model.specs.{Asks, Part, Reading, Run, Wait, Waits}
 use Rattle.laws.specs.{Doing, Rests, Lies, Runs, Closes}
 use Rattle.laws.proofs.Notes.{Notes}
 use Rattle.laws.proofs.Invariant.{Touches, bit, ticket_of, CleanTicket, CleanChoosing, CleanWait, CleanRun, Clean, Pair}

@@ -4,9 +4,9 @@ use Rattle.std.specs.Prelude.{fold}
 use Rattle.std.proofs.lemmas.Grind.{fold-append}
 use Rattle.plain_store.specs.declared.Answer.TheVariants as answer
 use Rattle.plain_store.specs.{Contents, changes}
-use Rattle.record.specs.{Call, Mark, Place, Version, Wait, bits_with, enter, entered_if_none, first_full, greatest, is_fresh, is_last, lets_by, marks_of, max_of, newest_stamp, others, place_after, placed, processes, reply, run_after, store_read, waits_of}
-use Rattle.record.specs.declared.marks.Mark.TheVariants.{Taken}
-use Rattle.record.specs.Parts.{Part, Raises, Asks, TakesTicket, Lowers, Refuses, Waits, AsksCommit, AsksStamp, AsksImage, WritesImage, WritesStamp, WritesCommit, Clears, Over, first_marks, last_marks, part_after, to_b, to_d, to_e, to_g}
+use Rattle.model.specs.{Call, Mark, Place, Version, Wait, bits_with, enter, entered_if_none, first_full, greatest, is_fresh, is_last, lets_by, marks_of, max_of, newest_stamp, others, place_after, placed, processes, reply, run_after, store_read, waits_of}
+use Rattle.model.specs.declared.marks.Mark.TheVariants.{Taken}
+use Rattle.model.specs.Parts.{Part, Raises, Asks, TakesTicket, Lowers, Refuses, Waits, AsksCommit, AsksStamp, AsksImage, WritesImage, WritesStamp, WritesCommit, Clears, Over, first_marks, last_marks, part_after, to_b, to_d, to_e, to_g}
 use Rattle.laws.specs.{is_inside_at, ticket_after}
 use Rattle.laws.proofs.Notes.{ticket_by}
 

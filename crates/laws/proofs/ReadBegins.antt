@@ -1,9 +1,9 @@
 -- The read of a bit begins. If its register is whole, no write of the copy is open, so the read begins clean.
 use Rattle.std.specs.Prelude.{◌≡◌, ℕ, ◌<◌, Bool, true, false, List, length}
 use Rattle.std.proofs.Common.{refl, ◌∙◌, subst}
-use Rattle.record.specs.declared.access.Field.TheVariants.{Choosing, Ticket}
+use Rattle.model.specs.declared.access.Field.TheVariants.{Choosing, Ticket}
 use Rattle.plain_store.specs.{Command, Setup}
-use Rattle.record.specs.{Asks, Past, Wait, Waits}
+use Rattle.model.specs.{Asks, Past, Wait, Waits}
 use Rattle.laws.proofs.Invariant.{CleanChoosing, CleanTicket, Inv, Moves, Touches, touches, wires}
 use Rattle.laws.proofs.Notes.{notes}
 use Rattle.laws.proofs.Reading.{AtRead, ReadAccess, only_copy, own_there, pair_there, reads, reads_on}

@@ -3,9 +3,9 @@ use Rattle.std.specs.Prelude.{◌≡◌, ℕ, ◌+◌, ◌<◌, ◌==◌, Bool, 
 use Rattle.std.proofs.Common.{refl, subst, arith}
 use Rattle.std.proofs.lemmas.Bool.{eqb-false, eqb-true, false≢true}
 use Rattle.std.proofs.lemmas.List.{length_push}
-use Rattle.record.specs.declared.access.Field.TheVariants.{Ticket}
+use Rattle.model.specs.declared.access.Field.TheVariants.{Ticket}
 use Rattle.plain_store.specs.{Command, Setup}
-use Rattle.record.specs.{Asks, Part, Past, Reading, Wait, Waits, enter, part_after, read_at, width}
+use Rattle.model.specs.{Asks, Part, Past, Reading, Wait, Waits, enter, part_after, read_at, width}
 use Rattle.laws.specs.{call, runs}
 use Rattle.laws.proofs.Invariant.{CleanTicket, Inv, Moves, Touches, next_time, touches, wires}
 use Rattle.laws.proofs.Notes.{noted, notes}

@@ -2,12 +2,12 @@
 use Rattle.std.specs.Prelude.{◌≡◌, ◌≢◌, ℕ, suc, ◌+◌, ◌<◌, ◌==◌, Bool, true, false, ◌||◌, cond, List, [], ◌∷◌, ◌++◌, length, Some}
 use Rattle.std.proofs.Common.{refl, sym, ◌∙◌, subst, arith}
 use Rattle.std.proofs.lemmas.Bool.{false≢true, true≢false}
-use Rattle.record.specs.safe_bit.declared.Move.TheVariants.{EndRead}
-use Rattle.record.specs.{Access, Asks, AsksCommit, AsksImage, AsksStamp, Entry, Part, Past, Reading, Run, Version, Wait, Waits, Writing, access_at, bits_with, enter, is_below, is_fresh, is_last, is_one, is_read, place_after, read_at, store_read, to_d, value_of, valued}
-use Rattle.record.specs.declared.access.Field.TheVariants.{Choosing, Ticket}
-use Rattle.record.specs.safe_number.{number_of_bits}
+use Rattle.model.specs.safe_bit.declared.Move.TheVariants.{EndRead}
+use Rattle.model.specs.{Access, Asks, AsksCommit, AsksImage, AsksStamp, Entry, Part, Past, Reading, Run, Version, Wait, Waits, Writing, access_at, bits_with, enter, is_below, is_fresh, is_last, is_one, is_read, place_after, read_at, store_read, to_d, value_of, valued}
+use Rattle.model.specs.declared.access.Field.TheVariants.{Choosing, Ticket}
+use Rattle.model.specs.safe_number.{number_of_bits}
 use Rattle.plain_store.specs.{Command, Setup}
-use Rattle.record.proofs.Width.{IsGood}
+use Rattle.model.proofs.Width.{IsGood}
 use Rattle.laws.proofs.Asking.{asks_last}
 use Rattle.laws.specs.{Runs, call, doing, runs}
 use Rattle.laws.proofs.Frame.{notes-goes}

@@ -2,9 +2,9 @@
 use Rattle.std.specs.Prelude.{◌≡◌, ◌≢◌, ℕ, ◌+◌, ◌<◌, ◌≤◌, Bool, true, false, List, [], ◌∷◌, ◌++◌, length}
 use Rattle.std.proofs.Common.{refl, sym, ◌∙◌, subst, arith}
 use Rattle.std.proofs.lemmas.List.{length_push}
-use Rattle.record.specs.{Field, Part, Past, Reading, is_fresh, read_at, width}
-use Rattle.record.specs.declared.access.Field.TheVariants.{Choosing, Ticket}
-use Rattle.record.specs.safe_number.{number_of_bits}
+use Rattle.model.specs.{Field, Part, Past, Reading, is_fresh, read_at, width}
+use Rattle.model.specs.declared.access.Field.TheVariants.{Choosing, Ticket}
+use Rattle.model.specs.safe_number.{number_of_bits}
 use Rattle.plain_store.specs.{Command, Setup}
 use Rattle.laws.proofs.Bits.{AreBitsOf, number_read, one_more_bit}
 use Rattle.laws.specs.{Doing, Runs, call, doing, is_inside_at}

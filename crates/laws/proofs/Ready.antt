@@ -1,12 +1,12 @@
 -- A process between two accesses: all that it keeps except its place in the program.
 use Rattle.std.proofs.Common.{◌≡◌, ◌≢◌, ℕ, suc, ◌/◌, ◌<◌, Bool, true, false, cond, List, [], length, refl, sym, subst, arith, inl, inr}
 use Rattle.std.proofs.lemmas.Bool.{false≢true}
-use Rattle.record.specs.{Asks, Call, Field, Part, Past, Place, Reading, Wait, Waits, Writing, enter, is_over, is_read, new_run, read_at, width, written_at}
-use Rattle.record.specs.declared.access.Field.TheVariants.{Choosing, Ticket}
-use Rattle.record.specs.safe_number.{new_write}
+use Rattle.model.specs.{Asks, Call, Field, Part, Past, Place, Reading, Wait, Waits, Writing, enter, is_over, is_read, new_run, read_at, width, written_at}
+use Rattle.model.specs.declared.access.Field.TheVariants.{Choosing, Ticket}
+use Rattle.model.specs.safe_number.{new_write}
 use Rattle.plain_store.specs.{Command, Setup}
-use Rattle.record.proofs.Ties.{written-width}
-use Rattle.record.proofs.Width.{IsGood, width-pos}
+use Rattle.model.proofs.Ties.{written-width}
+use Rattle.model.proofs.Width.{IsGood, width-pos}
 use Rattle.laws.specs.{Doing, Rests, Runs, call, runs, doing, is_inside, is_inside_at}
 use Rattle.laws.proofs.FrameInside.{enter-fresh}
 use Rattle.laws.proofs.Notes.{Notes, notes, turned}

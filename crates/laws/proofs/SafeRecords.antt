@@ -1,12 +1,12 @@
 -- Each read of a record ends with the value of the safe rule, and otherwise with the flick of its event.
 use Rattle.std.proofs.Common.{◌≡◌, Bool, if◌then◌else◌, List, Some, None, refl, sym, ap, subst, ◌∙◌, length, ℕ}
-use Rattle.record.specs.safe_bit.{MayEndWith, Move, before_read, last_written, read_value}
-use Rattle.record.specs.safe_bit.declared.Move.TheVariants.{EndRead}
-use Rattle.record.specs.{Access, Entry, Event, Next, Past, ended, entry_made, entry_of, moves_of, nth, opening_bit, own, program, since, starts, stepped, valued}
+use Rattle.model.specs.safe_bit.{MayEndWith, Move, before_read, last_written, read_value}
+use Rattle.model.specs.safe_bit.declared.Move.TheVariants.{EndRead}
+use Rattle.model.specs.{Access, Entry, Event, Next, Past, ended, entry_made, entry_of, moves_of, nth, opening_bit, own, program, since, starts, stepped, valued}
 use Rattle.plain_store.specs.{Setup}
-use Rattle.record.specs.declared.events.Event.TheVariants.{Call, Step, Fail, Withdraw, Restart}
-use Rattle.record.proofs.Local.{option_map-some}
-use Rattle.record.proofs.World.{entry-accepted}
+use Rattle.model.specs.declared.events.Event.TheVariants.{Call, Step, Fail, Withdraw, Restart}
+use Rattle.model.proofs.Local.{option_map-some}
+use Rattle.model.proofs.World.{entry-accepted}
 
 end-value : (u v : Bool) (m : Move) → ended u m ≡ EndRead v → v ≡ u
 end-value u v (EndRead w) h = cc

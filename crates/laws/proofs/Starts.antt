@@ -3,10 +3,10 @@ use Rattle.std.proofs.Common.{◌≡◌, ℕ, Bool, true, false, refl, sym, ap, 
 use Rattle.std.proofs.lemmas.Bool.{false_from_ne_true}
 use Rattle.std.specs.Prelude.{not}
 use Rattle.plain_store.specs.{Command, Setup}
-use Rattle.record.specs.{Call, Closing, Past, enter, image_field, is_fresh, stamp_field, version_of, withdrawing}
-use Rattle.record.specs.Parts.{Part, Raises, TakesTicket, Lowers, Refuses, WritesImage, WritesStamp, WritesCommit, Clears, Over, is_read, written_at}
-use Rattle.record.proofs.Width.{IsGood}
-use Rattle.record.proofs.Turns.{and_true}
+use Rattle.model.specs.{Call, Closing, Past, enter, image_field, is_fresh, stamp_field, version_of, withdrawing}
+use Rattle.model.specs.Parts.{Part, Raises, TakesTicket, Lowers, Refuses, WritesImage, WritesStamp, WritesCommit, Clears, Over, is_read, written_at}
+use Rattle.model.proofs.Width.{IsGood}
+use Rattle.model.proofs.Turns.{and_true}
 use Rattle.laws.specs.{Doing, Rests, Runs, Closes, call, is_inside, is_inside_at, is_inside_closing}
 use Rattle.laws.proofs.Doings.{IsCut, at_rest, between, within, leaving, clearing}
 use Rattle.laws.proofs.Notes.{Notes, turned}

@@ -1,8 +1,8 @@
 -- Each step that is not part of a read keeps the invariant.
 use Rattle.std.proofs.Common.{◌≡◌, ℕ, ◌<◌, Bool, false, List, ◌∷◌, Option, None, Some, refl, subst, ◌∙◌}
-use Rattle.record.specs.{Access, Call, Closing, Entry, Next, Part, Past, Raises, Reading, Run, Wait, Waits, Writing, access_at, closing_after, closing_next, enter, is_over, is_read, place_after, value_of, valued, withdrawing, written_at}
+use Rattle.model.specs.{Access, Call, Closing, Entry, Next, Part, Past, Raises, Reading, Run, Wait, Waits, Writing, access_at, closing_after, closing_next, enter, is_over, is_read, place_after, value_of, valued, withdrawing, written_at}
 use Rattle.plain_store.specs.{Command, Setup}
-use Rattle.record.proofs.Width.{IsGood}
+use Rattle.model.proofs.Width.{IsGood}
 use Rattle.laws.specs.{Doing, Rests, Lies, Runs, Closes, call, runs, closes, doing, is_inside}
 use Rattle.laws.proofs.Doings.{IsCut}
 use Rattle.laws.proofs.Notes.{notes, notes_after}

@@ -1,21 +1,21 @@
 -- The step of a process, by its state.
 use Rattle.std.proofs.Common.{◌≡◌, ℕ, Bool, true, false, cond, List, [], ◌∷◌, Option, Some, None, length, map, option_map, unwrap_or, refl, sym, ap, ◌∙◌}
 use Rattle.std.specs.List.{list_any}
-use Rattle.record.specs.safe_bit.{Move}
-use Rattle.record.specs.safe_bit.declared.Move.TheVariants.{BeginWrite, EndWrite, Settle}
-use Rattle.record.specs.{Access, Call, Closing, Entry, Event, Field, Next, Past, Place, Settles, Withdraws, access_at, before, call_number, closing_after, closing_entry, closing_next, closing_of, entry_at, entry_of, failing, freeing, has, history, is_failed, is_last_settled, is_running, last_call, last_command, last_start, last_write, made_with, own, past_of, placed, refused_at, settling_from, since, stage, starts, stepped, unfinished, value_of, value_written, valued, withdrawing}
+use Rattle.model.specs.safe_bit.{Move}
+use Rattle.model.specs.safe_bit.declared.Move.TheVariants.{BeginWrite, EndWrite, Settle}
+use Rattle.model.specs.{Access, Call, Closing, Entry, Event, Field, Next, Past, Place, Settles, Withdraws, access_at, before, call_number, closing_after, closing_entry, closing_next, closing_of, entry_at, entry_of, failing, freeing, has, history, is_failed, is_last_settled, is_running, last_call, last_command, last_start, last_write, made_with, own, past_of, placed, refused_at, settling_from, since, stage, starts, stepped, unfinished, value_of, value_written, valued, withdrawing}
 use Rattle.plain_store.specs.{Reply, Setup}
-use Rattle.record.specs.declared.events.Event.TheVariants as event
-use Rattle.record.specs.declared.marks.Mark.TheVariants.{Called}
-use Rattle.record.specs.declared.stages.Stage.TheVariants as stages
-use Rattle.record.specs.reader_copies.Runs as copies
-use Rattle.record.proofs.ClosingStanding.{IsChosen, chosen-after, told-again, withdrawn_stands, unit_stands}
-use Rattle.record.proofs.Local.{running_steps, option_map-some}
-use Rattle.record.proofs.OpenSteps.{place_at, leaving_at, failing_at, closing-plain}
-use Rattle.record.proofs.Staging.{no_start, no_start-placed}
-use Rattle.record.proofs.Standing.{at_place, running_stands}
-use Rattle.record.proofs.Width.{IsGood}
-use Rattle.record.proofs.World.{entry-accepted}
+use Rattle.model.specs.declared.events.Event.TheVariants as event
+use Rattle.model.specs.declared.marks.Mark.TheVariants.{Called}
+use Rattle.model.specs.declared.stages.Stage.TheVariants as stages
+use Rattle.model.specs.reader_copies.Runs as copies
+use Rattle.model.proofs.ClosingStanding.{IsChosen, chosen-after, told-again, withdrawn_stands, unit_stands}
+use Rattle.model.proofs.Local.{running_steps, option_map-some}
+use Rattle.model.proofs.OpenSteps.{place_at, leaving_at, failing_at, closing-plain}
+use Rattle.model.proofs.Staging.{no_start, no_start-placed}
+use Rattle.model.proofs.Standing.{at_place, running_stands}
+use Rattle.model.proofs.Width.{IsGood}
+use Rattle.model.proofs.World.{entry-accepted}
 use Rattle.laws.specs.{Closes, Doing, Runs, closes, does_after, does_then, doing, goes_on, marks_with, next_of}
 use Rattle.laws.proofs.Frame.{Does, at_rest, lying, running, leaving, settling, doing-goes}
 use Rattle.laws.proofs.FrameEvents.{does_all}
@@ -135,7 +135,7 @@ closing-step s past p flick e at does stands h same = record {
     c : Call
     c = last_call s p mine
 
-    marks-of : Option Next → List Rattle.record.specs.declared.marks.Mark.Mark
+    marks-of : Option Next → List Rattle.model.specs.declared.marks.Mark.Mark
     marks-of o = elim o [ None ↦ [] | Some n ↦ n.marks ]
 
     made : (n : Next) × (closing_next c at flick ≡ Some n) × (closing_entry s past p flick n ≡ e)

@@ -2,14 +2,14 @@
 use Rattle.std.specs.Prelude.{Option, None}
 use Rattle.std.proofs.Common.{◌≡◌, ℕ, ◌||◌, Bool, true, false, cond, List, [], ◌∷◌, Some, length, map, refl, sym, ap, subst, ◌∙◌, true≢false, IsTrue}
 use Rattle.std.specs.List.{list_any}
-use Rattle.record.specs.reader_copies.Runs as copies
-use Rattle.record.specs.{AsksImage, Call, Entry, Event, Field, Mark, Next, Part, Past, Wait, Waits, WritesCommit, bits_with, entered_if_none, entry_of, has, history, inside, is_commit, is_fresh, is_last, is_version, last_marks, lets_by, marks_of, past_of, placed, value_of, waits_of}
-use Rattle.record.specs.declared.access.Field.TheVariants.{Commit}
+use Rattle.model.specs.reader_copies.Runs as copies
+use Rattle.model.specs.{AsksImage, Call, Entry, Event, Field, Mark, Next, Part, Past, Wait, Waits, WritesCommit, bits_with, entered_if_none, entry_of, has, history, inside, is_commit, is_fresh, is_last, is_version, last_marks, lets_by, marks_of, past_of, placed, value_of, waits_of}
+use Rattle.model.specs.declared.access.Field.TheVariants.{Commit}
 use Rattle.plain_store.specs.{Command, Reply, Setup}
-use Rattle.record.specs.declared.marks.Mark.TheVariants.{Taken, Left, Down}
-use Rattle.record.specs.Closings.{Closing, Withdraws, Settles, Frees, Lowers, Quit, Ended, closing_next, is_last_settled, settled_marks}
-use Rattle.record.specs.Parts as part
-use Rattle.record.proofs.Width.{IsGood}
+use Rattle.model.specs.declared.marks.Mark.TheVariants.{Taken, Left, Down}
+use Rattle.model.specs.Closings.{Closing, Withdraws, Settles, Frees, Lowers, Quit, Ended, closing_next, is_last_settled, settled_marks}
+use Rattle.model.specs.Parts as part
+use Rattle.model.proofs.Width.{IsGood}
 use Rattle.laws.specs.{Closes, Doing, call, doing, is_inside, is_inside_at, is_taken}
 use Rattle.laws.proofs.Frame.{Happens, a_call, a_withdrawal, a_failure, a_restart, a_step, a_closing}
 use Rattle.laws.proofs.FrameEvents.{accepted}

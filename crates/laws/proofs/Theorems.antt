@@ -4,12 +4,12 @@ use Rattle.std.proofs.lemmas.Bool.{eqb-false}
 use Rattle.std.proofs.lemmas.Bool.Decides.{nat_tests}
 use Rattle.std.specs.List.{list_any}
 use Rattle.plain_store.specs.{Command, Setup, changes}
-use Rattle.record.specs.{Call, Closing, Entry, Event, Past, Place, Version, Wait, Withdraws, bits_with, doorway_begin, doorway_end, enter, entered_if_none, entry_of, has, inside, is_ahead, is_before, is_entered, is_fresh, is_last, is_waiting_stage, lets_by, past_of, place_after, processes, reply, run_after, stage, store_read, value_of, waits_of}
-use Rattle.record.specs.declared.marks.Mark.TheVariants.{Taken}
-use Rattle.record.specs.Closings as closing
-use Rattle.record.specs.Parts.{Part, Lowers, Waits, AsksImage, Clears, last_marks, part_after, to_d, to_e}
-use Rattle.record.specs.Parts as part
-use Rattle.record.proofs.Width.{IsGood}
+use Rattle.model.specs.{Call, Closing, Entry, Event, Past, Place, Version, Wait, Withdraws, bits_with, doorway_begin, doorway_end, enter, entered_if_none, entry_of, has, inside, is_ahead, is_before, is_entered, is_fresh, is_last, is_waiting_stage, lets_by, past_of, place_after, processes, reply, run_after, stage, store_read, value_of, waits_of}
+use Rattle.model.specs.declared.marks.Mark.TheVariants.{Taken}
+use Rattle.model.specs.Closings as closing
+use Rattle.model.specs.Parts.{Part, Lowers, Waits, AsksImage, Clears, last_marks, part_after, to_d, to_e}
+use Rattle.model.specs.Parts as part
+use Rattle.model.proofs.Width.{IsGood}
 use Rattle.laws.specs.{Doing, Rests, Lies, Runs, Closes, call, doing, is_inside, is_inside_at}
 use Rattle.laws.proofs.Doings.{stage_of}
 use Rattle.laws.proofs.Notes.{Notes, notes, notes_after}

@@ -1,7 +1,7 @@
 -- Tickets that were read, and the greatest one among them.
 use Rattle.std.proofs.Common.{◌≡◌, ◌≢◌, ℕ, suc, ◌+◌, ◌<◌, ◌≤◌, ◌==◌, max, Bool, true, false, cond, List, [], ◌∷◌, ◌++◌, Some, None, length, fold, slice_index, refl, sym, ap, ◌∙◌, arith, eqb-true}
 use Rattle.std.proofs.lemmas.Bool.{eqb-false}
-use Rattle.record.specs.{index_of, lowest_full}
+use Rattle.model.specs.{index_of, lowest_full}
 
 -- all of them are at most top
 abbrev pub AllUpTo : ℕ → List ℕ → Type 0

@@ -4,27 +4,27 @@ use Rattle.std.proofs.lemmas.Bool.Decides.{nat_tests}
 use Rattle.std.proofs.lemmas.List.{length-map}
 use Rattle.std.specs.Int.{is_in_range}
 use Rattle.std.specs.Prelude.{fold}
-use Rattle.record.specs.reader_copies.{Made, bit_writes, is_open_at, settles_from}
-use Rattle.record.specs.safe_bit.declared.Move.TheVariants.{BeginWrite, EndWrite, Settle}
-use Rattle.record.specs.safe_number.{at_bit, bits_of_number, writes_from}
-use Rattle.record.specs.{Access, Call, Entry, Event, Field, Past, Portion, Script, access_of, added, before, entry_of, inside, is_failed, is_running, last_call, last_start, last_write, made_with, own, past_of, refused, refused_at, settle, settle_of, settling, since, single, singles, stage, stage_after, starts, unfinished, unit_program, value_written, write_of, writing}
-use Rattle.record.specs.declared.access.Field.TheVariants.{Choosing, Ticket}
+use Rattle.model.specs.reader_copies.{Made, bit_writes, is_open_at, settles_from}
+use Rattle.model.specs.safe_bit.declared.Move.TheVariants.{BeginWrite, EndWrite, Settle}
+use Rattle.model.specs.safe_number.{at_bit, bits_of_number, writes_from}
+use Rattle.model.specs.{Access, Call, Entry, Event, Field, Past, Portion, Script, access_of, added, before, entry_of, inside, is_failed, is_running, last_call, last_start, last_write, made_with, own, past_of, refused, refused_at, settle, settle_of, settling, since, single, singles, stage, stage_after, starts, unfinished, unit_program, value_written, write_of, writing}
+use Rattle.model.specs.declared.access.Field.TheVariants.{Choosing, Ticket}
 use Rattle.plain_store.specs.{Setup, checked}
 use Rattle.plain_store.proofs.GoodSetups.{few-processes, good-checked}
-use Rattle.record.specs.declared.events.Event.TheVariants.{Step}
-use Rattle.record.specs.declared.marks.Mark.TheVariants as mark
-use Rattle.record.specs.declared.stages.Stage.TheVariants as stages
-use Rattle.record.specs.Closings.{Closing, Withdraws, Settles, Frees, Lowers, Quit, Ended, closing_after, closing_stage, failing}
-use Rattle.record.proofs.reader_copies.Orders.{length-writes}
-use Rattle.record.proofs.safe_number.Bits.{length-bits_of_number}
-use Rattle.record.proofs.Accepted.{accepted_adds, rooms}
-use Rattle.record.proofs.ClosingStanding.{failing-kind, is_unit, keeps-kind, since-failed}
-use Rattle.record.proofs.ClosingSteps.{ClosingStep, unit-step}
-use Rattle.record.proofs.Local.{since-plain, start-plain}
-use Rattle.record.proofs.OpenSteps.{failing_at}
-use Rattle.record.proofs.Singles.{length-single}
-use Rattle.record.proofs.Width.{IsGood, is_good}
-use Rattle.record.proofs.World.{entry-accepted, entry_view, view}
+use Rattle.model.specs.declared.events.Event.TheVariants.{Step}
+use Rattle.model.specs.declared.marks.Mark.TheVariants as mark
+use Rattle.model.specs.declared.stages.Stage.TheVariants as stages
+use Rattle.model.specs.Closings.{Closing, Withdraws, Settles, Frees, Lowers, Quit, Ended, closing_after, closing_stage, failing}
+use Rattle.model.proofs.reader_copies.Orders.{length-writes}
+use Rattle.model.proofs.safe_number.Bits.{length-bits_of_number}
+use Rattle.model.proofs.Accepted.{accepted_adds, rooms}
+use Rattle.model.proofs.ClosingStanding.{failing-kind, is_unit, keeps-kind, since-failed}
+use Rattle.model.proofs.ClosingSteps.{ClosingStep, unit-step}
+use Rattle.model.proofs.Local.{since-plain, start-plain}
+use Rattle.model.proofs.OpenSteps.{failing_at}
+use Rattle.model.proofs.Singles.{length-single}
+use Rattle.model.proofs.Width.{IsGood, is_good}
+use Rattle.model.proofs.World.{entry-accepted, entry_view, view}
 use Rattle.laws.specs.{UnitsAreShort, doing}
 use Rattle.laws.proofs.Frame as frame
 use Rattle.laws.proofs.Frame.{Does, own-own}

@@ -3,11 +3,11 @@ use Rattle.std.specs.Prelude.{◌≡◌, ◌≢◌, ◌⊎◌, ℕ, suc, ◌+◌
 use Rattle.std.specs.List.{AllByRecursion}
 use Rattle.std.proofs.Common.{refl, sym, ◌∙◌, subst, arith, append_assoc, inl, inr}
 use Rattle.std.proofs.lemmas.Bool.{false≢true, and_parts, cases_lt, eqb-true, ltb-true, or_cases}
-use Rattle.record.specs.declared.access.Field.TheVariants.{Choosing, Ticket}
-use Rattle.record.specs.safe_number.{number_of_bits}
+use Rattle.model.specs.declared.access.Field.TheVariants.{Choosing, Ticket}
+use Rattle.model.specs.safe_number.{number_of_bits}
 use Rattle.plain_store.specs.{Command, Setup}
-use Rattle.record.specs.{Past, Wait, Waits, enter, is_below, others, to_d}
-use Rattle.record.proofs.Width.{IsGood}
+use Rattle.model.specs.{Past, Wait, Waits, enter, is_below, others, to_d}
+use Rattle.model.proofs.Width.{IsGood}
 use Rattle.laws.specs.{call, runs}
 use Rattle.laws.proofs.Invariant.{AllPassed, Beyond, InWaiting, Moves, Passed, Touches, next_time, waits, wires}
 use Rattle.laws.proofs.Next.{to_d_moves}

@@ -1,13 +1,13 @@
 -- Once a process alone has made the accesses that its write still has, every copy of the register holds the bits that were being written.
 use Rattle.std.proofs.Common.{◌≡◌, ℕ, zero, suc, ◌+◌, ◌-◌, ◌*◌, ◌<◌, ◌≤◌, ◌==◌, Bool, true, false, List, ◌∷◌, length, Some, refl, sym, ap, subst, ◌∙◌, arith, eqb-true, mul-le-mul_left}
 use Rattle.std.proofs.Math.Nat.{mul-suc}
-use Rattle.record.specs.safe_bit.Cell.{Cell}
-use Rattle.record.specs.{Event, Past, bit_written, cell_after, copy, past_of, with_event}
-use Rattle.record.specs.safe_bit.Cell.{without_read}
-use Rattle.record.specs.declared.events.Event.TheVariants.{Step}
-use Rattle.record.specs.safe_number.{NumberWrite}
+use Rattle.model.specs.safe_bit.Cell.{Cell}
+use Rattle.model.specs.{Event, Past, bit_written, cell_after, copy, past_of, with_event}
+use Rattle.model.specs.safe_bit.Cell.{without_read}
+use Rattle.model.specs.declared.events.Event.TheVariants.{Step}
+use Rattle.model.specs.safe_number.{NumberWrite}
 use Rattle.plain_store.specs.{Setup}
-use Rattle.record.proofs.Width.{IsGood, is_good}
+use Rattle.model.proofs.Width.{IsGood, is_good}
 use Rattle.laws.specs.{RegisterWrite, accesses_in_all, accesses_made, cell_held, doing, register_write, steps_alone, write_ended}
 use Rattle.laws.specs.Writes.{WritesLeaveTheirBits}
 use Rattle.laws.proofs.ClosingWrites.{WrittenSoFar, written_so_far}

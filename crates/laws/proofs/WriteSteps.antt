@@ -2,15 +2,15 @@
 use Rattle.std.proofs.Common.{◌≡◌, ℕ, ◌<◌, ◌==◌, Bool, true, false, cond, List, [], ◌∷◌, Option, Some, None, refl, sym, ap, subst, ◌∙◌, arith}
 use Rattle.std.proofs.lemmas.Bool.Decides.{nat_tests}
 use Rattle.std.specs.Prelude.{nat_lt}
-use Rattle.record.specs.{Access, Call, Entry, Event, Over, Part, Past, Reading, Refusal, Run, Writing, access_of, calls_full, enter, entry_of, is_fresh, is_over, next_written, part_after, past_of, place_after, refused, refused_at, stage, value_of, valued, write_moved}
-use Rattle.record.specs.declared.events.Event.TheVariants.{Step}
-use Rattle.record.specs.declared.refusals.Refusal.TheVariants.{CallsFull, NoProcess}
-use Rattle.record.specs.Closings.{Withdraws, Settles, Frees, Lowers, Quit, Ended, closing_after, no_ticket}
-use Rattle.record.specs.Parts as part
-use Rattle.record.specs.safe_number.{new_write}
+use Rattle.model.specs.{Access, Call, Entry, Event, Over, Part, Past, Reading, Refusal, Run, Writing, access_of, calls_full, enter, entry_of, is_fresh, is_over, next_written, part_after, past_of, place_after, refused, refused_at, stage, value_of, valued, write_moved}
+use Rattle.model.specs.declared.events.Event.TheVariants.{Step}
+use Rattle.model.specs.declared.refusals.Refusal.TheVariants.{CallsFull, NoProcess}
+use Rattle.model.specs.Closings.{Withdraws, Settles, Frees, Lowers, Quit, Ended, closing_after, no_ticket}
+use Rattle.model.specs.Parts as part
+use Rattle.model.specs.safe_number.{new_write}
 use Rattle.plain_store.specs.{Setup}
-use Rattle.record.proofs.Accepted.{accepted_adds}
-use Rattle.record.proofs.Width.{IsGood}
+use Rattle.model.proofs.Accepted.{accepted_adds}
+use Rattle.model.proofs.Width.{IsGood}
 use Rattle.laws.specs.{Closes, Doing, IsLive, Lies, RegisterWrite, Rests, Runs, call, closes, does_then, doing, next_of, register_write, runs, write_at}
 use Rattle.laws.proofs.Always.{inv_of}
 use Rattle.laws.proofs.ClosingWrites.{some_write, written_so_far}

@@ -1,11 +1,11 @@
 -- A write has as many bits as its register.
 use Rattle.std.proofs.Common.{◌≡◌, ℕ, ◌<◌, false, Some, None, length, refl, sym, ap, subst, ◌∙◌}
-use Rattle.record.specs.{Call, Part, Past, Reading, Run, Writing, is_over, past_of, width}
+use Rattle.model.specs.{Call, Part, Past, Reading, Run, Writing, is_over, past_of, width}
 use Rattle.plain_store.specs.{Command, Setup}
-use Rattle.record.specs.Closings.{Closing, Withdraws, Settles, Frees, Lowers, Quit, Ended}
-use Rattle.record.proofs.safe_number.Bits.{length-bits_of_number}
-use Rattle.record.proofs.Ties.{written-width}
-use Rattle.record.proofs.Width.{IsGood, is_good}
+use Rattle.model.specs.Closings.{Closing, Withdraws, Settles, Frees, Lowers, Quit, Ended}
+use Rattle.model.proofs.safe_number.Bits.{length-bits_of_number}
+use Rattle.model.proofs.Ties.{written-width}
+use Rattle.model.proofs.Width.{IsGood, is_good}
 use Rattle.laws.specs.{Closes, Doing, IsLive, Lies, RegisterWrite, Rests, Runs, call, doing, register_write, write_at}
 use Rattle.laws.specs.Writes.{WritesFitTheirRegister}
 use Rattle.laws.proofs.Always.{inv_of}

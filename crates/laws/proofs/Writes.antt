@@ -2,11 +2,11 @@
 use Rattle.std.proofs.Common.{◌≡◌, ℕ, suc, ◌<◌, ◌==◌, Bool, true, false, cond, List, [], refl, sym, subst, arith}
 use Rattle.std.proofs.lemmas.Bool.{false≢true, cond_both}
 use Rattle.std.specs.Prelude.{not}
-use Rattle.record.specs.{Call, Field, Past, Writing, is_fresh, version_of, write_moved}
-use Rattle.record.specs.declared.access.Field.TheVariants.{Choosing, Ticket}
-use Rattle.record.specs.safe_number.{NumberWrite}
+use Rattle.model.specs.{Call, Field, Past, Writing, is_fresh, version_of, write_moved}
+use Rattle.model.specs.declared.access.Field.TheVariants.{Choosing, Ticket}
+use Rattle.model.specs.safe_number.{NumberWrite}
 use Rattle.plain_store.specs.{Command, Setup}
-use Rattle.record.specs.Parts.{Part, Raises, Asks, TakesTicket, Lowers, Refuses, Waits, AsksCommit, AsksStamp, AsksImage, WritesImage, WritesStamp, WritesCommit, Clears, Over, is_read, is_over, written_at}
+use Rattle.model.specs.Parts.{Part, Raises, Asks, TakesTicket, Lowers, Refuses, Waits, AsksCommit, AsksStamp, AsksImage, WritesImage, WritesStamp, WritesCommit, Clears, Over, is_read, is_over, written_at}
 use Rattle.laws.proofs.FrameInside.{moved-unfresh}
 use Rattle.laws.specs.{Runs, call, is_inside_at}
 use Rattle.laws.proofs.Notes.{Notes, notes, noted}

@@ -1,10 +1,10 @@
 -- The effect of an access of a write on its register, and the progress of the write then.
 use Rattle.std.proofs.Common.{◌≡◌, ◌≢◌, ℕ, ◌+◌, ◌*◌, ◌/◌, ◌%◌, ◌<◌, ◌==◌, Bool, true, false, cond, List, ◌∷◌, length, Some, None, refl, sym, ap, subst, ◌∙◌, arith, inl, inr}
 use Rattle.std.proofs.lemmas.Bool.{cases_eq, eqb-true, eqb-false, ne_eqb}
-use Rattle.record.specs.safe_bit.{read_value}
-use Rattle.record.specs.safe_bit.declared.Move.TheVariants.{BeginWrite, EndWrite}
-use Rattle.record.specs.{Access, Entry, Field, Past, access_of, bit_written, ended, moves_of, next_written, opening_bit, valued, write_moved}
-use Rattle.record.specs.safe_number.{NumberWrite}
+use Rattle.model.specs.safe_bit.{read_value}
+use Rattle.model.specs.safe_bit.declared.Move.TheVariants.{BeginWrite, EndWrite}
+use Rattle.model.specs.{Access, Entry, Field, Past, access_of, bit_written, ended, moves_of, next_written, opening_bit, valued, write_moved}
+use Rattle.model.specs.safe_number.{NumberWrite}
 use Rattle.plain_store.specs.{Setup}
 use Rattle.laws.proofs.FrameCells.{off-bit, off-reader}
 use Rattle.laws.proofs.FrameWires.{wire_after, wires-here, wires-there, wires-fields, touches-fields}

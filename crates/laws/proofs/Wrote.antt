@@ -2,14 +2,14 @@
 use Rattle.std.proofs.Common.{◌≡◌, ◌≢◌, ℕ, suc, ◌+◌, ◌<◌, ◌≤◌, Bool, true, false, cond, List, [], ◌∷◌, length, refl, sym, subst, arith}
 use Rattle.std.proofs.lemmas.Bool.{false≢true}
 use Rattle.std.specs.Prelude.{◌^◌}
-use Rattle.record.specs.{Call, Field, Past, Writing, enter, greatest, is_fresh, is_last, others, place_after, reply, write_moved}
-use Rattle.record.specs.declared.access.Field.TheVariants.{Choosing, Ticket}
-use Rattle.record.specs.safe_number.{NumberWrite}
-use Rattle.record.proofs.safe_number.Bits.{length-bits_of_number}
+use Rattle.model.specs.{Call, Field, Past, Writing, enter, greatest, is_fresh, is_last, others, place_after, reply, write_moved}
+use Rattle.model.specs.declared.access.Field.TheVariants.{Choosing, Ticket}
+use Rattle.model.specs.safe_number.{NumberWrite}
+use Rattle.model.proofs.safe_number.Bits.{length-bits_of_number}
 use Rattle.plain_store.specs.declared.Answer.TheVariants as answer
 use Rattle.plain_store.specs.{Command, Setup}
-use Rattle.record.specs.Parts.{Part, Raises, TakesTicket, Lowers, Refuses, WritesImage, WritesStamp, WritesCommit, Clears, is_read, is_over, written_at, part_after, to_b}
-use Rattle.record.proofs.Width.{IsGood}
+use Rattle.model.specs.Parts.{Part, Raises, TakesTicket, Lowers, Refuses, WritesImage, WritesStamp, WritesCommit, Clears, is_read, is_over, written_at, part_after, to_b}
+use Rattle.model.proofs.Width.{IsGood}
 use Rattle.laws.specs.{Rests, Runs, call, runs, is_inside_at}
 use Rattle.laws.proofs.Notes.{Notes, noted}
 use Rattle.laws.proofs.Invariant.{Wires, Touches, Closed, bit, ticket_of, Asked, IsInDoorway, StandsAt, Inv, Moves, next_time}

@@ -1,10 +1,10 @@
 -- The state of each process, from its entries: it rests, it lies down, it is at a place of its call, or at a place of a closing.
 use Rattle.std.specs.Prelude.{ℕ, Bool, true, false, ◌==◌, ◌&&◌, cond, [], ◌∷◌, Option, None, Some}
-use Rattle.record.specs.{Access, Asks, AsksCommit, AsksImage, AsksStamp, Call, Clears, Entry, Mark, Over, Part, Past, Place, Raises, Refuses, TakesTicket, Waits, WritesCommit, WritesImage, WritesStamp, call_number, enter, is_fresh, is_over, last_call, last_command, own, place_after, start_in, value_of, value_written}
+use Rattle.model.specs.{Access, Asks, AsksCommit, AsksImage, AsksStamp, Call, Clears, Entry, Mark, Over, Part, Past, Place, Raises, Refuses, TakesTicket, Waits, WritesCommit, WritesImage, WritesStamp, call_number, enter, is_fresh, is_over, last_call, last_command, own, place_after, start_in, value_of, value_written}
 use Rattle.plain_store.specs.{Command, Setup}
-use Rattle.record.specs.declared.marks.Mark.TheVariants.{Called, Failed, Withdrew}
-use Rattle.record.specs.Closings.{Closing, Withdraws, Settles, Frees, Lowers, Quit, Ended, withdrawing, failing, closing_after, is_unwritten}
-use Rattle.record.specs.Parts as part
+use Rattle.model.specs.declared.marks.Mark.TheVariants.{Called, Failed, Withdrew}
+use Rattle.model.specs.Closings.{Closing, Withdraws, Settles, Frees, Lowers, Quit, Ended, withdrawing, failing, closing_after, is_unwritten}
+use Rattle.model.specs.Parts as part
 
 -- a call of p
 abbrev pub call : Setup → ℕ → Command → ℕ → Call

@@ -1,11 +1,11 @@
 -- The registers after a past: the cell of each single-reader bit. A process that fails or withdraws drops its open read. Each access may be made on these cells.
 use Rattle.std.specs.Prelude.{◌≡◌, ℕ, ◌<◌, ◌==◌, Bool, true, false, ◌&&◌, ◌||◌, List, [], ◌∷◌, flat_map, cond, None, Some}
-use Rattle.record.specs.safe_bit.declared.Move.TheVariants.{EndWrite}
-use Rattle.record.specs.safe_bit.Cell.{Cell, BitCall, Makes, Drops, cell_of_calls, read_answer, MayMove}
-use Rattle.record.specs.safe_bit.{read_value}
-use Rattle.record.specs.{Access, Call, EachEntry, EachPast, Entry, Mark, Past, Place, accesses_of, has, is_failed, is_read, is_running, last_call, last_start, moves_of, opening_bit, own, place_of, read_at, same_bit, since, stage, starts, width}
+use Rattle.model.specs.safe_bit.declared.Move.TheVariants.{EndWrite}
+use Rattle.model.specs.safe_bit.Cell.{Cell, BitCall, Makes, Drops, cell_of_calls, read_answer, MayMove}
+use Rattle.model.specs.safe_bit.{read_value}
+use Rattle.model.specs.{Access, Call, EachEntry, EachPast, Entry, Mark, Past, Place, accesses_of, has, is_failed, is_read, is_running, last_call, last_start, moves_of, opening_bit, own, place_of, read_at, same_bit, since, stage, starts, width}
 use Rattle.plain_store.specs.{Command, Setup}
-use Rattle.record.specs.declared.marks.Mark.TheVariants.{Called, Withdrew}
+use Rattle.model.specs.declared.marks.Mark.TheVariants.{Called, Withdrew}
 use Rattle.laws.specs.Doings.{doing}
 use Rattle.laws.specs.Steps.{being_written, next_of}
 

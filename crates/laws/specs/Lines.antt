@@ -1,8 +1,8 @@
 -- The line of tickets, and the first process in it (Lamport 1974).
 use Rattle.std.specs.Prelude.{◌≡◌, ◌≢◌, ℕ, ◌==◌, [], ◌∷◌, cond, fold, IsTrue}
-use Rattle.record.specs.{EachEntry, EachPast, Mark, Past, has, inside, is_below, is_entered, stage}
-use Rattle.record.specs.declared.marks.Mark.TheVariants as mark
-use Rattle.record.specs.declared.stages.Stage.TheVariants.{Waiting}
+use Rattle.model.specs.{EachEntry, EachPast, Mark, Past, has, inside, is_below, is_entered, stage}
+use Rattle.model.specs.declared.marks.Mark.TheVariants as mark
+use Rattle.model.specs.declared.stages.Stage.TheVariants.{Waiting}
 
 -- the latest ticket after a mark
 abbrev pub ticket_after : ℕ → Mark → ℕ

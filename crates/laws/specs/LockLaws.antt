@@ -1,14 +1,14 @@
 -- The laws of the lock that are not among the main theorems of `record`. They hold of the record of every list of events.
 use Rattle.std.specs.Prelude.{◌≡◌, ◌↔◌, ℕ, ◌<◌, Bool, true, false, List, [], length, None, Some, Ok, IsTrue, IsFalse, Contains, AllPairs}
-use Rattle.record.specs.safe_bit.declared.Move.TheVariants.{EndRead}
-use Rattle.record.specs.safe_bit.{MayEndWith, read_value}
-use Rattle.record.specs.reader_copies.{IsWrite}
-use Rattle.record.specs.{Access, EachEntry, EachPast, Entry, Event, Mark, Past, ahead, doorway_begin, doorway_end, entry_of, has, inside, is_before, is_entered, is_failed, is_queued, is_version, lowest_full, max_of, moves_of, opening_bit, others, own, past_of, since, stage, tickets_read}
+use Rattle.model.specs.safe_bit.declared.Move.TheVariants.{EndRead}
+use Rattle.model.specs.safe_bit.{MayEndWith, read_value}
+use Rattle.model.specs.reader_copies.{IsWrite}
+use Rattle.model.specs.{Access, EachEntry, EachPast, Entry, Event, Mark, Past, ahead, doorway_begin, doorway_end, entry_of, has, inside, is_before, is_entered, is_failed, is_queued, is_version, lowest_full, max_of, moves_of, opening_bit, others, own, past_of, since, stage, tickets_read}
 use Rattle.plain_store.specs.declared.Answer.TheVariants as answer
 use Rattle.plain_store.specs.{Setup, checked}
-use Rattle.record.specs.declared.events.Event.TheVariants.{Step}
-use Rattle.record.specs.declared.marks.Mark.TheVariants.{Waiting, Taken, Answered}
-use Rattle.record.specs.declared.stages.Stage.TheVariants as stages
+use Rattle.model.specs.declared.events.Event.TheVariants.{Step}
+use Rattle.model.specs.declared.marks.Mark.TheVariants.{Waiting, Taken, Answered}
+use Rattle.model.specs.declared.stages.Stage.TheVariants as stages
 
 -- Full answers.
 

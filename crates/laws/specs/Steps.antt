@@ -1,9 +1,9 @@
 -- The next step of a process: its next access, the state after it, and the work that a failure leaves to its memory unit.
 use Rattle.std.specs.Prelude.{◌≡◌, ℕ, Bool, false, cond, List, [], ◌∷◌, Option, None, Some, option_map, unwrap_or}
-use Rattle.record.specs.{Access, Field, Mark, Next, Reading, Writing, access_at, bit_written, cut_at, cut_closing, is_over, is_read, marks_of, place_after, place_of, read_at, written_at}
+use Rattle.model.specs.{Access, Field, Mark, Next, Reading, Writing, access_at, bit_written, cut_at, cut_closing, is_over, is_read, marks_of, place_after, place_of, read_at, written_at}
 use Rattle.plain_store.specs.{Command, Setup}
 use Rattle.plain_store.specs.declared.Command.TheVariants.{Ask}
-use Rattle.record.specs.Closings.{Closing, Withdraws, Settles, Frees, Lowers, Quit, Ended, freeing, closing_next, closing_after, no_ticket}
+use Rattle.model.specs.Closings.{Closing, Withdraws, Settles, Frees, Lowers, Quit, Ended, freeing, closing_next, closing_after, no_ticket}
 use Rattle.laws.specs.Doings.{Doing, Rests, Lies, Runs, Closes, call, runs, closes, is_inside}
 
 -- the next access in a state, where the value of a read's end is open; none if the process rests, or is down

@@ -1,11 +1,11 @@
 -- The write of a register by a process or its memory unit: its bits, the number of its accesses made so far, and the copies after it.
 use Rattle.std.specs.Prelude.{◌≡◌, ℕ, zero, suc, ◌+◌, ◌-◌, ◌*◌, ◌<◌, Bool, false, List, [], ◌∷◌, length, slice_index_or, Option, None, Some}
-use Rattle.record.specs.{Call, Closing, EachPast, Field, Part, Past, Reading, Run, Writing, bit_written, copy, no_ticket, width, with_event, written_at}
-use Rattle.record.specs.Closings as closing
-use Rattle.record.specs.declared.access.Field.TheVariants.{Choosing, Ticket}
-use Rattle.record.specs.declared.events.Event.TheVariants.{Step}
-use Rattle.record.specs.safe_bit.Cell.{Cell}
-use Rattle.record.specs.safe_number.{NumberWrite}
+use Rattle.model.specs.{Call, Closing, EachPast, Field, Part, Past, Reading, Run, Writing, bit_written, copy, no_ticket, width, with_event, written_at}
+use Rattle.model.specs.Closings as closing
+use Rattle.model.specs.declared.access.Field.TheVariants.{Choosing, Ticket}
+use Rattle.model.specs.declared.events.Event.TheVariants.{Step}
+use Rattle.model.specs.safe_bit.Cell.{Cell}
+use Rattle.model.specs.safe_number.{NumberWrite}
 use Rattle.plain_store.specs.{Setup}
 use Rattle.laws.specs.Doings.{Doing, Runs, Closes, call, doing}
 use Rattle.laws.specs.Held.{cell_held}

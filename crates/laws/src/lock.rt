@@ -1,6 +1,6 @@
 //! The laws of the lock. Each law holds for every setup that passes the check, every list of events, including
 //! refused ones, and every flick.
-ghost use Rattle.record.specs.{AcceptedAdds, MutualExclusion, NoOvertaking, OthersStay, OwnEntry, RefusedAddsNothing, TicketsFullNamesTheLowest, WaitersReadNoGreatestTicket};
+ghost use Rattle.model.specs.{AcceptedAdds, MutualExclusion, NoOvertaking, OthersStay, OwnEntry, RefusedAddsNothing, TicketsFullNamesTheLowest, WaitersReadNoGreatestTicket};
 ghost use Rattle.laws.specs.LockLaws.{AheadAreThoseBefore, AheadAscends, AheadIsOfTheQueued, AloneInside, EachTicketIsRead, NobodyIsAheadOfItself, NobodyIsAheadOfWhoEnters, ReadsEndAsTheyMay, ReadsEndByTheirFlick, TakenInside, TicketsFullExactly, UnitsAreShort, VersionsAreTouchedInside, VersionsAreWrittenByTheirOwner, WaitersAreAheadOfACall};
 
 /// No two processes are inside the critical section together. A process that failed inside is inside until

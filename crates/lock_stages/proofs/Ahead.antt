@@ -3,7 +3,7 @@ use Rattle.std.proofs.Common.{◌≡◌, ℕ, suc, ◌<◌, ◌==◌, Bool, true
 use Rattle.std.proofs.lemmas.Bool.{le-ltb, lt-ltb}
 use Rattle.trace.specs.{LockMark}
 use Rattle.trace.specs.declared.marks.LockMark.TheVariants.{Call, Wait, Enter, Leave, Answer}
-use Rattle.record.specs.{first_of, is_before}
+use Rattle.model.specs.{first_of, is_before}
 use Rattle.lock_stages.specs.{LockEntry, LockPast, Passage, lock_entry, lock_passage, passage_marked, with_access}
 
 -- Numbers are below the number of entries.

@@ -1,7 +1,7 @@
 -- The lowest number for which a test holds.
 use Rattle.std.proofs.Common.{◌≡◌, ℕ, zero, suc, ◌+◌, ◌<◌, Bool, true, false, ◌&&◌, cond, ◌⊎◌, ◌≢◌, inl, inr, Option, None, Some, is_some, refl, sym, ap, ◌∙◌, arith, add-one, true≢false}
 use Rattle.std.proofs.lemmas.Bool.{cases_eq}
-use Rattle.record.specs.{first_of}
+use Rattle.model.specs.{first_of}
 use Rattle.lock_stages.specs.{lowest_below}
 
 -- none below the next one

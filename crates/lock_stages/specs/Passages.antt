@@ -1,7 +1,7 @@
 -- The passage of a process through the lock, and the two laws of it: mutual exclusion, and first come, first served (Lamport 1974).
 -- Traces and the records of any lock cite them. In each definition `passage` is the passage of each process.
 use Rattle.std.specs.Prelude.{◌≡◌, ℕ, zero, suc, ◌==◌, ◌<◌, nat_lt, Bool, true, false, not, ◌&&◌, List, length, slice_get, slice_index_or, cond, option_map, Option, None, Some, is_some}
-use Rattle.record.specs.{first_of, is_before}
+use Rattle.model.specs.{first_of, is_before}
 use Rattle.lock_stages.specs.declared.passages.Passage.{Passage}
 
 -- What becomes of a passage.

@@ -1,6 +1,6 @@
 //! The passage of a process through the lock, updated access by access and mark by mark.
 ghost use Rattle.std.specs.Prelude.{◌≡◌, Some};
-ghost use Rattle.record.specs.{first_of};
+ghost use Rattle.model.specs.{first_of};
 ghost use Rattle.lock_stages.specs.Passages.{no_passage, with_access, with_call, with_enter, with_leave, with_wait, without_wait};
 
 /// The part of a process's state on which mutual exclusion and first come, first served depend. Entries are given by

@@ -1,7 +1,7 @@
 -- How a mark begins: its attributes, and its title.
 use Rattle.std.proofs.Common.{◌≡◌, ℕ, Bool, Option, Result, Ok, Err, OnOk, List, [], ◌∷◌, ◌++◌, flat_map, ap, ◌∙◌}
 use Rattle.markup.specs.{Attribute, Mark, Said, attribute_text, drawings, drawn, marking, marking_by, said_text}
-use Rattle.columns.specs.{TakenChange}
+use Rattle.picture_layout.specs.{TakenChange}
 use Rattle.picture.specs.{queue_said, store_said}
 use Rattle.picture.proofs.Drawn.{one_drawn}
 

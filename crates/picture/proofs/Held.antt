@@ -2,7 +2,7 @@
 use Rattle.std.proofs.Common.{◌≡◌, ℕ, List, [], ◌∷◌, ◌++◌, flat_map, Option, Some, ap, sym, ◌∙◌, append-nil, append_assoc}
 use Rattle.std.proofs.lemmas.Grind.{flat_map-append}
 use Rattle.picture.specs.{lines_of}
-use Rattle.columns.specs.{Column, told_in}
+use Rattle.picture_layout.specs.{Column, told_in}
 
 -- one is
 pub one_pending : (columns : List Column) (pending : Option Column) (column : Column) → pending ≡ Some column → lines_of columns pending ≡ flat_map told_in columns ++ told_in column

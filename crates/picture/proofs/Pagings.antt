@@ -4,13 +4,13 @@ use Rattle.std.proofs.lemmas.Grind.{fold-append}
 use Rattle.std.proofs.Math.Seq.{take-append_seam}
 use Rattle.std.proofs.lemmas.List.{length-map}
 use Rattle.markup.specs.{drawings}
-use Rattle.record.specs.{Mark}
+use Rattle.model.specs.{Mark}
 use Rattle.picture.specs.{Accesses, Bands, BeginsColumn, DrawsBand, GivesLast, Item, Judges, MakesRoom, Passes, Places, Plan, Puts, Reads, SeenPage, SetsOpening, ShownVerdict, TakesItem, Tells, accesses_behind, accesses_in, accesses_left, band_text, bands_drawn, bands_of, begun_by, behind_columns, columns_of, filled, framed, full_bytes, height_with, heights, heights_drawn, heights_of, held_in_64, judged_shapes, judged_with, layout_in, line_by, newest, newest_at, older, opening_by, page_by, page_holding, page_of, placing_before, placing_in, room_by, state_after, verdict_in, whole_bytes, with_line, with_placed, with_put, with_room}
 use Rattle.picture.specs.Bandings.{opening_length, opens_with}
-use Rattle.columns.specs.{Column, Layout, OverlappedRead, Placing, RunLine, Saying, Seen, SeenAccesses, ShownAccess, State, TakenChange, accesses_after, accesses_at, alone, change_told, column_of_access, column_of_read, drawn_apart, end_of_words, freed_by, has_room_at, joined, joins, last_of, layout_of, moved_to, place_of, placing_at_first, put_at, seen, state_lock_marked, state_marked, state_told, stretched_all, widened}
-use Rattle.columns.specs.trace.{LockMark}
-use Rattle.columns.specs.trace.declared.marks.LockMark.TheVariants as lock
-use Rattle.columns.specs.declared.told.Saying.TheVariants.{Ended, LockEnded, LockMarked, Marked, Refused, Shown, Tired}
+use Rattle.picture_layout.specs.{Column, Layout, OverlappedRead, Placing, RunLine, Saying, Seen, SeenAccesses, ShownAccess, State, TakenChange, accesses_after, accesses_at, alone, change_told, column_of_access, column_of_read, drawn_apart, end_of_words, freed_by, has_room_at, joined, joins, last_of, layout_of, moved_to, place_of, placing_at_first, put_at, seen, state_lock_marked, state_marked, state_told, stretched_all, widened}
+use Rattle.picture_layout.specs.trace.{LockMark}
+use Rattle.picture_layout.specs.trace.declared.marks.LockMark.TheVariants as lock
+use Rattle.picture_layout.specs.declared.told.Saying.TheVariants.{Ended, LockEnded, LockMarked, Marked, Refused, Shown, Tired}
 
 -- a column is put behind the others
 abbrev pub put_page : Seen → SeenPage → SeenPage

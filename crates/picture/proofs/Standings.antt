@@ -2,15 +2,15 @@
 use Rattle.std.proofs.Common.{◌≡◌, ◌-◌, ℕ, Bool, true, false, ◌&&◌, ◌||◌, not, cond, nat_lt, List, [], ◌∷◌, refl, ap, sym, subst, ◌∙◌, true≢false}
 use Rattle.std.proofs.lemmas.Grind.{fold-append}
 use Rattle.std.specs.List.{AllByRecursion}
-use Rattle.record.specs.{Mark, Stage}
+use Rattle.model.specs.{Mark, Stage}
 use Rattle.picture.specs.{Accesses, BarsAreStages, Item, Judges, Plan, Reads, ShowsStages, Tells, WindowPlan, begun_in, columns_of, item_if, items_taken, line_by, newest_at, passed, passed_if, plan_at, precedes, sayings, shows_item, state_after, with_line, within}
-use Rattle.columns.specs.{RunLine, Saying, Seen, State, alone, at_first, column_of_access, column_of_read, freed_by, joined, joins, like, nothing_told, stage_among, stages_after, stages_marked, stages_told, state_lock_marked, state_marked, state_told}
-use Rattle.columns.specs.trace.{LockMark}
-use Rattle.columns.specs.trace.declared.marks.LockMark.TheVariants as lock
-use Rattle.columns.specs.declared.told.Saying.TheVariants.{Ended, LockEnded, LockMarked, Marked, Refused, Shown, Tired}
+use Rattle.picture_layout.specs.{RunLine, Saying, Seen, State, alone, at_first, column_of_access, column_of_read, freed_by, joined, joins, like, nothing_told, stage_among, stages_after, stages_marked, stages_told, state_lock_marked, state_marked, state_told}
+use Rattle.picture_layout.specs.trace.{LockMark}
+use Rattle.picture_layout.specs.trace.declared.marks.LockMark.TheVariants as lock
+use Rattle.picture_layout.specs.declared.told.Saying.TheVariants.{Ended, LockEnded, LockMarked, Marked, Refused, Shown, Tired}
 use Rattle.picture.proofs.Pagings.{processes_after}
 use Rattle.picture.proofs.Windowing.{hides, none_shown}
-use Rattle.columns.proofs.Stages.{stages_are}
+use Rattle.picture_layout.proofs.Stages.{stages_are}
 
 -- the stages after a line
 marked_stages : (b : Bool) (state : State) (p : ℕ) (mark : Mark) → (let s : State = cond b (state_marked state p mark) state in s.stages) ≡ cond b (stages_marked state.stages p mark) state.stages

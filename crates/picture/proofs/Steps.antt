@@ -1,8 +1,8 @@
 -- What is drawn of a column, and then of those behind it.
 use Rattle.std.proofs.Common.{◌≡◌, ℕ, ◌+◌, add-one, ◌<◌, Bool, true, false, cond, is_some, Option, List, ◌++◌, drop, length, map, flat_map, get_or, ap, sym, ◌∙◌}
 use Rattle.markup.specs.{Point, Shape, drawings}
-use Rattle.record.specs.{Stage}
-use Rattle.columns.specs.{Column, Lane, Layout, UnendedAccess, RunLine, Seen, ShownAccess, Wave, change_in, open_next, seen, seen_wave, stage_among}
+use Rattle.model.specs.{Stage}
+use Rattle.picture_layout.specs.{Column, Lane, Layout, UnendedAccess, RunLine, Seen, ShownAccess, Wave, change_in, open_next, seen, seen_wave, stage_among}
 use Rattle.picture.specs.{SeenBand, Stretch, Subject, accesses_from, axis, axis_up_to, bar, bars, change_if, change_shapes, ends_at, for_each, free_left, from_next, inside_since, is_stage, line_shapes, lines_shapes, made_by, next_change, next_stretch, shade_up_to, shades, shapes_if, stretch_word, tie_to, ties_to, wave_from, wave_shapes, waves_from, words_from}
 use Rattle.picture.proofs.Drawn.{drop_next, then_drawn}
 

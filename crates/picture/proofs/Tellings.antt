@@ -4,7 +4,7 @@ use Rattle.std.proofs.lemmas.Grind.{flat_map-append}
 use Rattle.std.proofs.lemmas.List.{map-append, take_more}
 use Rattle.markup.specs.{Reading, Stack, group, is_among, lines_in, reading, text_names, with_begun, with_ended, with_lines, with_mark}
 use Rattle.markup.proofs.Stacks.{round}
-use Rattle.columns.specs.{Column, RunLine, text_of, texts, told_in}
+use Rattle.picture_layout.specs.{Column, RunLine, text_of, texts, told_in}
 
 -- no line yet
 pub none_more : (new : Reading) (old : List ℕ) → new ≡ reading old → new ≡ with_lines [] (reading old)

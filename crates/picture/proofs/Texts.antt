@@ -3,7 +3,7 @@ use Rattle.std.proofs.Common.{◌≡◌, ℕ, zero, suc, ◌+◌, ◌<◌, ◌�
 use Rattle.std.proofs.lemmas.Grind.{flat_map-append}
 use Rattle.std.proofs.lemmas.List.{take_more}
 use Rattle.std.specs.Fmt.{decimal}
-use Rattle.columns.specs.{RunLine}
+use Rattle.picture_layout.specs.{RunLine}
 use Rattle.picture.specs.{lines_reach, listed_with}
 
 -- one number more of a list of them

@@ -2,8 +2,8 @@
 use Rattle.std.proofs.Common.{◌≡◌, ◌<◌, ◌-◌, ℕ, Bool, true, false, ◌&&◌, ◌||◌, not, nat_le, nat_lt, Result, Ok, Err, IfOk, OnOk, List, [], ◌∷◌, ◌++◌, Option, None, Some, refl, ap, sym, subst, ◌∙◌, append-nil, true≢false}
 use Rattle.std.proofs.Math.Dec.{leb-zero}
 use Rattle.std.proofs.lemmas.Bool.{lt-leb, ltb-true}
-use Rattle.columns.specs.{OverlappedRead, RunLine, Saying}
-use Rattle.columns.specs.declared.told.Saying.TheVariants.{Ended, LockEnded, LockMarked, Marked, Refused, Shown, Tired}
+use Rattle.picture_layout.specs.{OverlappedRead, RunLine, Saying}
+use Rattle.picture_layout.specs.declared.told.Saying.TheVariants.{Ended, LockEnded, LockMarked, Marked, Refused, Shown, Tired}
 use Rattle.markup.specs.{lines_in}
 use Rattle.picture.specs.Adding.{GivesLines}
 use Rattle.picture.specs.{Accesses, GivesLast, GivesRest, GoesOn, Item, Judges, Passes, Plan, Reads, SeenPage, SeenWindowed, ShownVerdict, TakesIn, TakesItem, Tells, Window, WindowPlan, all_entries, band_text, bands_drawn, bands_told, begun_in, full_drawn, full_told, heights_drawn, heights_told, is_up_to, item_if, judged_with, lines_if, lines_of_band, page_of, passed, passed_if, plan_at, precedes, said_before, shows_end, shows_entry, shows_item, shows_said, titles_if, verdict_if, windowed, within}

@@ -2,9 +2,9 @@
 use Rattle.std.specs.Prelude.{ℕ, zero, suc, ◌+◌, ◌-◌, Bool, true, false, ◌==◌, cond, is_some, nat_lt, List, [], ◌∷◌, ◌++◌, codes, Option, None, Some}
 use Rattle.std.specs.List.{list_any}
 use Rattle.markup.specs.{Block, End, Label, Note, Shape, line_from, path_from}
-use Rattle.columns.specs.{AccessKind, AccessStep, Lane, Layout, UnendedAccess, Seen, ShownAccess, access_title, boxes_of, is_over, lane_in, open_next}
-use Rattle.columns.specs.declared.accesses.AccessKind.TheVariants as kind
-use Rattle.columns.specs.declared.accesses.AccessStep.TheVariants as step
+use Rattle.picture_layout.specs.{AccessKind, AccessStep, Lane, Layout, UnendedAccess, Seen, ShownAccess, access_title, boxes_of, is_over, lane_in, open_next}
+use Rattle.picture_layout.specs.declared.accesses.AccessKind.TheVariants as kind
+use Rattle.picture_layout.specs.declared.accesses.AccessStep.TheVariants as step
 use Rattle.picture.specs.Bars.{point}
 
 -- the guide of a column that shows an access: a line through all lanes

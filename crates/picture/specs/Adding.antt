@@ -1,6 +1,6 @@
 -- What a call that goes well adds to markup.
 use Rattle.std.specs.Prelude.{◌≡◌, ◌++◌, ℕ, List, Option, Result, IfOk, OnOk, flat_map}
-use Rattle.columns.specs.{Column, seen_accesses, told_in}
+use Rattle.picture_layout.specs.{Column, seen_accesses, told_in}
 use Rattle.markup.specs.{Shape, drawings, reading, with_begun, with_lines}
 use Rattle.picture.specs.Bandings.{framed}
 use Rattle.picture.specs.Drawings.{seen_band}

@@ -4,7 +4,7 @@ use Rattle.std.specs.Fmt.{decimal}
 use Rattle.markup.specs.{End, drawings, drawn, entering_by, lowering}
 use Rattle.markup.specs.declared.names.Key.TheVariants as key
 use Rattle.markup.specs.declared.names.Tag.TheVariants as tag
-use Rattle.columns.specs.{Layout, OverlappedRead, Placing, RunLine, Seen, SeenAccesses, ShownAccess, State, accesses_after, accesses_at, alone, column_of_access, column_of_read, freed_by, has_room_at, joined, joins, layout_of, moved_to, place_of, placing_at_first, put_at, shortened, state_told, stretched_all}
+use Rattle.picture_layout.specs.{Layout, OverlappedRead, Placing, RunLine, Seen, SeenAccesses, ShownAccess, State, accesses_after, accesses_at, alone, column_of_access, column_of_read, freed_by, has_room_at, joined, joins, layout_of, moved_to, place_of, placing_at_first, put_at, shortened, state_told, stretched_all}
 use Rattle.picture.specs.Drawings.{last_in}
 use Rattle.picture.specs.Sheets.{held_in_64, says, view_of}
 use Rattle.picture.specs.Verdicts.{height_with, judged_shapes}

@@ -2,12 +2,12 @@
 use Rattle.std.specs.Prelude.{ℕ, zero, suc, ◌+◌, ◌-◌, ◌*◌, ◌/◌, Bool, true, false, ◌==◌, not, ◌&&◌, ◌||◌, cond, nat_le, nat_lt, List, [], ◌∷◌, ◌++◌, codes, length, Option, None, Some}
 use Rattle.std.specs.Fmt.{decimal}
 use Rattle.std.specs.Str.{bytes_eq}
-use Rattle.record.specs.{Stage, stage_word}
-use Rattle.record.specs.declared.stages.Stage.TheVariants as stage
+use Rattle.model.specs.{Stage, stage_word}
+use Rattle.model.specs.declared.stages.Stage.TheVariants as stage
 use Rattle.markup.specs.{Block, Label, Point, Shape, line_from}
-use Rattle.columns.specs.{Group, Lane, Seen, Word, bar_of, capped, stage_among, stands_in, word_of}
+use Rattle.picture_layout.specs.{Group, Lane, Seen, Word, bar_of, capped, stage_among, stands_in, word_of}
 use Rattle.picture.specs.Words.{left_reach_of, right_reach_of, word_text}
-use Rattle.columns.specs.declared.groups.Word.TheVariants as word
+use Rattle.picture_layout.specs.declared.groups.Word.TheVariants as word
 use Rattle.picture.specs.declared.words.Stretch.{Stretch}
 
 -- a place in a band

@@ -5,7 +5,7 @@ use Rattle.markup.specs.{Block, End, Label, Mark, Note, Point, Said, Shape, line
 use Rattle.markup.specs.declared.names.Key.TheVariants as key
 use Rattle.picture.specs.AccessShapes.{accesses_from, begun, guide, ties}
 use Rattle.picture.specs.Bars.{bars, lane_name, point, words_from}
-use Rattle.columns.specs.{SeenAccesses, Lane, Layout, OverlappedRead, RunLine, Seen, State, TakenChange, Wording, bar_of, bit_text, capped, chain_ends_of, change_told, event_stands, knot_of, lane_in, open_of, place_told, saw_text, seen, settles_and_takes_in, stage_among, taken_in, tells_refusal, text_of, title_text, word_of}
+use Rattle.picture_layout.specs.{SeenAccesses, Lane, Layout, OverlappedRead, RunLine, Seen, State, TakenChange, Wording, bar_of, bit_text, capped, chain_ends_of, change_told, event_stands, knot_of, lane_in, open_of, place_told, saw_text, seen, settles_and_takes_in, stage_among, taken_in, tells_refusal, text_of, title_text, word_of}
 use Rattle.picture.specs.Signs.{down_by, moved_by, sign}
 use Rattle.picture.specs.Subjects.{has_history, time_unit}
 use Rattle.picture.specs.WaveShapes.{waves_from}

@@ -1,5 +1,5 @@
 pub use Rattle.shown_verdict.specs as shown_verdict
-pub use Rattle.columns.specs as columns
+pub use Rattle.picture_layout.specs as picture_layout
 pub use Rattle.markup.specs as markup
 pub mod AccessShapes
 pub mod Adding

@@ -1,10 +1,10 @@
 -- What a page holds back: the lines that were told and are not drawn yet; and what it keeps of all lines.
 use Rattle.std.specs.Prelude.{◌≡◌, ℕ, ◌-◌, Bool, List, [], ◌∷◌, ◌++◌, codes, flat_map, map, Option, None, Some, option_map}
 use Rattle.std.specs.Option.{option_to_list}
-use Rattle.record.specs.{Stage}
+use Rattle.model.specs.{Stage}
 use Rattle.markup.specs.{lines_in}
 use Rattle.picture.specs.Bandings.{Accesses, Bands, Item, Judges, Plan, Reads, Tells, accesses_behind, band_bytes, bands_drawn, bands_of, before_band, columns_of, filled, full_bytes, full_drawn, heights, heights_drawn, heights_of, judged_with, newest, newest_at, number_of, older, opens_before, placing_in, state_after, verdict_in, with_put, with_room}
-use Rattle.columns.specs.{Column, Placing, RunLine, Saying, Seen, SeenAccesses, ShownAccess, State, TakenChange, accesses_after, accesses_at, alone, change_told, column_of_access, seen, seen_accesses, state_told, told_in}
+use Rattle.picture_layout.specs.{Column, Placing, RunLine, Saying, Seen, SeenAccesses, ShownAccess, State, TakenChange, accesses_after, accesses_at, alone, change_told, column_of_access, seen, seen_accesses, state_told, told_in}
 use Rattle.picture.specs.declared.page.Form.{Form}
 use Rattle.picture.specs.declared.page.Page.{Page}
 use Rattle.picture.specs.declared.subjects.Subject.{Subject}

@@ -1,11 +1,11 @@
 -- The signs at the foot of a column.
 use Rattle.std.specs.Prelude.{ℕ, ◌+◌, ◌-◌, ◌*◌, ◌/◌, ◌^◌, min, Bool, true, false, cond, is_some, List, [], ◌∷◌, codes, length}
 use Rattle.std.specs.Fmt.{decimal}
-use Rattle.record.specs.{Mark}
-use Rattle.record.specs.declared.marks.Mark.TheVariants as mark
+use Rattle.model.specs.{Mark}
+use Rattle.model.specs.declared.marks.Mark.TheVariants as mark
 use Rattle.markup.specs.{Block, Label, Pill, Point, Ring, Shape, path_from}
-use Rattle.columns.specs.{Saying, capped, like}
-use Rattle.columns.specs.declared.told.Saying.TheVariants.{Marked, Refused, Tired, Shown, Ended, LockMarked, LockEnded}
+use Rattle.picture_layout.specs.{Saying, capped, like}
+use Rattle.picture_layout.specs.declared.told.Saying.TheVariants.{Marked, Refused, Tired, Shown, Ended, LockMarked, LockEnded}
 
 -- a place so far to the left of another and above it
 abbrev pub moved_by : Point → ℕ → ℕ → Point

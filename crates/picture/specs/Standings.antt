@@ -1,11 +1,11 @@
 -- The bars of a picture and the stages of a record.
 use Rattle.std.specs.Prelude.{◌≡◌, ◌<◌, ℕ, ◌&&◌, ◌||◌, not, List, [], ◌∷◌, ◌++◌, flat_map}
 use Rattle.std.specs.List.{AllByRecursion}
-use Rattle.record.specs.{Past, stage}
+use Rattle.model.specs.{Past, stage}
 use Rattle.picture.specs.Bandings.{Accesses, Item, Judges, Reads, Tells, columns_of, state_after}
 use Rattle.picture.specs.Windows.{WindowPlan, begun_in, item_if, plan_at, precedes, shows_item, within}
 use Rattle.picture.specs.declared.windows.Window.{Window}
-use Rattle.columns.specs.{Saying, Seen, at_first, marks_in, marks_said, stage_among}
+use Rattle.picture_layout.specs.{Saying, Seen, at_first, marks_in, marks_said, stage_among}
 
 -- what the lines among items say, in their order
 abbrev pub sayings : List Item → List Saying

@@ -3,7 +3,7 @@ use Rattle.std.specs.Prelude.{ℕ, ◌+◌, ◌-◌, ◌*◌, Bool, false, ◌==
 use Rattle.std.specs.Fmt.{decimal}
 use Rattle.markup.specs.{Block, End, Label, Mark, Point, Said, Shape}
 use Rattle.markup.specs.declared.names.Key.TheVariants as key
-use Rattle.columns.specs.{Lane, Layout, Seen, SeenAccesses, bar_of, boxes_of, capped, event_stands, lane_in, open_of, shows_access}
+use Rattle.picture_layout.specs.{Lane, Layout, Seen, SeenAccesses, bar_of, boxes_of, capped, event_stands, lane_in, open_of, shows_access}
 use Rattle.picture.specs.Bars.{point}
 use Rattle.shown_verdict.specs.{SeenLine, SeenVerdict, naming, seen_verdict, verdict_titles}
 use Rattle.picture.specs.Drawings.{SeenBand, arrow, band_shapes, last_in}

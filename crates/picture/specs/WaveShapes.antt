@@ -2,7 +2,7 @@
 use Rattle.std.specs.Prelude.{ℕ, ◌+◌, ◌-◌, ◌*◌, Bool, true, false, ◌==◌, cond, nat_le, List, [], ◌∷◌, ◌++◌, codes, Option, None, Some}
 use Rattle.std.specs.Str.{bytes_eq}
 use Rattle.markup.specs.{Block, Label, Shape, line_from}
-use Rattle.columns.specs.{Layout, Seen, SeenWave, WaveChange, capped, change_in, characters_of, wave_row}
+use Rattle.picture_layout.specs.{Layout, Seen, SeenWave, WaveChange, capped, change_in, characters_of, wave_row}
 use Rattle.picture.specs.Bars.{point}
 
 -- the height of the line of a value: that of 0 lies below

@@ -1,14 +1,14 @@
 -- A window of entries, and the page of what it shows.
 use Rattle.std.specs.Prelude.{◌≡◌, ℕ, ◌-◌, Bool, true, false, ◌==◌, ◌&&◌, ◌||◌, cond, not, nat_le, nat_lt, List, [], ◌∷◌, ◌++◌, Option, None, Some}
-use Rattle.columns.specs.{RunLine, Saying, at_first, no_accesses}
-use Rattle.columns.specs.declared.told.Saying.TheVariants.{Ended, LockEnded, LockMarked, Marked, Refused, Shown, Tired}
+use Rattle.picture_layout.specs.{RunLine, Saying, at_first, no_accesses}
+use Rattle.picture_layout.specs.declared.told.Saying.TheVariants.{Ended, LockEnded, LockMarked, Marked, Refused, Shown, Tired}
 use Rattle.picture.specs.Bandings.{Accesses, Item, Judges, Plan, Reads, Tells, bands_drawn, full_drawn, heights_drawn, judged_with}
 use Rattle.picture.specs.Pages.{SeenPage, band_text, held_back, page_of, passed, seen_page, stages_kept}
 use Rattle.picture.specs.declared.page.Form.{Form}
 use Rattle.picture.specs.declared.subjects.Subject.{Subject}
 use Rattle.picture.specs.declared.windowed_page.WindowedPage.{WindowedPage}
 use Rattle.picture.specs.declared.windows.Window.{Window}
-use Rattle.record.specs.{Stage}
+use Rattle.model.specs.{Stage}
 use Rattle.shown_verdict.specs.declared.verdicts.ShownVerdict.{ShownVerdict}
 
 -- all entries

@@ -2,10 +2,10 @@
 use Rattle.std.specs.Prelude.{ℕ, ◌+◌, ◌*◌, max, Bool, cond, nat_lt, List, [], ◌∷◌, ◌++◌, codes, length, take, Option, None, Some}
 use Rattle.std.specs.Fmt.{decimal}
 use Rattle.std.specs.List.{join_by}
-use Rattle.record.specs.{Mark, stage_word}
-use Rattle.record.specs.declared.marks.Mark.TheVariants as mark
-use Rattle.columns.specs.{Group, RunLine, Seen, State, Word, capped, mark_told, queue_of, settles_and_takes_in}
-use Rattle.columns.specs.declared.groups.Word.TheVariants as word
+use Rattle.model.specs.{Mark, stage_word}
+use Rattle.model.specs.declared.marks.Mark.TheVariants as mark
+use Rattle.picture_layout.specs.{Group, RunLine, Seen, State, Word, capped, mark_told, queue_of, settles_and_takes_in}
+use Rattle.picture_layout.specs.declared.groups.Word.TheVariants as word
 
 -- numbers, with these bytes between each two
 abbrev pub listed_with : List ℕ → List ℕ → List ℕ

@@ -2,12 +2,12 @@
 ghost use Rattle.std.specs.Prelude.{◌≡◌, OnOk, option_copied};
 ghost use Rattle.picture.specs.Adding.{Draws};
 ghost use Rattle.markup.specs.{reading};
-ghost use Rattle.columns.specs.{seen, seen_accesses};
+ghost use Rattle.picture_layout.specs.{seen, seen_accesses};
 ghost use Rattle.picture.specs.AccessShapes.{access_shapes, begins_overlapped as overlapped_first, begun, begun_shapes, box_style, ended_box, ended_shapes, from_next, guide, made_by, open_style, shapes_if, styled_words, unended_box, value_by, value_style, value_words, whole_shapes, whole_style};
 ghost use Rattle.picture.specs.Drawings.{lane_accesses, seen_band};
 
 use crate::bands::Band;
-use columns::{
+use picture_layout::{
     AXIS, AccessKind, AccessState, AccessStep, Column, LEFT, Lane, ShownAccess, UnendedAccess,
 };
 use markup::{Markup, Point};

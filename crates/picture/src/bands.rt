@@ -2,13 +2,13 @@
 ghost use Rattle.std.specs.Prelude.{◌≡◌, flat_map, map, OnOk};
 ghost use Rattle.picture.specs.Adding.{Draws, TellsLines, all_told};
 ghost use Rattle.markup.specs.{reading};
-ghost use Rattle.columns.specs.{seen, seen_accesses};
+ghost use Rattle.picture_layout.specs.{seen, seen_accesses};
 ghost use Rattle.picture.specs.AccessShapes.{begun, guide, ties};
 ghost use Rattle.picture.specs.Bandings.{behind_columns};
 ghost use Rattle.picture.specs.Drawings.{band_shapes, column_shapes, for_each, lane_accesses, lane_shapes, lane_words, links, seen_band};
 
 use crate::subjects::Subject;
-use columns::{AccessState, Column, Layout, State};
+use picture_layout::{AccessState, Column, Layout, State};
 use markup::Markup;
 use shown_verdict::ShownVerdict;
 use std::alloc::{AllocError, Global};

@@ -4,7 +4,7 @@ ghost use Rattle.std.specs.String.{string_bytes};
 ghost use Rattle.picture.specs.Sheets.{counted_of, heading_of, plural_of, setup_words};
 
 use crate::subjects::Subject;
-use record::Setup;
+use model::Setup;
 use std::alloc::{AllocError, Global};
 
 /// Returns the ending of the word *process* for this number.

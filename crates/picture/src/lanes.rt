@@ -2,12 +2,12 @@
 ghost use Rattle.std.specs.Prelude.{◌≡◌, [], ◌∷◌, map, OnOk};
 ghost use Rattle.picture.specs.Adding.{Draws};
 ghost use Rattle.markup.specs.{reading};
-ghost use Rattle.columns.specs.{knot_of, seen};
+ghost use Rattle.picture_layout.specs.{knot_of, seen};
 ghost use Rattle.picture.specs.Drawings.{axis, axis_line, axis_up_to, chain_shapes, first_inside, gap_words, history_name, inside_since, opening_words, places_behind, seen_band, shade_of, shade_up_to, shades, tick};
 ghost use Rattle.picture.specs.Subjects.{has_history};
 
 use crate::bands::Band;
-use columns::{AXIS, Column, DIGIT, LEFT, RIGHT, room};
+use picture_layout::{AXIS, Column, DIGIT, LEFT, RIGHT, room};
 use markup::{Markup, Point};
 use std::alloc::{AllocError, Global};
 

@@ -27,7 +27,7 @@ mod windowed_page;
 mod windows;
 mod words;
 
-pub use columns::{
+pub use picture_layout::{
     AccessKind, AccessStep, OverlappedRead, RunLine, Saying, ShownAccess, TakenChange, WaveChange,
     stages_are_the_records,
 };

@@ -2,11 +2,11 @@
 ghost use Rattle.std.specs.Prelude.{◌≡◌, ◌≤◌, OnOk};
 ghost use Rattle.picture.specs.Adding.{Draws};
 ghost use Rattle.markup.specs.{reading};
-ghost use Rattle.columns.specs.{seen};
+ghost use Rattle.picture_layout.specs.{seen};
 ghost use Rattle.picture.specs.Drawings.{arrow, arrow_by, distance_of_tip, drop_line, freed_arrow, links, seen_band};
 
 use crate::bands::Band;
-use columns::{Column, Lane};
+use picture_layout::{Column, Lane};
 use markup::{Markup, Point};
 use std::alloc::{AllocError, Global};
 

@@ -2,7 +2,7 @@
 ghost use Rattle.std.specs.Prelude.{◌≡◌, [], ◌∷◌, flat_map, IfOk, OnOk, string_bytes};
 ghost use Rattle.picture.specs.Adding.{Draws, TellsLines};
 ghost use Rattle.markup.specs.{Mark, reading, with_mark};
-ghost use Rattle.columns.specs.{change_told, seen, text_of, texts};
+ghost use Rattle.picture_layout.specs.{change_told, seen, text_of, texts};
 ghost use Rattle.picture.specs.Drawings.{column_shapes, foot_shapes, head_shapes, line_shapes, lines_shapes, mark_said, mark_shape, note_shapes, number_words, pair_words, place_of_row, right_by, rows_of_line, rows_place, seen_band};
 ghost use Rattle.picture.specs.Words.{queue_text, row_class};
 
@@ -10,7 +10,7 @@ use crate::bands::Band;
 use crate::reads::draw_read;
 use crate::signs::{below, draw_sign, moved};
 use crate::words::listed;
-use columns::{Column, RunLine, TextRow};
+use picture_layout::{Column, RunLine, TextRow};
 use markup::{Key, Markup, Point, number, words};
 use std::alloc::{AllocError, Global};
 

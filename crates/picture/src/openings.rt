@@ -2,7 +2,7 @@
 ghost use Rattle.std.specs.Prelude.{◌≡◌, IfOk};
 ghost use Rattle.picture.specs.Bandings.{opening_length, opens_with};
 
-use columns::cut;
+use picture_layout::cut;
 use std::alloc::{AllocError, Global};
 
 /// Returns the words with which the history begins.

@@ -1,7 +1,7 @@
 //! The outlines of a verdict in its band: the column of the bad entry, and the bars and boxes that its lines name.
 ghost use Rattle.std.specs.Prelude.{◌≡◌, ◌<◌, ◌^◌, [], ◌∷◌, flat_map, map, OnOk};
 ghost use Rattle.markup.specs.{reading};
-ghost use Rattle.columns.specs.{seen, seen_accesses, shows_access};
+ghost use Rattle.picture_layout.specs.{seen, seen_accesses, shows_access};
 ghost use Rattle.picture.specs.Adding.{Draws};
 ghost use Rattle.picture.specs.Bars.{point};
 ghost use Rattle.picture.specs.Drawings.{seen_band};
@@ -10,7 +10,7 @@ ghost use Rattle.shown_verdict.specs.{seen_line};
 
 use crate::bands::Band;
 use crate::links::draw_arrow_to;
-use columns::{AXIS, AccessState, Column, DIGIT, LEFT, Lane, event_place, room};
+use picture_layout::{AXIS, AccessState, Column, DIGIT, LEFT, Lane, event_place, room};
 use markup::{Markup, Point};
 use shown_verdict::{FirstBadEntry, Pointer, PointerKind, ShownVerdict};
 use std::alloc::{AllocError, Global};

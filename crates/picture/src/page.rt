@@ -3,7 +3,7 @@ ghost use Rattle.std.specs.Prelude.{◌≡◌, ◌++◌, [], ◌∷◌, codes, I
 ghost use Rattle.picture.specs.Adding.{Begins, FramesBand, GivesLines, all_told};
 ghost use Rattle.markup.specs.{EndsAll, lines_in};
 ghost use Rattle.picture.specs.Bandings.{Accesses, Reads, Tells, band_tag};
-ghost use Rattle.columns.specs.{at_first, no_accesses, nothing_told, seen, stages_told, text_of, told_in};
+ghost use Rattle.picture_layout.specs.{at_first, no_accesses, nothing_told, seen, stages_told, text_of, told_in};
 ghost use Rattle.picture.specs.Pages.{BeginsColumn, DrawsBand, GivesLast, MakesRoom, Passes, Places, Puts, SetsOpening, TakesItem, held_back, lines_of_band, page_of, seen_page, stages_kept};
 ghost use Rattle.picture.specs.Verdicts.{titles_if};
 ghost use Rattle.picture.specs.declared.page.Form.TheVariants as form_variants;
@@ -12,7 +12,7 @@ use crate::bands::{Band, behind};
 use crate::openings::{characters, opening_words};
 use crate::sheets::view;
 use crate::subjects::Subject;
-use columns::{
+use picture_layout::{
     AccessState, Column, Layout, OverlappedRead, Placing, RunLine, ShownAccess, State, stretch,
 };
 use markup::{Key, Markup, Tag, class, words};

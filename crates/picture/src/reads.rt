@@ -8,7 +8,7 @@ ghost use Rattle.picture.specs.Sheets.{height_of_legend};
 use crate::bands::Band;
 use crate::signs::below;
 use crate::windows::Window;
-use columns::{OverlappedRead, event_place};
+use picture_layout::{OverlappedRead, event_place};
 use markup::{Markup, Point};
 use std::alloc::{AllocError, Global};
 

@@ -13,7 +13,7 @@ use crate::reads::{Reads, legend_height};
 use crate::subjects::Subject;
 use bstr::ByteSlice;
 use markup::{Key, Markup, Tag, class, number, words};
-use record::Setup;
+use model::Setup;
 use std::alloc::{AllocError, Global};
 
 /// The top of the first band of one picture.

@@ -4,9 +4,9 @@ ghost use Rattle.picture.specs.Adding.{Draws};
 ghost use Rattle.markup.specs.{reading};
 ghost use Rattle.picture.specs.Signs.{down_by, mark_sign, moved_by, settled_sign, sign, taken_sign};
 
-use columns::{DIGIT, RunLine, Saying, drawn_like, room};
+use picture_layout::{DIGIT, RunLine, Saying, drawn_like, room};
 use markup::{Markup, Point};
-use record::Mark;
+use model::Mark;
 use std::alloc::{AllocError, Global};
 
 /// Draws the sign of a line at a place.

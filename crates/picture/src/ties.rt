@@ -2,12 +2,12 @@
 ghost use Rattle.std.specs.Prelude.{◌≡◌, ◌<◌, ◌^◌, [], ◌∷◌, OnOk};
 ghost use Rattle.picture.specs.Adding.{Draws};
 ghost use Rattle.markup.specs.{reading};
-ghost use Rattle.columns.specs.{seen};
+ghost use Rattle.picture_layout.specs.{seen};
 ghost use Rattle.picture.specs.AccessShapes.{dot, tie, tie_between, tie_to, ties, ties_to};
 
 use crate::bands::Band;
 use crate::signs::moved;
-use columns::{Column, Layout, ShownAccess};
+use picture_layout::{Column, Layout, ShownAccess};
 use markup::{Markup, Point};
 use std::alloc::AllocError;
 

@@ -1,14 +1,14 @@
 //! The box of a verdict below the last band.
 ghost use Rattle.std.specs.Prelude.{◌≡◌, ◌≤◌, ◌<◌, ◌^◌, ◌++◌, [], ◌∷◌, length, map, OnOk};
 ghost use Rattle.markup.specs.{Mark, reading, with_mark};
-ghost use Rattle.columns.specs.{seen_accesses};
+ghost use Rattle.picture_layout.specs.{seen_accesses};
 ghost use Rattle.picture.specs.Adding.{Draws, TellsLines, all_told};
 ghost use Rattle.picture.specs.Drawings.{seen_band};
 ghost use Rattle.picture.specs.Verdicts.{box_at, height_with, judged_shapes, key_of, keys_at, keys_if, line_said, lines_from, lines_height as height_of_lines, ruling_style as style_of_ruling, sentence_at, titles_if, verdict_line, verdict_shapes};
 ghost use Rattle.shown_verdict.specs.{seen_line, seen_verdict, title_of, verdict_titles};
 
 use crate::bands::Band;
-use columns::{AccessState, room};
+use picture_layout::{AccessState, room};
 use markup::{Key, Markup, Point, number};
 use shown_verdict::{FirstBadEntry, ShownVerdict, VerdictLine};
 use std::alloc::{AllocError, Global};

@@ -2,11 +2,11 @@
 ghost use Rattle.std.specs.Prelude.{◌≡◌, ◌≤◌, drop, length, map, OnOk, option_copied};
 ghost use Rattle.picture.specs.Adding.{Draws};
 ghost use Rattle.markup.specs.{reading};
-ghost use Rattle.columns.specs.{change_in, seen, seen_accesses, seen_wave};
+ghost use Rattle.picture_layout.specs.{change_in, seen, seen_accesses, seen_wave};
 ghost use Rattle.picture.specs.WaveShapes.{change_if, change_shapes, level_of, next_change, value_label, wave_from, wave_part, wave_shapes, waves_from};
 
 use crate::bands::Band;
-use columns::{AccessState, Column, LEFT, Wave, WaveChange, characters, room};
+use picture_layout::{AccessState, Column, LEFT, Wave, WaveChange, characters, room};
 use markup::{Markup, Point};
 use std::alloc::AllocError;
 

@@ -1,6 +1,6 @@
 //! A page that draws the entries of a window.
 ghost use Rattle.std.specs.Prelude.{◌≡◌, ◌++◌, [], ◌∷◌, nat_lt, true, IfOk, IfSome, OnOk};
-ghost use Rattle.columns.specs.{text_of};
+ghost use Rattle.picture_layout.specs.{text_of};
 ghost use Rattle.markup.specs.{EndsAll, lines_in};
 ghost use Rattle.picture.specs.Adding.{GivesLines};
 ghost use Rattle.picture.specs.Bandings.{Accesses, Reads, Tells};
@@ -11,7 +11,7 @@ ghost use Rattle.picture.specs.Windows.{GivesRest, GoesOn, TakesIn, held, lines_
 use crate::page::{Form, Page};
 use crate::subjects::Subject;
 use crate::windows::Window;
-use columns::{OverlappedRead, RunLine, ShownAccess};
+use picture_layout::{OverlappedRead, RunLine, ShownAccess};
 use markup::Markup;
 use shown_verdict::ShownVerdict;
 use std::alloc::{AllocError, Global};

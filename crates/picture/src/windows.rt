@@ -2,7 +2,7 @@
 ghost use Rattle.std.specs.Prelude.{◌≡◌, nat_lt};
 ghost use Rattle.picture.specs.Windows.{all_entries, is_up_to, said_before, shows_end, shows_entry, shows_said};
 
-use columns::{RunLine, Saying};
+use picture_layout::{RunLine, Saying};
 
 /// The entries that a picture shows: from one number to another, both included.
 #[derive(Clone, Copy, PartialEq, Eq)]

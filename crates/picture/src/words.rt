@@ -4,14 +4,14 @@ ghost use Rattle.picture.specs.Adding.{Draws};
 ghost use Rattle.std.specs.Fmt.{decimal};
 ghost use Rattle.markup.specs.{drawings, reading};
 ghost use Rattle.picture.specs.Bars.{free_left, is_word, says_word, stretch_at, stretch_word, style_of_word};
-ghost use Rattle.columns.specs.{capped, seen, stands_in};
+ghost use Rattle.picture_layout.specs.{capped, seen, stands_in};
 ghost use Rattle.picture.specs.Words.{group_text, left_reach_of, listed_with, mark_reach, right_reach_of, word_text};
 ghost use Rattle.picture.specs.Drawings.{seen_band, words_of_lane};
 
 use crate::bands::Band;
-use columns::{Column, DIGIT, Group, LEFT, Word, room};
+use picture_layout::{Column, DIGIT, Group, LEFT, Word, room};
 use markup::{Markup, Point};
-use record::{Mark, Stage};
+use model::{Mark, Stage};
 use std::alloc::{AllocError, Global};
 
 /// A stretch of a bar in which one word may be drawn.

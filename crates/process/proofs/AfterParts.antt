@@ -3,10 +3,10 @@ use Rattle.std.proofs.Common.{◌≡◌, ◌≢◌, ℕ, suc, ◌+◌, ◌-◌, 
 use Rattle.std.proofs.Math.Pow.{pow_mono}
 use Rattle.std.proofs.lemmas.Bool.{eq-eqb, ne_eqb}
 use Rattle.std.specs.List.{range_with_len}
-use Rattle.record.specs.declared.access.Field.TheVariants.{Choosing, Ticket}
+use Rattle.model.specs.declared.access.Field.TheVariants.{Choosing, Ticket}
 use Rattle.plain_store.specs.declared.Answer.TheVariants as answer
 use Rattle.plain_store.specs.{Contents, changes}
-use Rattle.record.specs.{Asks, Call, Clears, Part, Refuses, TakesTicket, Version, Wait, WritesImage, first_full, greatest, index_of, max_of, newest_stamp, part_after, processes, reply, to_b, to_c, to_d, to_e, to_g}
+use Rattle.model.specs.{Asks, Call, Clears, Part, Refuses, TakesTicket, Version, Wait, WritesImage, first_full, greatest, index_of, max_of, newest_stamp, part_after, processes, reply, to_b, to_c, to_d, to_e, to_g}
 use Rattle.process.specs.{Holds, IsCall, KeepsPart, ProcessPart, all_from, first_other, other_numbered, others_of, part_at, tickets_seen, versions_seen, waits_from}
 use Rattle.process.specs.declared.part.ProcessPart.TheVariants as at
 use Rattle.process.specs.declared.seen.Seen.{Seen}

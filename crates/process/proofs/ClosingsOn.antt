@@ -1,11 +1,11 @@
 -- A withdrawal and the memory unit's writes advance by their cursor.
 use Rattle.std.proofs.Common.{◌≡◌, ◌==◌, ◌&&◌, Bool, false, cond, List, [], ◌∷◌, refl, sym, ap, ◌∙◌, subst, arith}
 use Rattle.plain_store.specs.declared.Answer.TheVariants.{Withdrawn}
-use Rattle.record.specs.{Closing, Field, Mark, no_ticket, width, write_moved}
-use Rattle.record.specs.declared.access.Field.TheVariants.{Choosing, Ticket}
-use Rattle.record.specs.declared.marks.Mark.TheVariants as mark
-use Rattle.record.specs.Closings as closing
-use Rattle.record.specs.safe_number.{NumberWrite, bits_of_number, new_write}
+use Rattle.model.specs.{Closing, Field, Mark, no_ticket, width, write_moved}
+use Rattle.model.specs.declared.access.Field.TheVariants.{Choosing, Ticket}
+use Rattle.model.specs.declared.marks.Mark.TheVariants as mark
+use Rattle.model.specs.Closings as closing
+use Rattle.model.specs.safe_number.{NumberWrite, bits_of_number, new_write}
 use Rattle.laws.specs.{closes}
 use Rattle.registers.specs.{CursorState, WritesAt, is_over, moved, write_kept, writing}
 use Rattle.registers.proofs.ClosingMoves.{ends, unwritten}

@@ -4,12 +4,12 @@ use Rattle.std.proofs.lemmas.Bool.{cases_eq, eq-eqb, ne_eqb}
 use Rattle.std.specs.Prelude.{IfSome}
 use Rattle.plain_store.specs.{Reply, Setup}
 use Rattle.registers.specs.reader_copies.Runs as copies
-use Rattle.record.specs.{Change, Closing, Field, IsTornOf, begun_run, cut, is_read, named, no_ticket, pending_at, read_at, taken_with, torn_in, torn_run, width, written_at}
-use Rattle.record.specs.declared.access.Field.TheVariants.{Commit, Ticket}
-use Rattle.record.specs.Closings as closing
-use Rattle.record.specs.safe_number.Runs as numbers
-use Rattle.record.proofs.Closing.{ticket_width}
-use Rattle.record.proofs.Ties.{written-width}
+use Rattle.model.specs.{Change, Closing, Field, IsTornOf, begun_run, cut, is_read, named, no_ticket, pending_at, read_at, taken_with, torn_in, torn_run, width, written_at}
+use Rattle.model.specs.declared.access.Field.TheVariants.{Commit, Ticket}
+use Rattle.model.specs.Closings as closing
+use Rattle.model.specs.safe_number.Runs as numbers
+use Rattle.model.proofs.Closing.{ticket_width}
+use Rattle.model.proofs.Ties.{written-width}
 use Rattle.laws.specs.{Closes, is_inside}
 use Rattle.registers.specs.{CursorState, ReadsAt, RegisterName, WritesAt, bit_begun, is_torn, is_writing, made_of_bit, run_at, run_by, settling, torn_bit, write_kept}
 use Rattle.registers.specs.declared.cursor.NumberRun.TheVariants.{Writes}

@@ -1,7 +1,7 @@
 -- The greatest of some numbers, and its first index.
 use Rattle.std.proofs.Common.{◌≡◌, ℕ, ◌+◌, ◌<◌, ◌≤◌, ◌⊎◌, max, fold, cond, List, [], ◌∷◌, length, refl, ap, arith, inl, inr}
 use Rattle.std.proofs.lemmas.Bool.{cases_eq, ne_eqb, eq-eqb}
-use Rattle.record.specs.{index_of}
+use Rattle.model.specs.{index_of}
 
 pub place-here : (n x : ℕ) (xs : List ℕ) → x ≡ n → index_of n (x ∷ xs) ≡ 0
 place-here n x xs same = ap (λ b. cond b 0 (1 + index_of n xs)) (eq-eqb x n same)

@@ -3,8 +3,8 @@ use Rattle.std.proofs.Common.{◌≡◌, ◌<◌, ◌==◌, ℕ, Bool, true, fal
 use Rattle.std.proofs.lemmas.List.{length-map}
 use Rattle.registers.specs.safe_bit.Cell.{Cell}
 use Rattle.plain_store.specs.{Setup}
-use Rattle.record.specs.{Field, width}
-use Rattle.record.specs.safe_number.{number_of_bits}
+use Rattle.model.specs.{Field, width}
+use Rattle.model.specs.safe_number.{number_of_bits}
 use Rattle.registers.specs.{AreOf, lane_number, lane_of}
 use Rattle.registers.proofs.Openings.{register-lane}
 use Rattle.process.specs.{register_held}

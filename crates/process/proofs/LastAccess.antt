@@ -5,8 +5,8 @@ use Rattle.std.proofs.lemmas.List.{get_or_push, length_push}
 use Rattle.registers.specs.safe_bit.declared.moves.Move.TheVariants.{BeginRead, BeginWrite, EndRead, EndWrite}
 use Rattle.registers.specs.reader_copies.{Made, next_write}
 use Rattle.registers.specs.reader_copies.Runs as copies
-use Rattle.record.specs.safe_number.{NumberWrite, write_on}
-use Rattle.record.specs.{Access, Call, Field, Part, Reading, Run, Writing, access_at, access_of, bit_written, ended, ended_with, is_read, next_written, read_at, run_after, written_at}
+use Rattle.model.specs.safe_number.{NumberWrite, write_on}
+use Rattle.model.specs.{Access, Call, Field, Part, Reading, Run, Writing, access_at, access_of, bit_written, ended, ended_with, is_read, next_written, read_at, run_after, written_at}
 use Rattle.registers.specs.{CursorState, IsAtPart, NumberRun, ReadsAt, WritesAt, access_on, bit_begun, last_by_run, run_at, run_by, write_kept}
 use Rattle.registers.specs.Progress as registers
 use Rattle.process.specs.{last_of_read, last_of_run, last_of_write}
@@ -15,7 +15,7 @@ use Rattle.process.specs.{last_of_read, last_of_run, last_of_write}
 
 -- the case of a read
 read-goes : (owner : ℕ) (field : Field) (reader : ℕ) (bits : List Bool) (begun v : Bool) →
-    option_map (access_of owner field) (last_of_read reader (cond begun (bits ++ v ∷ []) bits) (cond begun false true)) ≡ Some (ended_with v (access_of owner field (Rattle.record.specs.Places.next_read reader bits begun)))
+    option_map (access_of owner field) (last_of_read reader (cond begun (bits ++ v ∷ []) bits) (cond begun false true)) ≡ Some (ended_with v (access_of owner field (Rattle.model.specs.Places.next_read reader bits begun)))
 read-goes owner field reader bits false v = refl
 read-goes owner field reader bits true v =
     let long : length (bits ++ v ∷ []) ≡ length bits + 1 = length_push bits v in

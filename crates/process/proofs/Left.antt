@@ -4,11 +4,11 @@ use Rattle.std.proofs.Math.Nat.{mul-suc}
 use Rattle.std.proofs.lemmas.Bool.{ne_eqb, eqb-true}
 use Rattle.std.proofs.lemmas.List.{length_push}
 use Rattle.plain_store.specs.{Command, Setup}
-use Rattle.record.specs.{Call, Mark, Place, Reading, Run, Stage, Writing, bit_written, bits_with, enter, is_fresh, is_last, is_queued, is_waiting_stage, place_after, run_after, width}
-use Rattle.record.specs.reader_copies.Runs as copies
-use Rattle.record.specs.safe_number.{NumberWrite, write_on}
-use Rattle.record.specs.declared.stages.Stage.TheVariants as stage
-use Rattle.record.specs.Parts.{Part, Raises, Asks, TakesTicket, Lowers, Refuses, Waits, AsksCommit, AsksStamp, AsksImage, WritesImage, WritesStamp, WritesCommit, Clears, Over, first_marks, is_over, last_marks, part_after, read_at, stage_of, written_at}
+use Rattle.model.specs.{Call, Mark, Place, Reading, Run, Stage, Writing, bit_written, bits_with, enter, is_fresh, is_last, is_queued, is_waiting_stage, place_after, run_after, width}
+use Rattle.model.specs.reader_copies.Runs as copies
+use Rattle.model.specs.safe_number.{NumberWrite, write_on}
+use Rattle.model.specs.declared.stages.Stage.TheVariants as stage
+use Rattle.model.specs.Parts.{Part, Raises, Asks, TakesTicket, Lowers, Refuses, Waits, AsksCommit, AsksStamp, AsksImage, WritesImage, WritesStamp, WritesCommit, Clears, Over, first_marks, is_over, last_marks, part_after, read_at, stage_of, written_at}
 use Rattle.laws.specs.{Closes, Doing, Lies, Rests, Runs, call, does_then, marks_with, runs}
 use Rattle.process.specs.{ProcessState, is_told, left_at, left_of, marks_on, rest_of, stage_doing, stepped}
 

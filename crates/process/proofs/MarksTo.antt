@@ -2,9 +2,9 @@
 use Rattle.std.proofs.Common.{◌≡◌, ℕ, Bool, true, false, cond, List, [], ◌∷◌, ◌==◌, refl, sym, ap, ◌∙◌}
 use Rattle.plain_store.specs.declared.Answer.TheVariants as answer
 use Rattle.plain_store.specs.{Contents, Reply, changes}
-use Rattle.record.specs.{Call, Mark, Version, Wait, entered_if_none, lets_by, max_of, newest_stamp, processes, reply, store_read, waits_of}
-use Rattle.record.specs.declared.marks.Mark.TheVariants as mark
-use Rattle.record.specs.Parts.{Part, Raises, Asks, TakesTicket, Lowers, Refuses, Waits, AsksCommit, AsksStamp, AsksImage, WritesImage, WritesStamp, WritesCommit, Clears, Over, last_marks, part_after, to_d, to_e, to_g}
+use Rattle.model.specs.{Call, Mark, Version, Wait, entered_if_none, lets_by, max_of, newest_stamp, processes, reply, store_read, waits_of}
+use Rattle.model.specs.declared.marks.Mark.TheVariants as mark
+use Rattle.model.specs.Parts.{Part, Raises, Asks, TakesTicket, Lowers, Refuses, Waits, AsksCommit, AsksStamp, AsksImage, WritesImage, WritesStamp, WritesCommit, Clears, Over, last_marks, part_after, to_d, to_e, to_g}
 use Rattle.process.specs.{ProcessPart, marks_lowered, marks_taken, marks_to, marks_waited, part_at, reads_image, versions_seen}
 use Rattle.process.specs.declared.part.ProcessPart.TheVariants as at
 use Rattle.process.specs.declared.seen.Seen.{Seen}

@@ -7,9 +7,9 @@ use Rattle.std.proofs.lemmas.List.FromFn.{length-map-range_with_len, get_or-map-
 use Rattle.registers.specs.safe_bit.Cell.{Cell, new_cell}
 use Rattle.registers.specs.safe_bit.{Move}
 use Rattle.registers.specs.safe_bit.declared.moves.Move.TheVariants.{BeginRead}
-use Rattle.record.proofs.safe_number.Numbers.{range_same}
+use Rattle.model.proofs.safe_number.Numbers.{range_same}
 use Rattle.plain_store.specs.{Setup}
-use Rattle.record.specs.{Access, copy, field_number, width}
+use Rattle.model.specs.{Access, copy, field_number, width}
 use Rattle.laws.specs.{IsThere}
 use Rattle.registers.specs.{AreOf, RegisterName, cell_at, field_numbered, lane_number, lane_of, lane_of_access, register_number}
 use Rattle.registers.specs.reader_copies.{cell_in}

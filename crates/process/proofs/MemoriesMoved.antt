@@ -5,11 +5,11 @@ use Rattle.std.proofs.lemmas.Simd.{map-map}
 use Rattle.std.specs.List.{range_with_len}
 use Rattle.registers.specs.safe_bit.Cell.{Cell, cell_after, without_read}
 use Rattle.plain_store.specs.{Setup}
-use Rattle.record.specs.{Access, copy, field_number, same_bit, width}
+use Rattle.model.specs.{Access, copy, field_number, same_bit, width}
 use Rattle.laws.specs.{IsThere}
 use Rattle.laws.proofs.FrameCells.{OnCopy, field-same, itself, on-copy}
 use Rattle.registers.specs.{RegisterName, applied, cell_at, field_numbered, lane_number, lane_of, lane_of_access, without_reads}
-use Rattle.record.proofs.reader_copies.Flags.{made-set}
+use Rattle.model.proofs.reader_copies.Flags.{made-set}
 use Rattle.registers.proofs.Openings.{lane-field, lane-in}
 use Rattle.process.specs.{access_there, cells_after, cells_dropped, is_of_reader, lane_with, memory_with}
 use Rattle.process.proofs.Memories.{lane-named, lane-there, named-lane, with-copy, with-lane}

@@ -6,10 +6,10 @@ use Rattle.std.proofs.lemmas.List.FromFn.{get_or-map-range_with_len}
 use Rattle.std.proofs.lemmas.Simd.{map-map}
 use Rattle.registers.specs.safe_bit.Cell.{Cell, new_cell}
 use Rattle.plain_store.specs.{Setup, opening_store}
-use Rattle.record.specs.{Field, field_number, opening_bits, width}
-use Rattle.record.specs.declared.access.Field.TheVariants.{Choosing, Ticket, Commit, Stamp0, Stamp1, Image0, Image1}
-use Rattle.record.specs.safe_number.{bit_in, bits_in}
-use Rattle.record.proofs.safe_number.Numbers.{range_same}
+use Rattle.model.specs.{Field, field_number, opening_bits, width}
+use Rattle.model.specs.declared.access.Field.TheVariants.{Choosing, Ticket, Commit, Stamp0, Stamp1, Image0, Image1}
+use Rattle.model.specs.safe_number.{bit_in, bits_in}
+use Rattle.model.proofs.safe_number.Numbers.{range_same}
 use Rattle.store_image.specs.{image_of}
 use Rattle.registers.specs.{field_numbered, opening_lane, opening_memory}
 use Rattle.process.specs.{cells_opening, lane_with, memory_with}

@@ -8,7 +8,7 @@ use Rattle.std.proofs.lemmas.List.{length-map}
 use Rattle.std.proofs.lemmas.List.FromFn.{length-map-range_with_len, map-range_with_len_more}
 use Rattle.std.specs.List.{range_with_len}
 use Rattle.process.proofs.Greatest.{fold-least, greatest-there, place-here, place-later}
-use Rattle.record.specs.{Version, newest_stamp, newest_process, version_of, index_of}
+use Rattle.model.specs.{Version, newest_stamp, newest_process, version_of, index_of}
 use Rattle.process.specs.{IsNewestWith, newest_version}
 use Rattle.process.specs.declared.newest_version.NewestVersion.{NewestVersion}
 

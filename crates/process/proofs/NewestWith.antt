@@ -5,12 +5,12 @@ use Rattle.std.specs.Prelude.{Ok}
 use Rattle.std.proofs.lemmas.Simd.{map-map}
 use Rattle.registers.specs.safe_bit.Cell.{Cell}
 use Rattle.plain_store.specs.{Setup, callers_of, checked}
-use Rattle.record.specs.{Access, Field, Past, Version, bits_held, bytes_of_bits, cell_after, copy, image_bytes, image_field, newest_bytes, newest_process, stamp_field, version_of, versions_held, width}
-use Rattle.record.specs.declared.access.Field.TheVariants.{Commit}
-use Rattle.record.specs.Newest as record_newest
-use Rattle.record.proofs.Width.{is_good}
-use Rattle.record.specs.safe_number.{number_of_bits}
-use Rattle.record.proofs.safe_number.Numbers.{range_same}
+use Rattle.model.specs.{Access, Field, Past, Version, bits_held, bytes_of_bits, cell_after, copy, image_bytes, image_field, newest_bytes, newest_process, stamp_field, version_of, versions_held, width}
+use Rattle.model.specs.declared.access.Field.TheVariants.{Commit}
+use Rattle.model.specs.Newest as record_newest
+use Rattle.model.proofs.Width.{is_good}
+use Rattle.model.specs.safe_number.{number_of_bits}
+use Rattle.model.proofs.safe_number.Numbers.{range_same}
 use Rattle.store_image.specs.{store_in}
 use Rattle.laws.specs.{cell_held}
 use Rattle.laws.proofs.HeldCells.{held-is}

@@ -2,8 +2,8 @@
 use Rattle.std.proofs.Common.{◌≡◌, ◌+◌, Bool, true, false, List, [], ◌∷◌, Option, None, Some, ℕ, sym, ap, ◌∙◌, arith, ◌⊎◌, inl, inr}
 use Rattle.std.specs.Prelude.{IfSome}
 use Rattle.plain_store.specs.{Reply}
-use Rattle.record.specs.{Access, Mark, no_ticket}
-use Rattle.record.specs.declared.access.Field.TheVariants.{Choosing, Ticket}
+use Rattle.model.specs.{Access, Mark, no_ticket}
+use Rattle.model.specs.declared.access.Field.TheVariants.{Choosing, Ticket}
 use Rattle.laws.specs.{Closes}
 use Rattle.registers.specs.{CursorState, cursor_after, is_fresh, move_by, next_access}
 use Rattle.registers.proofs.ClosingMoves.{ends}

@@ -1,6 +1,6 @@
 -- The next access of a call is one to the register of its part.
 use Rattle.std.proofs.Common.{◌≡◌, Bool, true, false, cond, refl, sym, ap, ◌∙◌}
-use Rattle.record.specs.{is_read, read_at, written_at}
+use Rattle.model.specs.{is_read, read_at, written_at}
 use Rattle.registers.specs.{CursorState, ReadsAt, RegisterName, WritesAt, next_access}
 use Rattle.process.specs.{IsOfRegister, KeepsPlace, PartState, ProcessWork, doing_at, register_at}
 use Rattle.process.specs.declared.work.ProcessWork.TheVariants as work

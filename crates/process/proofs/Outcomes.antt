@@ -1,8 +1,8 @@
 -- The value that a read of a part returned.
 use Rattle.std.proofs.Common.{◌≡◌, ℕ, ◌^◌, ◌<◌, ◌≤◌, Bool, true, false, List, refl, subst, arith}
-use Rattle.record.specs.safe_number.{number_of_bits}
-use Rattle.record.proofs.safe_number.Bits.{number-fits}
-use Rattle.record.specs.{Call, Part, is_read, max_of, read_at, stamp_field, width}
+use Rattle.model.specs.safe_number.{number_of_bits}
+use Rattle.model.proofs.safe_number.Bits.{number-fits}
+use Rattle.model.specs.{Call, Part, is_read, max_of, read_at, stamp_field, width}
 use Rattle.plain_store.specs.{Setup}
 use Rattle.process.specs.{IsOutcome}
 

@@ -1,11 +1,11 @@
 -- A part whose register access is over, and the cursor with which the next part begins.
 use Rattle.std.proofs.Common.{◌≡◌, ℕ, zero, suc, ◌*◌, ◌/◌, ◌%◌, ◌≤◌, ◌==◌, Bool, true, false, cond, not, List, [], ◌∷◌, ◌++◌, get_or, replicate, refl, sym, ap, ◌∙◌, arith}
-use Rattle.record.specs.{Call, Field, image_bytes, image_field, version_of, width}
-use Rattle.record.specs.Parts.{Part, Raises, Asks, TakesTicket, Lowers, Refuses, Waits, AsksCommit, AsksStamp, AsksImage, WritesImage, WritesStamp, WritesCommit, Clears, Over, is_read, last_marks, part_after, read_at, written_at}
+use Rattle.model.specs.{Call, Field, image_bytes, image_field, version_of, width}
+use Rattle.model.specs.Parts.{Part, Raises, Asks, TakesTicket, Lowers, Refuses, Waits, AsksCommit, AsksStamp, AsksImage, WritesImage, WritesStamp, WritesCommit, Clears, Over, is_read, last_marks, part_after, read_at, written_at}
 use Rattle.plain_store.specs.{Setup}
 use Rattle.std.specs.Int.{bit_at}
-use Rattle.record.specs.safe_number.{bit_in, bits_in, number_of_bits}
-use Rattle.record.proofs.safe_number.Numbers.{range_same}
+use Rattle.model.specs.safe_number.{bit_in, bits_in, number_of_bits}
+use Rattle.model.proofs.safe_number.Numbers.{range_same}
 use Rattle.registers.specs.{CursorState, IsDone, entered, reading, writing}
 use Rattle.registers.specs.declared.cursor.NumberRun.TheVariants.{Reads, Writes}
 use Rattle.registers.proofs.CursorRuns.{same-after, same-marks}

@@ -3,7 +3,7 @@ use Rattle.std.proofs.Common.{◌≡◌, ℕ, ◌+◌, ◌*◌, Bool, true, fals
 use Rattle.std.proofs.lemmas.Bool.{cases_eq, eq-eqb, ne_eqb}
 use Rattle.plain_store.specs.{Reply, Setup}
 use Rattle.registers.specs.reader_copies.Runs as copies
-use Rattle.record.specs.{Call, Field, Part, bit_written, is_read, read_at, written_at}
+use Rattle.model.specs.{Call, Field, Part, bit_written, is_read, read_at, written_at}
 use Rattle.laws.specs.{Closes, Doing, Lies, Rests, Runs}
 use Rattle.registers.specs.{CursorState, NumberRun, ReadsAt, WritesAt, bit_begun, made_of_bit, made_of_write, run_at, run_by, write_kept}
 use Rattle.registers.specs.Progress as registers

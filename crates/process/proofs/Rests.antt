@@ -2,9 +2,9 @@
 use Rattle.std.proofs.Common.{◌≡◌, ℕ, ◌-◌, ◌*◌, ◌&&◌, Bool, true, false, cond, get_or, None, Some, sym, ap, ◌∙◌, arith, inl, inr}
 use Rattle.std.proofs.Math.Nat.{mul-sub}
 use Rattle.std.proofs.lemmas.Bool.{cases_eq, eq-eqb, ne_eqb}
-use Rattle.record.specs.reader_copies.{Writing}
-use Rattle.record.specs.{Call, Part, is_read, read_at, written_at}
-use Rattle.record.specs.Places as places
+use Rattle.model.specs.reader_copies.{Writing}
+use Rattle.model.specs.{Call, Part, is_read, read_at, written_at}
+use Rattle.model.specs.Places as places
 use Rattle.registers.specs.{CursorState, IsAtPart, ReadsAt, WritesAt, bit_begun, is_fresh, made_of_bit, rest_by, run_at, run_by}
 use Rattle.registers.specs.Cursors as cursors
 use Rattle.registers.specs.declared.cursor.NumberRun.TheVariants.{Reads, Writes}

@@ -1,8 +1,8 @@
 -- A process that runs its call advances by its cursor.
 use Rattle.std.proofs.Common.{◌≡◌, ◌<◌, ◌&&◌, Bool, true, false, cond, List, [], ◌∷◌, ◌++◌, refl, sym, ap, ◌∙◌, subst}
 use Rattle.std.proofs.lemmas.List.{append-nil}
-use Rattle.record.specs.{Mark, Part, enter, first_marks, is_over, last_marks, part_after}
-use Rattle.record.specs.declared.marks.Mark.TheVariants as mark
+use Rattle.model.specs.{Mark, Part, enter, first_marks, is_over, last_marks, part_after}
+use Rattle.model.specs.declared.marks.Mark.TheVariants as mark
 use Rattle.laws.specs.{Rests, Runs, runs}
 use Rattle.registers.specs.{CursorState, IsAtPart, NumberRun, RegisterName, after_by, entered, marks_moved, move_by, moved, place_at, place_moved}
 use Rattle.registers.specs.Cursors as cursors

@@ -2,7 +2,7 @@
 use Rattle.std.proofs.Common.{◌≡◌, ℕ, ◌+◌, ◌<◌, ◌≤◌, max, Bool, List, [], ◌∷◌, ◌++◌, take, sym, ◌∙◌, subst, arith}
 use Rattle.std.proofs.lemmas.List.{length-set, take_more_set}
 use Rattle.std.proofs.lemmas.List.Sums.{fold-append}
-use Rattle.record.specs.{greatest, max_of}
+use Rattle.model.specs.{greatest, max_of}
 use Rattle.process.specs.{Fit, HasRoom}
 use Rattle.process.specs.declared.seen.Seen.{Seen}
 use Rattle.process.proofs.VersionsSeen.{with_version}

@@ -3,10 +3,10 @@ use Rattle.std.proofs.Common.{◌≡◌, ◌<◌, ◌≤◌, ℕ, zero, suc, ◌
 use Rattle.registers.specs.safe_bit.Cell.{Cell, read_answer}
 use Rattle.registers.specs.safe_bit.{Move}
 use Rattle.registers.specs.safe_bit.declared.moves.Move.TheVariants.{BeginWrite, EndWrite, Settle}
-use Rattle.flicks.specs.{FlickState, after_flick, flick_of}
+use Rattle.choices.specs.{FlickState, after_flick, flick_of}
 use Rattle.registers.specs.reader_copies.{is_open_at}
 use Rattle.plain_store.specs.{Reply, Setup}
-use Rattle.record.specs.{Access, Call, Field, Part, Place, ended, is_over, is_read, read_at, run_after, value_of, width, written_at}
+use Rattle.model.specs.{Access, Call, Field, Part, Place, ended, is_over, is_read, read_at, run_after, value_of, width, written_at}
 use Rattle.laws.specs.{Runs}
 use Rattle.registers.specs.{AreOf, CursorState, Fits, IsAtCopy, IsAtPart, NumberRun, ReadsAt, WritesAt, answered, applied, cell_at, cursor_after, ends_overlapped, is_fresh, is_settling, lane_of_access, move_by, moved, next_access, next_answered, overlapped_of, read_move, run_at, run_of}
 use Rattle.registers.specs.Accesses as registers

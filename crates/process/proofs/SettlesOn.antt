@@ -5,9 +5,9 @@ use Rattle.std.specs.Prelude.{IfSome}
 use Rattle.plain_store.specs.{Reply, Setup}
 use Rattle.registers.specs.safe_bit.declared.moves.Move.TheVariants.{BeginWrite, EndWrite, Settle}
 use Rattle.registers.specs.reader_copies.Runs as copies
-use Rattle.record.specs.declared.access.Field.TheVariants.{Ticket}
-use Rattle.record.specs.Closings as closing
-use Rattle.record.specs.{freeing, is_last_settled, settled_marks}
+use Rattle.model.specs.declared.access.Field.TheVariants.{Ticket}
+use Rattle.model.specs.Closings as closing
+use Rattle.model.specs.{freeing, is_last_settled, settled_marks}
 use Rattle.laws.specs.{Closes}
 use Rattle.registers.specs.{CursorState, after_by, ends_copy, ends_settling, is_over, move_by, moved, settling_kept, value_written}
 use Rattle.registers.specs.declared.cursor.NumberRun.TheVariants.{Settles}

@@ -1,9 +1,9 @@
 -- The effect of a memory on a process, by the values that contracts see.
 use Rattle.std.proofs.Common.{◌≡◌, ◌<◌, ◌≤◌, ℕ, Bool, true, false, cond, List, None, Some, is_some, refl, sym, ap, ◌∙◌, subst, arith}
 use Rattle.registers.specs.safe_bit.Cell.{Cell}
-use Rattle.flicks.specs.{FlickState}
+use Rattle.choices.specs.{FlickState}
 use Rattle.plain_store.specs.{Setup}
-use Rattle.record.specs.{Call, Part, is_over, is_read, read_at, written_at}
+use Rattle.model.specs.{Call, Part, is_over, is_read, read_at, written_at}
 use Rattle.laws.specs.{Closes, Doing, Lies, Rests, Runs, reads_of}
 use Rattle.registers.specs.{AreOf, CursorState, Fits, ReadsAt, WritesAt, first_lane, is_settling, lane_number, next_answered, overlapped_of, rest_of, run_at, run_of, without_reads}
 use Rattle.registers.specs.Accesses as registers

@@ -3,9 +3,9 @@ use Rattle.std.proofs.Common.{◌≡◌, ◌<◌, ℕ, zero, suc, ◌/◌, ◌%�
 use Rattle.std.proofs.lemmas.Nat.Bits.{bit_at-zero}
 use Rattle.std.specs.Int.{bit_at}
 use Rattle.registers.specs.reader_copies.{HasItsValue}
-use Rattle.record.specs.{Change, Field, IsTornOf, Settles, TornBit, is_commit, taken_with, width}
-use Rattle.record.specs.safe_number.{bits_in}
-use Rattle.record.proofs.safe_number.Numbers.{get-bits, length_bits}
+use Rattle.model.specs.{Change, Field, IsTornOf, Settles, TornBit, is_commit, taken_with, width}
+use Rattle.model.specs.safe_number.{bits_in}
+use Rattle.model.proofs.safe_number.Numbers.{get-bits, length_bits}
 use Rattle.laws.specs.{Doing, Closes}
 use Rattle.registers.specs.{settling_from}
 use Rattle.process.specs.declared.work.ProcessWork.TheVariants as work

@@ -1,7 +1,7 @@
 -- The versions that a process has read, by their commit bits and their stamps.
 use Rattle.std.proofs.Common.{◌≡◌, ℕ, ◌+◌, ◌<◌, ◌≤◌, Bool, false, List, [], ◌∷◌, ◌++◌, get_or, length, map, take, refl, sym, ap, ◌∙◌, arith}
 use Rattle.std.proofs.lemmas.List.{get_or-take, length-take-le, take_more_set}
-use Rattle.record.specs.{AsksImage, Call, Version, greatest, image_field, index_of, newest_process, newest_stamp, read_at, version_of}
+use Rattle.model.specs.{AsksImage, Call, Version, greatest, image_field, index_of, newest_process, newest_stamp, read_at, version_of}
 use Rattle.process.specs.{HasRoom, versions, versions_seen}
 use Rattle.process.specs.declared.seen.Seen.{Seen}
 use Rattle.process.proofs.Greatest.{greatest-there}

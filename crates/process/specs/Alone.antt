@@ -1,8 +1,8 @@
 -- Parts of a process's work that run without a whole call, and the facts that their drivers need.
 use Rattle.std.specs.Prelude.{◌≡◌, ℕ, Bool, cond, true, false, [], Option, None, Some}
 use Rattle.plain_store.specs.{Answer, Command, Setup}
-use Rattle.record.specs.{Access, Call, Change, Closing, Field, Place, Settles, TornBit, cut, enter, pending_at, processes, torn_at, torn_closing}
-use Rattle.record.specs.Parts.{Part, Clears, Lowers, Refuses, Waits, is_read, read_at, to_e, written_at}
+use Rattle.model.specs.{Access, Call, Change, Closing, Field, Place, Settles, TornBit, cut, enter, pending_at, processes, torn_at, torn_closing}
+use Rattle.model.specs.Parts.{Part, Clears, Lowers, Refuses, Waits, is_read, read_at, to_e, written_at}
 use Rattle.laws.specs.{Doing, Closes, Runs, call}
 use Rattle.process.specs.Places.{ProcessState}
 

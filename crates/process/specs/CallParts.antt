@@ -1,10 +1,10 @@
 -- A call at one of its parts: the access of the part, the next part, and the marks.
 use Rattle.std.specs.Prelude.{◌≡◌, ◌<◌, ◌≤◌, ℕ, Bool, true, false, List, [], ◌∷◌, length}
 use Rattle.plain_store.specs.declared.Answer.TheVariants as answer
-use Rattle.record.specs.{Call, Mark, width}
-use Rattle.record.specs.declared.marks.Mark.TheVariants as mark
-use Rattle.record.specs.Parts.{Part, Lowers, Refuses, Waits, AsksCommit, AsksImage, WritesImage, WritesCommit, Clears, is_over, is_read, read_at, written_at}
-use Rattle.record.specs.safe_number.{bits_of_number, number_of_bits}
+use Rattle.model.specs.{Call, Mark, width}
+use Rattle.model.specs.declared.marks.Mark.TheVariants as mark
+use Rattle.model.specs.Parts.{Part, Lowers, Refuses, Waits, AsksCommit, AsksImage, WritesImage, WritesCommit, Clears, is_over, is_read, read_at, written_at}
+use Rattle.model.specs.safe_number.{bits_of_number, number_of_bits}
 use Rattle.process.specs.declared.asked.Asked.{Asked}
 use Rattle.process.specs.declared.asked.Asked.TheVariants as asks
 

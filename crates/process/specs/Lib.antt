@@ -1,4 +1,4 @@
-pub use Rattle.flicks.specs as flicks
+pub use Rattle.choices.specs as choices
 pub use Rattle.laws.specs as laws
 pub use Rattle.registers.specs as registers
 pub mod Alone

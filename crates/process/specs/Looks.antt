@@ -1,9 +1,9 @@
 -- Facts about a process that are computed from its work.
 use Rattle.std.specs.Prelude.{ℕ, Bool, ◌&&◌, not, cond, List, [], Option, None, Some, option_map}
 use Rattle.plain_store.specs.{Setup}
-use Rattle.record.specs.safe_number.{number_of_bits}
-use Rattle.record.specs.{Closing, Place, Reading, Run, Settles, Writing, greatest, max_of}
-use Rattle.record.specs.Parts.{Part, Asks, TakesTicket, Lowers, Refuses, is_read}
+use Rattle.model.specs.safe_number.{number_of_bits}
+use Rattle.model.specs.{Closing, Place, Reading, Run, Settles, Writing, greatest, max_of}
+use Rattle.model.specs.Parts.{Part, Asks, TakesTicket, Lowers, Refuses, is_read}
 use Rattle.laws.specs.{Doing, RegisterWrite, Runs, Closes, register_write}
 use Rattle.registers.specs.{register_bytes}
 use Rattle.process.specs.declared.looks.TicketKnown.{TicketKnown}

@@ -3,7 +3,7 @@ use Rattle.std.specs.Prelude.{ℕ, ◌==◌, ◌&&◌, ◌*◌, ◌/◌, ◌%◌
 use Rattle.std.specs.List.{range_with_len}
 use Rattle.registers.specs.safe_bit.Cell.{Cell, cell_after, new_cell, without_read}
 use Rattle.plain_store.specs.{Setup}
-use Rattle.record.specs.{Access, copy, field_number, opening_bit, same_bit, width}
+use Rattle.model.specs.{Access, copy, field_number, opening_bit, same_bit, width}
 use Rattle.registers.specs.{RegisterName, field_numbered}
 
 -- an access to a bit of a lane

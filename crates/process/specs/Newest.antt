@@ -2,9 +2,9 @@
 use Rattle.std.specs.Prelude.{◌≡◌, ℕ, Bool, false, List, [], ◌∷◌, ◌++◌, length, map, slice_index_or}
 use Rattle.registers.specs.safe_bit.Cell.{Cell}
 use Rattle.plain_store.specs.{Contents, Setup, callers_of}
-use Rattle.record.specs.{Field, Version, bytes_of_bits, image_bytes, image_field, newest_process, newest_stamp, processes, stamp_field, version_of}
-use Rattle.record.specs.declared.access.Field.TheVariants.{Commit}
-use Rattle.record.specs.safe_number.{number_of_bits}
+use Rattle.model.specs.{Field, Version, bytes_of_bits, image_bytes, image_field, newest_process, newest_stamp, processes, stamp_field, version_of}
+use Rattle.model.specs.declared.access.Field.TheVariants.{Commit}
+use Rattle.model.specs.safe_number.{number_of_bits}
 use Rattle.store_image.specs.{store_in}
 use Rattle.registers.specs.{values_held}
 use Rattle.process.specs.declared.newest_version.NewestVersion.{NewestVersion}

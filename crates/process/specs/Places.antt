@@ -1,9 +1,9 @@
 -- A process: its work and its last call, and how its events change them.
 use Rattle.std.specs.Prelude.{◌≡◌, ℕ, Bool, true, false, ◌&&◌, ◌==◌, nat_le, cond, if◌then◌else◌, ◌*◌, ◌+◌, ◌-◌, List, [], ◌∷◌, length, Option, None, Some, option_map}
 use Rattle.plain_store.specs.{Command, Setup}
-use Rattle.record.specs.{AsksImage, Call, Change, Event, Mark, Part, Past, Raises, Reading, Refusal, Run, Stage, WritesCommit, Writing, call_number, closing_stage, enter, first_marks, is_call, is_fresh, is_over, last_command, newest_stamp, own, pending_at, read_at, refused_at, stage_at, width, withdrawing}
-use Rattle.record.specs.declared.refusals.Refusal.TheVariants.{CallsFull, Memory}
-use Rattle.record.specs.declared.stages.Stage.TheVariants as stage
+use Rattle.model.specs.{AsksImage, Call, Change, Event, Mark, Part, Past, Raises, Reading, Refusal, Run, Stage, WritesCommit, Writing, call_number, closing_stage, enter, first_marks, is_call, is_fresh, is_over, last_command, newest_stamp, own, pending_at, read_at, refused_at, stage_at, width, withdrawing}
+use Rattle.model.specs.declared.refusals.Refusal.TheVariants.{CallsFull, Memory}
+use Rattle.model.specs.declared.stages.Stage.TheVariants as stage
 use Rattle.laws.specs.{Closes, Doing, Lies, Rests, Runs, call, cut_of, does_then, doing, marks_with}
 
 -- a process: its work and its last call

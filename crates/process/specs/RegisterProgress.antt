@@ -5,8 +5,8 @@ use Rattle.registers.specs.safe_bit.declared.moves.Move.TheVariants.{BeginRead, 
 use Rattle.registers.specs.reader_copies.{Made, next_write}
 use Rattle.registers.specs.reader_copies.Runs as copies
 use Rattle.registers.specs.{made_of_settling, settling_in_all}
-use Rattle.record.specs.safe_number.{NumberWrite}
-use Rattle.record.specs.{Access, Call, Closing, Part, Reading, Run, Settles, Writing, access_of, read_at, width, written_at}
+use Rattle.model.specs.safe_number.{NumberWrite}
+use Rattle.model.specs.{Access, Call, Closing, Part, Reading, Run, Settles, Writing, access_of, read_at, width, written_at}
 use Rattle.laws.specs.{Closes, Doing, RegisterWrite, Runs, accesses_in_all, accesses_made, call, closing_write}
 use Rattle.process.specs.declared.looks.AccessProgress.{AccessProgress}
 

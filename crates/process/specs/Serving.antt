@@ -2,9 +2,9 @@
 use Rattle.std.specs.Prelude.{ℕ, zero, suc, ◌+◌, Bool, if◌then◌else◌, List, None, Some, unwrap_or}
 use Rattle.registers.specs.safe_bit.Cell.{Cell}
 use Rattle.registers.specs.safe_bit.declared.moves.Move.TheVariants.{BeginRead}
-use Rattle.flicks.specs.{FlickState, after_flick, flick_of}
-use Rattle.record.specs.{Access, value_of}
-use Rattle.record.specs.declared.access.Field.TheVariants.{Choosing}
+use Rattle.choices.specs.{FlickState, after_flick, flick_of}
+use Rattle.model.specs.{Access, value_of}
+use Rattle.model.specs.declared.access.Field.TheVariants.{Choosing}
 use Rattle.laws.specs.{next_of, reads_of}
 use Rattle.registers.specs.{answered, applied, ends_overlapped, lane_number, without_reads}
 use Rattle.process.specs.Places.{ProcessState, stepped}

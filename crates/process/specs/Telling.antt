@@ -1,7 +1,7 @@
 -- The effect of an event, and its marks.
 use Rattle.std.specs.Prelude.{ℕ, List, [], ◌∷◌, map, Option, None, Some}
-use Rattle.record.specs.{Act, Mark, placed}
-use Rattle.record.specs.declared.Mark.TheVariants as mark
+use Rattle.model.specs.{Act, Mark, placed}
+use Rattle.model.specs.declared.Mark.TheVariants as mark
 use Rattle.process.specs.declared.told.Effect.{Effect}
 use Rattle.process.specs.declared.told.Effect.TheVariants.{Steps, Calls, Fails, Withdraws, Restarts}
 use Rattle.process.specs.declared.told.EventMade.{EventMade}

@@ -1,9 +1,9 @@
 -- The state of a process, computed from its call, its work and its cursor.
 use Rattle.std.specs.Prelude.{◌≡◌, ◌<◌, ℕ, Bool, true, false, List, [], ◌∷◌, IfSome, Option, None, Some, length, option_map, slice_index_or}
 use Rattle.plain_store.specs.{Reply, Setup}
-use Rattle.record.specs.declared.access.Field.TheVariants.{Choosing, Commit, Ticket}
-use Rattle.record.specs.{Closing, Mark, is_over, no_ticket, pending_at, taken_with, width, written_at}
-use Rattle.record.specs.Closings as closing
+use Rattle.model.specs.declared.access.Field.TheVariants.{Choosing, Commit, Ticket}
+use Rattle.model.specs.{Closing, Mark, is_over, no_ticket, pending_at, taken_with, width, written_at}
+use Rattle.model.specs.Closings as closing
 use Rattle.laws.specs.Doings as doings
 use Rattle.laws.specs.{Doing}
 use Rattle.registers.specs.{CursorState, IsAtPart, NumberRun, WritesAt, is_fresh, is_torn, moved, place_at, settling_kept, write_kept}

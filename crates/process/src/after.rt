@@ -1,8 +1,8 @@
 //! The part after a register access.
 ghost use Rattle.std.specs.Prelude.{◌≡◌, ◌<◌, ◌≤◌, ◌+◌, ◌-◌, ◌==◌, ◌||◌, ◌++◌, ◌∷◌, [], Bool, List, false, length};
 ghost use Rattle.plain_store.specs.{callers_of};
-ghost use Rattle.record.specs.{greatest, is_below, max_of, part_after, to_b, to_c, to_d, to_e, to_g};
-ghost use Rattle.record.specs.safe_number.{number_of_bits};
+ghost use Rattle.model.specs.{greatest, is_below, max_of, part_after, to_b, to_c, to_d, to_e, to_g};
+ghost use Rattle.model.specs.safe_number.{number_of_bits};
 ghost use Rattle.process.specs.CallParts.{IsOutcome, reads_image};
 ghost use Rattle.process.specs.Others.{others_below};
 ghost use Rattle.process.specs.Seen.{Fit, HasRoom, Holds, IsCall, KeepsPart, all_from, call_of, others_of, part_at, tickets_seen, versions_seen, waits_from};

@@ -1,13 +1,13 @@
 //! The register access of a part.
 ghost use Rattle.std.specs.Prelude.{◌≡◌, ◌+◌, ◌<◌, not, take};
-ghost use Rattle.record.specs.{AsksImage, greatest, image_field, newest_stamp, read_at, stamp_field, version_of};
+ghost use Rattle.model.specs.{AsksImage, greatest, image_field, newest_stamp, read_at, stamp_field, version_of};
 ghost use Rattle.process.specs.CallParts.{IsAsked};
 ghost use Rattle.process.specs.Seen.{HasRoom, IsCall, IsChange, KeepsPart, call_of, part_at, versions_seen};
 
 use crate::numbers::{greatest, place_of};
 use crate::part::{ProcessCall, ProcessPart};
 use crate::seen::Seen;
-use record::Field;
+use model::Field;
 
 /// The register access of a part of a call.
 #[derive(Clone, Copy)]

@@ -1,10 +1,10 @@
 //! A call at one of its parts.
 ghost use Rattle.std.specs.Prelude.{◌≡◌, ◌<◌, ◌≤◌, ◌∷◌, [], Bool, IfSome, List, Ok, cond, false, length, option_map, true};
 ghost use Rattle.plain_store.specs.{callers_of, checked};
-ghost use Rattle.record.specs.declared.marks.Mark.TheVariants.{Left};
+ghost use Rattle.model.specs.declared.marks.Mark.TheVariants.{Left};
 ghost use Rattle.laws.specs.{is_inside_at};
-ghost use Rattle.record.specs.{Change, Raises, first_marks, is_over, is_read, last_marks, part_after, pending_at, processes, read_at, stage_of, store_read, taken_with, to_e, width, written_at};
-ghost use Rattle.record.specs.safe_number.{bits_in};
+ghost use Rattle.model.specs.{Change, Raises, first_marks, is_over, is_read, last_marks, part_after, pending_at, processes, read_at, stage_of, store_read, taken_with, to_e, width, written_at};
+ghost use Rattle.model.specs.safe_number.{bits_in};
 ghost use Rattle.store_image.specs.{image_of};
 ghost use Rattle.process.specs.Alone.{answer_at, full_at, ticket_at};
 ghost use Rattle.process.specs.CallParts.{IsAsked, IsOutcome, reads_image, writes_image};
@@ -24,7 +24,7 @@ use crate::seen::Seen;
 use crate::store::applied;
 use crate::told::StepTold;
 use plain_store::{Answer, Command, Reply, Setup};
-use record::{Field, Stage};
+use model::{Field, Stage};
 use std::marker::Model;
 use store_image::Image;
 

@@ -8,7 +8,7 @@ use crate::asked::stamp_field;
 use crate::image::image_read;
 use crate::newest_version::NewestVersion;
 use plain_store::Setup;
-use record::Field;
+use model::Field;
 use registers::{BitMemory, RegisterName};
 use store_image::Image;
 

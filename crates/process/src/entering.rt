@@ -1,7 +1,7 @@
 //! The cursor of a part, at its begin and at its end.
 ghost use Rattle.std.specs.Prelude.{◌≡◌, ◌<◌, ◌≤◌, IfSome, false};
-ghost use Rattle.record.specs.{is_over, last_marks, part_after, width};
-ghost use Rattle.record.specs.safe_number.{bits_of_number, number_of_bits};
+ghost use Rattle.model.specs.{is_over, last_marks, part_after, width};
+ghost use Rattle.model.specs.safe_number.{bits_of_number, number_of_bits};
 ghost use Rattle.registers.specs.{IsDone, entered, writing};
 ghost use Rattle.process.specs.Places.{changes_at};
 ghost use Rattle.process.specs.Seen.{IsCall};
@@ -12,7 +12,7 @@ use crate::call_part::CallPart;
 use crate::image::image_read;
 use crate::told::StepTold;
 use plain_store::pad;
-use record::Field;
+use model::Field;
 use registers::{Cursor, NumberRun, RegisterName};
 
 /// Puts the cursor at the begin of a part.

@@ -1,12 +1,12 @@
 //! The store whose image was read.
 ghost use Rattle.std.specs.Prelude.{◌≡◌, ◌*◌, ◌<◌, ◌≤◌, ℕ, Bool, List, Ok, false, length, slice_index_or};
 ghost use Rattle.plain_store.specs.{callers_of, checked};
-ghost use Rattle.record.specs.{bytes_of_bits, image_bytes};
-ghost use Rattle.record.specs.safe_number.{bit_in};
+ghost use Rattle.model.specs.{bytes_of_bits, image_bytes};
+ghost use Rattle.model.specs.safe_number.{bit_in};
 ghost use Rattle.store_image.specs.{store_in};
 
 use plain_store::Setup;
-use record::{bytes_go_by_their_bits, image_bytes};
+use model::{bytes_go_by_their_bits, image_bytes};
 use store_image::Image;
 
 /// Returns the store whose image was read, bit by bit, as these bytes. Only the first bytes are those of the image. If

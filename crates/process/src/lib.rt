@@ -24,7 +24,7 @@ mod work;
 pub use asked::Asked;
 pub use call_part::CallPart;
 pub use committed::newest;
-pub use flicks::Flicks;
+pub use choices::Flicks;
 pub use looks::{AccessProgress, Settling, TicketKnown};
 pub use newest_version::NewestVersion;
 pub use opening::open_memory;

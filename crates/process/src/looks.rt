@@ -1,6 +1,6 @@
 //! Facts about a process that other code may read.
 
-use record::Field;
+use model::Field;
 
 /// The known facts about the ticket of a process in its doorway.
 #[derive(Clone, Copy)]

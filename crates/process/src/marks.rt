@@ -1,6 +1,6 @@
 //! The outcome of the last access of a part.
 ghost use Rattle.std.specs.Prelude.{◌≡◌, IfSome, None};
-ghost use Rattle.record.specs.{Call};
+ghost use Rattle.model.specs.{Call};
 ghost use Rattle.process.specs.CallParts.{marks_lowered, marks_taken, marks_to};
 ghost use Rattle.process.specs.Seen.{part_at};
 ghost use Rattle.process.specs.Telling.{changes_told, marks_told};

@@ -1,6 +1,6 @@
 //! The newest of the versions that the processes have committed.
 ghost use Rattle.std.specs.Prelude.{◌≡◌, ◌⊎◌, []};
-ghost use Rattle.record.specs.{image_field};
+ghost use Rattle.model.specs.{image_field};
 ghost use Rattle.process.specs.Newest.{IsNewestWith, newest_version};
 
 use crate::asked::image_field;

@@ -1,6 +1,6 @@
 //! The greatest of some numbers, and its index.
 ghost use Rattle.std.specs.Prelude.{◌≡◌, ◌≤◌};
-ghost use Rattle.record.specs.{greatest, index_of, max_of};
+ghost use Rattle.model.specs.{greatest, index_of, max_of};
 
 /// Returns the greatest of some numbers, or 0 if there are none.
 pub(crate) fn greatest(numbers: &[u32]) -> u32

@@ -1,6 +1,6 @@
 //! The state of one process.
 ghost use Rattle.std.specs.Prelude.{◌≡◌, ◌<◌, ℕ, [], IfSome, None, Ok, Some, cond};
-ghost use Rattle.record.specs.{Field, is_queued, is_read, is_waiting_stage, read_at};
+ghost use Rattle.model.specs.{Field, is_queued, is_read, is_waiting_stage, read_at};
 ghost use Rattle.plain_store.specs.{checked};
 ghost use Rattle.laws.specs.{is_inside, reads_of};
 ghost use Rattle.process.specs.Places.{called, changes_pending, may_step, process_after, restarted, stage_doing};
@@ -17,7 +17,7 @@ use crate::call_part::CallPart;
 use crate::entering::enter;
 use crate::work::ProcessWork;
 use plain_store::{Command, Setup};
-use record::{Field, Stage};
+use model::{Field, Stage};
 use registers::Cursor;
 use std::marker::Model;
 

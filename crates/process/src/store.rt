@@ -1,7 +1,7 @@
 //! A call's command and the store that was read.
 ghost use Rattle.std.specs.Prelude.{◌≡◌};
 ghost use Rattle.plain_store.specs.{after, changes};
-ghost use Rattle.record.specs.{caller, reply};
+ghost use Rattle.model.specs.{caller, reply};
 ghost use Rattle.process.specs.Seen.{call_of};
 
 use crate::part::ProcessCall;

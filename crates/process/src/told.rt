@@ -1,10 +1,10 @@
 //! The outcome of a step and the effect of an event.
 ghost use Rattle.std.specs.Prelude.{◌≡◌};
-ghost use Rattle.record.specs.{reply_taken};
+ghost use Rattle.model.specs.{reply_taken};
 ghost use Rattle.process.specs.Telling.{marks_of, marks_told};
 
 use plain_store::{Answer, Command, Reply};
-use record::Access;
+use model::Access;
 
 /// The outcome of a step of a process, or of its memory unit.
 #[derive(Clone, Copy)]

@@ -2,11 +2,11 @@
 use Rattle.std.proofs.Common.{◌≡◌, ◌⊎◌, ℕ, zero, suc, Bool, true, false, cond, List, [], ◌∷◌, ◌++◌, inl, inr, refl, sym, ap, ◌∙◌, subst, Option, Some, None}
 use Rattle.std.specs.Prelude.{fold, option_map}
 use Rattle.plain_store.specs.{Answer, Command, Reply, Setup, changes}
-use Rattle.board.specs.flicks.{FlickState, flick_of}
-use Rattle.record.specs.{Call, Event, Mark, Part, Placed, Refusal, Stage, Taken, Wait, bits_with, entered_if_none, first_marks, is_fresh, is_last, is_over, last_marks, lets_by, place_after, reply, stage_after, stage_of, store_read, waits_of}
-use Rattle.record.specs.declared.marks.Mark.TheVariants as mark
-use Rattle.record.specs.declared.stages.Stage.TheVariants as stage
-use Rattle.record.specs.Parts as part
+use Rattle.board.specs.choices.{FlickState, flick_of}
+use Rattle.model.specs.{Call, Event, Mark, Part, Placed, Refusal, Stage, Taken, Wait, bits_with, entered_if_none, first_marks, is_fresh, is_last, is_over, last_marks, lets_by, place_after, reply, stage_after, stage_of, store_read, waits_of}
+use Rattle.model.specs.declared.marks.Mark.TheVariants as mark
+use Rattle.model.specs.declared.stages.Stage.TheVariants as stage
+use Rattle.model.specs.Parts as part
 use Rattle.board.specs.laws.{Closes, Doing, Lies, Rests, Runs, call, does_then, marks_with}
 use Rattle.board.specs.process.{stage_doing}
 use Rattle.board.specs.Calls.{Calls, and_then, calls_after}
@@ -14,7 +14,7 @@ use Rattle.board.specs.{BoardState, Driven, Drives, EndsWith, IsBegun, IsOf, Loa
 use Rattle.board.specs.declared.driving.Driven.TheVariants as driven
 use Rattle.board.proofs.Leads.{begin_calls}
 use Rattle.board.proofs.Drives.{same_on}
-use Rattle.record.specs.declared.events.Event.TheVariants as event
+use Rattle.model.specs.declared.events.Event.TheVariants as event
 use Rattle.std.specs.Prelude.{OnOk, Result, Ok, Err}
 use Rattle.std.specs.Result.{is_err}
 use Rattle.race.specs.declared.workers.CallReached.TheVariants as reached

@@ -2,7 +2,7 @@
 use Rattle.std.proofs.Common.{◌≡◌, ℕ, List, [], ◌∷◌, ◌++◌, Some, refl, sym, ap, subst, ◌∙◌}
 use Rattle.std.proofs.lemmas.List.{map-append}
 use Rattle.plain_store.specs.{Answer, Command, Setup}
-use Rattle.record.specs.{Placed}
+use Rattle.model.specs.{Placed}
 use Rattle.board.specs.{BoardState, IsOf, OwnView, PortState, SamePort, new_own, stage_in}
 use Rattle.board.specs.Calls.{Calls}
 use Rattle.board.proofs.PortLists.{all_push}

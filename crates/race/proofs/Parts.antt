@@ -6,7 +6,7 @@ use Rattle.std.specs.Fmt.{decimal}
 use Rattle.std.specs.Global.{Vec}
 use Rattle.std.specs.String.{string_bytes}
 use Rattle.plain_store.specs.{Answer, answer_text}
-use Rattle.record.specs.{Placed, lists_of}
+use Rattle.model.specs.{Placed, lists_of}
 use Rattle.scenario.specs.files.{GivesText}
 use Rattle.race.specs.{answer_line, answers_from, list_text}
 

@@ -8,7 +8,7 @@ use Rattle.std.specs.Global.{Vec}
 use Rattle.std.specs.List.{range_with_len}
 use Rattle.plain_store.specs.{Command, Contents}
 use Rattle.race.specs.{IsRaced, called_of, plan_in, plans_in, plans_of}
-use Rattle.record.specs.{Placed}
+use Rattle.model.specs.{Placed}
 use Rattle.scenario.specs.{Line, Script}
 use Rattle.scenario.specs.declared.lines.Line.TheVariants as line
 

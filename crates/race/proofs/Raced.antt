@@ -6,7 +6,7 @@ use Rattle.std.proofs.lemmas.Option.{slice_get_within}
 use Rattle.std.specs.Global.{Vec}
 use Rattle.plain_store.specs.{Command, Contents, Setup, checked}
 use Rattle.plain_store.proofs.GoodSetups.{few-processes}
-use Rattle.record.specs.{Placed, past_of}
+use Rattle.model.specs.{Placed, past_of}
 use Rattle.board.specs.{AreInOrder, AreListsOf, AreMadeWith, AreOfAll, ArePortsOf, AreQuiet, BoardState, EachStandsInRecord, FirstLeaves, PortState, StandsIn, changes_of, new_own}
 use Rattle.race.proofs.Lists.{there}
 use Rattle.race.specs.{AllHaveMade, AreMade, AreNew, IsRaced, plans_of}

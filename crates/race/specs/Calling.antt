@@ -1,13 +1,13 @@
 -- A port that makes one call: the progress of the call, and the port's list of calls after it.
 use Rattle.std.specs.Prelude.{◌≡◌, ℕ, Bool, true, false, ◌∷◌, ◌++◌, [], Option, None, Some, option_map}
 use Rattle.plain_store.specs.{Answer, Command, Setup}
-use Rattle.record.specs.declared.stages.Stage.TheVariants.{Idle}
+use Rattle.model.specs.declared.stages.Stage.TheVariants.{Idle}
 use Rattle.board.specs.laws.{Doing, Rests, Runs}
 use Rattle.board.specs.Calls.{Calls, and_then}
 use Rattle.board.specs.{OwnView, PortState, ViewState, goes, stage_in}
 use Rattle.race.specs.declared.workers.CallReached.{CallReached}
 use Rattle.race.specs.declared.workers.CallReached.TheVariants as reached
-use Rattle.record.specs.{Placed}
+use Rattle.model.specs.{Placed}
 
 -- a process has no call, or runs one: it has not failed and has not withdrawn
 abbrev pub is_uncut : Doing → Bool

@@ -9,7 +9,7 @@ use Rattle.scenario.specs.files.declared.faults.Fault.TheVariants.{Line, Read, W
 use Rattle.scenario.specs.{Script, scenario_of}
 use Rattle.race.specs.Races.{IsRaced}
 use Rattle.call_check.specs.{IsWeighed, Weighed}
-use Rattle.record.specs.{Placed}
+use Rattle.model.specs.{Placed}
 use Rattle.race.specs.declared.running.Report.{Report}
 use Rattle.race.specs.Statuses.{status_of_race}
 use Rattle.race.specs.Texts.{plans_in, race_text}

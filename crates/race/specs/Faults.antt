@@ -1,7 +1,7 @@
 -- The fault of a race, and its consequences for the ports.
 use Rattle.std.specs.Prelude.{◌≡◌, ◌<◌, ◌+◌, ℕ}
 use Rattle.plain_store.specs.{Setup}
-use Rattle.record.specs.declared.stages.Stage.TheVariants.{Down}
+use Rattle.model.specs.declared.stages.Stage.TheVariants.{Down}
 use Rattle.board.specs.{OwnView, stage_in}
 use Rattle.race.specs.declared.faults.RaceFault.{RaceFault}
 use Rattle.race.specs.declared.faults.RaceFault.TheVariants.{Spawn, Held, Memory}

@@ -2,8 +2,8 @@
 use Rattle.std.specs.Prelude.{◌≡◌, ◌≤◌, ℕ, [], vec_capacity, List, length, map, slice_get, Some}
 use Rattle.std.specs.Global.{Vec}
 use Rattle.plain_store.specs.{Answer, Command, Contents, Setup}
-use Rattle.record.specs.{AreGiven, Event, KeepsHeadlineThroughout, Placed, Taken, past_of, store_after}
-use Rattle.record.specs.declared.stages.Stage.TheVariants.{Idle}
+use Rattle.model.specs.{AreGiven, Event, KeepsHeadlineThroughout, Placed, Taken, past_of, store_after}
+use Rattle.model.specs.declared.stages.Stage.TheVariants.{Idle}
 use Rattle.board.specs.{BoardState, Closing, EachStandsInRecord, IsOf, PortState, StandsIn, changes_of, lists_in, new_own, stage_in}
 use Rattle.race.specs.declared.racing.Making.{Making}
 

@@ -5,8 +5,8 @@ use Rattle.std.specs.List.{range_with_len}
 use Rattle.plain_store.specs.{Answer, Command, Contents, Setup, answer_text, show_text}
 use Rattle.scenario.specs.{Line, Script}
 use Rattle.scenario.specs.declared.lines.Line.TheVariants as line
-use Rattle.record.specs.{Placed, lists_of, refusal_line}
-use Rattle.record.specs.declared.refusals.Refusal.TheVariants.{NoProcess}
+use Rattle.model.specs.{Placed, lists_of, refusal_line}
+use Rattle.model.specs.declared.refusals.Refusal.TheVariants.{NoProcess}
 use Rattle.call_check.specs.{Weighed, verdict_text}
 use Rattle.std.specs.Global.{Vec}
 

@@ -3,13 +3,13 @@ ghost use Rattle.std.specs.Prelude.{◌≡◌, ◌++◌, IsOkAnd, None, OnOk, So
 ghost use Rattle.std.specs.String.{string_bytes};
 ghost use Rattle.scenario.specs.files.{GivesText};
 ghost use Rattle.scenario.specs.{script};
-ghost use Rattle.record.specs.{lists_of};
+ghost use Rattle.model.specs.{lists_of};
 ghost use Rattle.race.specs.Texts.{answer_line as line_of_answer, answers_from, call_text, list_text, raced_text, refused_lines as lines_of_refused, refused_text, verdict_line as line_of_verdict};
 
 use board::Image;
 use call_check::Weighed;
 use plain_store::{Answer, NestedTypes, Setup, show_line};
-use record::{Placed, Refusal, refusal_line};
+use model::{Placed, Refusal, refusal_line};
 use scenario::{Line, Scenario};
 use std::alloc::{AllocError, Global};
 

@@ -10,7 +10,7 @@ use crate::faults::RaceFault;
 use crate::gates::{Gate, Moment, passes};
 use board::{Board, Driven, Flicks, Port};
 use plain_store::Command;
-use record::Stage;
+use model::Stage;
 use std::sync::Wait;
 use std::thread;
 

@@ -1,9 +1,9 @@
 -- The state of a bit after one more entry.
 use Rattle.std.proofs.Common.{◌≡◌, ℕ, Bool, true, false, cond, List, [], ◌∷◌, ◌++◌, Option, None, Some, is_some, refl, sym, ap, ◌∙◌}
 use Rattle.plain_store.specs.{Setup}
-use Rattle.record.specs.safe_bit.{Move, is_write_open, last_begun, last_written}
-use Rattle.record.specs.safe_bit.declared.Move.TheVariants.{BeginWrite, EndWrite, BeginRead, EndRead, Settle}
-use Rattle.record.specs.{Access, Mark, Past, move_on, moves_of, opening_bit, same_bit}
+use Rattle.model.specs.safe_bit.{Move, is_write_open, last_begun, last_written}
+use Rattle.model.specs.safe_bit.declared.Move.TheVariants.{BeginWrite, EndWrite, BeginRead, EndRead, Settle}
+use Rattle.model.specs.{Access, Mark, Past, move_on, moves_of, opening_bit, same_bit}
 use Rattle.record_accesses.specs.{BitState, bit_after, bit_of, entry_with, new_bit, writer_of, writer_with, writes}
 use Rattle.record_accesses.proofs.SameBits.{bare, same-bare, same-refl}
 

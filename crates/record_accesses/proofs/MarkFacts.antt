@@ -3,13 +3,13 @@ use Rattle.std.proofs.Common.{◌≡◌, ◌≢◌, ◌⊎◌, ℕ, zero, suc, �
 use Rattle.std.proofs.Math.Seq.{get_or-append_seam}
 use Rattle.std.proofs.lemmas.Bool.{cases_eq, lt-ltb, ne_eqb}
 use Rattle.std.proofs.lemmas.List.{get_or-replicate, get_or_append_left}
-use Rattle.columns.specs.{GivenAccess, ShownAccess, UnendedAccess, given_access, is_any, open_by, open_with, overlapped_if}
-use Rattle.columns.specs.declared.accesses.AccessKind.TheVariants as kind
+use Rattle.picture_layout.specs.{GivenAccess, ShownAccess, UnendedAccess, given_access, is_any, open_by, open_with, overlapped_if}
+use Rattle.picture_layout.specs.declared.accesses.AccessKind.TheVariants as kind
 use Rattle.plain_store.specs.{Setup}
 use Rattle.plain_store.proofs.GoodSetups.{few-processes}
-use Rattle.record.specs.safe_bit.{Move, is_overlapped, is_write_open}
-use Rattle.record.specs.safe_bit.declared.Move.TheVariants.{BeginWrite, EndWrite, BeginRead, EndRead, Settle}
-use Rattle.record.specs.{Access, Mark, Past, moves_of, same_bit}
+use Rattle.model.specs.safe_bit.{Move, is_overlapped, is_write_open}
+use Rattle.model.specs.safe_bit.declared.Move.TheVariants.{BeginWrite, EndWrite, BeginRead, EndRead, Settle}
+use Rattle.model.specs.{Access, Mark, Past, moves_of, same_bit}
 use Rattle.record_accesses.specs.{AreOwnReads, AreShown, IsOwnRead, IsPossible, MarksOverlappedReads, OpenBitAccess, WaveLimit, begins, begins_read, begun_by, box_of, dropped, dropped_as, drops, entry_with, first_overlaps, is_writer, kind_of, left_open, opened, overlaps_by, overlaps_with, possible_access, possible_past, shown_as, shown_made, step_by, watched, watched_by, write_of, writer_of, writer_with, writes_bit}
 use Rattle.record_accesses.specs.declared.watched.Watched.TheVariants.{Made}
 use Rattle.record_accesses.proofs.BitFacts.{writer-open}

@@ -2,7 +2,7 @@
 use Rattle.std.proofs.Common.{◌≡◌, ◌≢◌, ℕ, ◌<◌, Bool, cond, List, [], ◌∷◌, Option, None, get_or, length, replicate, slice_set, refl, sym, ap, ◌∙◌, subst, inl, inr, eq-eqb, length-set, get_or-set_other, get_or-set_same}
 use Rattle.std.proofs.lemmas.Bool.{cases_eq, ne_eqb}
 use Rattle.std.proofs.lemmas.List.{get_or-replicate}
-use Rattle.record.specs.{Access, Mark, Past}
+use Rattle.model.specs.{Access, Mark, Past}
 use Rattle.record_accesses.specs.{HasOpened, OpenBitAccess, begun_by, drops, entry_with, left_open, opened, opened_taken}
 
 pub opened-first : HasOpened (replicate 16 None) []

@@ -1,10 +1,10 @@
 -- What bits open at.
 use Rattle.std.proofs.Common.{◌≡◌, ◌<◌, false, slice_index_or, sym, subst, ◌∙◌}
 use Rattle.plain_store.specs.{Setup, opening_store}
-use Rattle.record.proofs.safe_number.Numbers.{get-bits}
-use Rattle.record.specs.{Access, opening_bit, opening_bits, width}
-use Rattle.record.specs.declared.access.Field.TheVariants.{Image0}
-use Rattle.record.specs.safe_number.{bit_in}
+use Rattle.model.proofs.safe_number.Numbers.{get-bits}
+use Rattle.model.specs.{Access, opening_bit, opening_bits, width}
+use Rattle.model.specs.declared.access.Field.TheVariants.{Image0}
+use Rattle.model.specs.safe_number.{bit_in}
 use Rattle.store_image.specs.{image_of}
 
 -- a bit of the first image of process 0 opens as in the image of the opening store

@@ -10,16 +10,16 @@ use Rattle.laws.proofs.FrameSteps.{closing-writes, entry-by, step_of, valued-wri
 use Rattle.laws.proofs.HeldReads.{place-writes}
 use Rattle.laws.proofs.HeldThere.{access_there}
 use Rattle.plain_store.specs.{Command, Setup}
-use Rattle.record.specs.safe_bit.{Move, is_overlapped, is_write_open, read_value}
-use Rattle.record.specs.safe_bit.declared.Move.TheVariants.{BeginWrite, EndWrite, BeginRead, EndRead, Settle}
-use Rattle.record.specs.{Access, Call, Entry, Event, Past, Place, Reading, Run, Writing, access_at, ended_with, entry_of, last_call, last_start, moves_of, open_run, opening_bit, own, past_of, same_bit, stage, valued, width}
-use Rattle.record.specs.Parts.{Part}
-use Rattle.record.specs.declared.marks.Mark.TheVariants.{Called}
-use Rattle.record.proofs.OpenSteps.{Opens, closed, leaves, place_at, runs_at, settles}
-use Rattle.record.proofs.Singles.{is_write}
-use Rattle.record.proofs.TurnRecords.{opens_all}
-use Rattle.record.proofs.Width.{IsGood, is_good}
-use Rattle.record.proofs.Writer.{EachOwn, each_own, open-own}
+use Rattle.model.specs.safe_bit.{Move, is_overlapped, is_write_open, read_value}
+use Rattle.model.specs.safe_bit.declared.Move.TheVariants.{BeginWrite, EndWrite, BeginRead, EndRead, Settle}
+use Rattle.model.specs.{Access, Call, Entry, Event, Past, Place, Reading, Run, Writing, access_at, ended_with, entry_of, last_call, last_start, moves_of, open_run, opening_bit, own, past_of, same_bit, stage, valued, width}
+use Rattle.model.specs.Parts.{Part}
+use Rattle.model.specs.declared.marks.Mark.TheVariants.{Called}
+use Rattle.model.proofs.OpenSteps.{Opens, closed, leaves, place_at, runs_at, settles}
+use Rattle.model.proofs.Singles.{is_write}
+use Rattle.model.proofs.TurnRecords.{opens_all}
+use Rattle.model.proofs.Width.{IsGood, is_good}
+use Rattle.model.proofs.Writer.{EachOwn, each_own, open-own}
 use Rattle.record_accesses.specs.{AreOwnReads, IsOwnRead, MarksOverlappedReadsOfRuns, opened, possible_access, possible_past, writer_of, writer_with}
 use Rattle.record_accesses.proofs.BitFacts.{writer-open}
 use Rattle.record_accesses.proofs.MarkFacts.{marked, marks-overlapped}

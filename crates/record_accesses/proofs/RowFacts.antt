@@ -11,9 +11,9 @@ use Rattle.std.proofs.lemmas.List.{get_or_append_left}
 use Rattle.std.proofs.lemmas.List.Quantifiers.{position-Some}
 use Rattle.laws.specs.{IsThere}
 use Rattle.plain_store.specs.{Setup}
-use Rattle.record.specs.safe_bit.{Move}
-use Rattle.record.specs.safe_bit.declared.Move.TheVariants.{BeginWrite, EndWrite, BeginRead, EndRead, Settle}
-use Rattle.record.specs.{Access, Mark, Past, opening_bit, same_bit}
+use Rattle.model.specs.safe_bit.{Move}
+use Rattle.model.specs.safe_bit.declared.Move.TheVariants.{BeginWrite, EndWrite, BeginRead, EndRead, Settle}
+use Rattle.model.specs.{Access, Mark, Past, opening_bit, same_bit}
 use Rattle.record_accesses.specs.{BitChange, BitState, BitsState, HasBits, WaveCount, alters, bit_after, bit_of, bits_taken, change_in_row, change_of, entry_with, new_bit, row_in, rows_after, rows_with, state_at, waves_after, waves_since, with_last, writes, written_bits}
 use Rattle.record_accesses.proofs.BitFacts.{bit-cong, bit-made, bit-step, unwritten}
 use Rattle.record_accesses.proofs.SameBits.{bare-same, other-sym, same-bare, same-refl}

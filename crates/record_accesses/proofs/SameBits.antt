@@ -3,7 +3,7 @@ use Rattle.std.proofs.Common.{◌≡◌, true, false, sym, ap, ◌∙◌, true�
 use Rattle.std.proofs.lemmas.Bool.{cases_Bool}
 use Rattle.std.proofs.Common.{inl, inr}
 use Rattle.laws.proofs.FrameCells.{OnCopy, itself, on-copy}
-use Rattle.record.specs.{Access, copy, same_bit}
+use Rattle.model.specs.{Access, copy, same_bit}
 
 -- An access, as far as it names its bit.
 abbrev pub bare : Access → Access

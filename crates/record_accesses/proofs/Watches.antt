@@ -4,7 +4,7 @@ use Rattle.std.proofs.lemmas.Bool.{and_parts, ltb-true}
 use Rattle.std.proofs.lemmas.Bool.Decides.{nat_tests}
 use Rattle.laws.specs.{IsThere}
 use Rattle.plain_store.specs.{Setup}
-use Rattle.record.specs.{Access, Entry, Mark, Past, width}
+use Rattle.model.specs.{Access, Entry, Mark, Past, width}
 use Rattle.record_accesses.specs.{HasBits, HasOpened, HasTaken, HasWatched, IsPossible, WatchState, Watched, OpenBitAccess, WaveLimit, drops, entry_with, is_there, opened_taken, possible_access, possible_past, shown_access, shown_as, watched, watched_of, waves_after, waves_since}
 use Rattle.record_accesses.proofs.OpenFacts.{opened-step, opened-still}
 use Rattle.record_accesses.proofs.RowFacts.{bits-still}

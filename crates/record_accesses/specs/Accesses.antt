@@ -1,16 +1,16 @@
 -- What a picture shows of the accesses of a record, good or bad, by look-backs over a past, whose newest entry comes first.
 use Rattle.std.specs.Prelude.{ℕ, nat_lt, Bool, false, ◌&&◌, List, [], ◌∷◌, cond, length, map, option_map, replicate, Option, None, Some}
 use Rattle.std.specs.Option.{option_map_or}
-use Rattle.columns.specs.{AccessStep, GivenAccess, GivenChange}
+use Rattle.picture_layout.specs.{AccessStep, GivenAccess, GivenChange}
 use Rattle.record_file.specs.scenario.{bit_word}
-use Rattle.columns.specs.declared.accesses.AccessKind.TheVariants as kind
-use Rattle.columns.specs.declared.accesses.AccessStep.TheVariants as step
+use Rattle.picture_layout.specs.declared.accesses.AccessKind.TheVariants as kind
+use Rattle.picture_layout.specs.declared.accesses.AccessStep.TheVariants as step
 use Rattle.plain_store.specs.{Setup}
-use Rattle.record.specs.safe_bit.{Move, is_write_open, last_written}
-use Rattle.record.specs.safe_bit.declared.Move.TheVariants.{BeginWrite, EndWrite, BeginRead, EndRead, Settle}
-use Rattle.record.specs.{Access, Entry, Past, moves_of, opening_bit, width}
+use Rattle.model.specs.safe_bit.{Move, is_write_open, last_written}
+use Rattle.model.specs.safe_bit.declared.Move.TheVariants.{BeginWrite, EndWrite, BeginRead, EndRead, Settle}
+use Rattle.model.specs.{Access, Entry, Past, moves_of, opening_bit, width}
 use Rattle.record_file.specs.{copy_word}
-use Rattle.columns.specs.declared.limits.WaveLimit.{WaveLimit}
+use Rattle.picture_layout.specs.declared.limits.WaveLimit.{WaveLimit}
 use Rattle.record_accesses.specs.declared.opened.OpenBitAccess.{OpenBitAccess}
 use Rattle.record_accesses.specs.declared.watched.DroppedRead.{DroppedRead}
 use Rattle.record_accesses.specs.declared.watched.BitChange.{BitChange}

@@ -1,9 +1,9 @@
 -- The state of a bit, by looking back over the moves that were made on it.
 use Rattle.std.specs.Prelude.{ℕ, Bool, List, [], ◌∷◌, Option, None, Some}
 use Rattle.plain_store.specs.{Setup}
-use Rattle.record.specs.safe_bit.{Move, last_begun, last_written}
-use Rattle.record.specs.safe_bit.declared.Move.TheVariants.{BeginWrite, EndWrite, BeginRead, EndRead, Settle}
-use Rattle.record.specs.{Access, Past, move_on, moves_of, opening_bit}
+use Rattle.model.specs.safe_bit.{Move, last_begun, last_written}
+use Rattle.model.specs.safe_bit.declared.Move.TheVariants.{BeginWrite, EndWrite, BeginRead, EndRead, Settle}
+use Rattle.model.specs.{Access, Past, move_on, moves_of, opening_bit}
 use Rattle.record_accesses.specs.declared.bits.BitState.{BitState}
 
 -- The process whose write of a bit is open after a move of process p, where this one's was open before it.

@@ -2,9 +2,9 @@
 use Rattle.std.specs.Prelude.{◌≡◌, ℕ, ◌<◌, Bool, List, [], ◌∷◌, ◌++◌, cond, get_or, length, slice_set, Option, None, Some}
 use Rattle.laws.specs.{IsThere}
 use Rattle.plain_store.specs.{Setup}
-use Rattle.record.specs.{Access, Entry, Mark, Past, opening_bit}
+use Rattle.model.specs.{Access, Entry, Mark, Past, opening_bit}
 use Rattle.record_accesses.specs.declared.bits.BitState.{BitState}
-use Rattle.columns.specs.declared.limits.WaveLimit.{WaveLimit}
+use Rattle.picture_layout.specs.declared.limits.WaveLimit.{WaveLimit}
 use Rattle.record_accesses.specs.declared.opened.OpenBitAccess.{OpenBitAccess}
 use Rattle.record_accesses.specs.Accesses.{possible_past}
 use Rattle.record_accesses.specs.Bits.{bit_of, new_bit}

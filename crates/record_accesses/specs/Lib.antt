@@ -1,4 +1,4 @@
-pub use Rattle.columns.specs as columns
+pub use Rattle.picture_layout.specs as picture_layout
 pub mod Accesses
 pub mod Bits
 pub mod Keeping
@@ -20,7 +20,7 @@ pub use Rows.{counts_from, row_in, rows_after, rows_with, waves_after, waves_sin
 pub use Waves.{change_in_row, change_of, is_within}
 pub use Words.{arrow, other_than, unlike, words_of}
 pub use declared.bits.BitState.{BitState}
-pub use Rattle.columns.specs.{WaveCount, WaveLimit}
+pub use Rattle.picture_layout.specs.{WaveCount, WaveLimit}
 pub use declared.opened.OpenBitAccess.{OpenBitAccess}
 pub use declared.watched.DroppedRead.{DroppedRead}
 pub use declared.watched.BitChange.{BitChange}

@@ -1,12 +1,12 @@
 -- Which reads columns mark as overlapped.
 use Rattle.std.specs.Prelude.{◌≡◌, ◌<◌, ℕ, true, List, [], ◌∷◌, option_map, Option, None, Some, Ok}
-use Rattle.columns.specs.{ShownAccess, UnendedAccess, given_access, open_with}
-use Rattle.columns.specs.declared.accesses.AccessKind.TheVariants as kind
+use Rattle.picture_layout.specs.{ShownAccess, UnendedAccess, given_access, open_with}
+use Rattle.picture_layout.specs.declared.accesses.AccessKind.TheVariants as kind
 use Rattle.plain_store.specs.{Setup, checked}
-use Rattle.record.specs.safe_bit.{is_overlapped}
-use Rattle.record.specs.safe_bit.declared.Move.TheVariants.{BeginRead}
-use Rattle.record.specs.{Access, Event, Past, moves_of, past_of}
-use Rattle.columns.specs.declared.limits.WaveLimit.{WaveLimit}
+use Rattle.model.specs.safe_bit.{is_overlapped}
+use Rattle.model.specs.safe_bit.declared.Move.TheVariants.{BeginRead}
+use Rattle.model.specs.{Access, Event, Past, moves_of, past_of}
+use Rattle.picture_layout.specs.declared.limits.WaveLimit.{WaveLimit}
 use Rattle.record_accesses.specs.declared.opened.OpenBitAccess.{OpenBitAccess}
 use Rattle.record_accesses.specs.Accesses.{possible_past, shown_access}
 use Rattle.record_accesses.specs.Bits.{writer_of}

@@ -1,9 +1,9 @@
 -- How a picture shows a move.
 use Rattle.std.specs.Prelude.{Bool, true, false}
-use Rattle.columns.specs.{AccessKind}
-use Rattle.columns.specs.declared.accesses.AccessKind.TheVariants as kind
-use Rattle.record.specs.safe_bit.{Move}
-use Rattle.record.specs.safe_bit.declared.Move.TheVariants.{BeginWrite, EndWrite, BeginRead, EndRead, Settle}
+use Rattle.picture_layout.specs.{AccessKind}
+use Rattle.picture_layout.specs.declared.accesses.AccessKind.TheVariants as kind
+use Rattle.model.specs.safe_bit.{Move}
+use Rattle.model.specs.safe_bit.declared.Move.TheVariants.{BeginWrite, EndWrite, BeginRead, EndRead, Settle}
 
 -- The kind of the access that a move begins or ends.
 abbrev pub kind_of : Move → AccessKind

@@ -1,10 +1,10 @@
 -- The access that each process has open, by looking back over a past.
 use Rattle.std.specs.Prelude.{ℕ, ◌==◌, Bool, true, false, ◌&&◌, List, [], ◌∷◌, length, cond, Option, None, Some}
 use Rattle.std.specs.List.{list_any}
-use Rattle.record.specs.safe_bit.{Move}
-use Rattle.record.specs.safe_bit.declared.Move.TheVariants.{BeginRead}
-use Rattle.record.specs.declared.marks.Mark.TheVariants.{Failed, Withdrew}
-use Rattle.record.specs.{Access, Mark, Past, same_bit}
+use Rattle.model.specs.safe_bit.{Move}
+use Rattle.model.specs.safe_bit.declared.Move.TheVariants.{BeginRead}
+use Rattle.model.specs.declared.marks.Mark.TheVariants.{Failed, Withdrew}
+use Rattle.model.specs.{Access, Mark, Past, same_bit}
 use Rattle.record_accesses.specs.declared.opened.OpenBitAccess.{OpenBitAccess}
 use Rattle.record_accesses.specs.Moves.{begins}
 

@@ -1,8 +1,8 @@
 -- The processes whose open accesses an access overlaps as it begins.
 use Rattle.std.specs.Prelude.{ℕ, zero, suc, ◌==◌, Bool, false, ◌||◌, List, [], ◌∷◌, ◌++◌, Option, None, Some}
-use Rattle.record.specs.safe_bit.{Move}
-use Rattle.record.specs.safe_bit.declared.Move.TheVariants.{BeginWrite, EndWrite, BeginRead, EndRead, Settle}
-use Rattle.record.specs.{Access, Past}
+use Rattle.model.specs.safe_bit.{Move}
+use Rattle.model.specs.safe_bit.declared.Move.TheVariants.{BeginWrite, EndWrite, BeginRead, EndRead, Settle}
+use Rattle.model.specs.{Access, Past}
 use Rattle.record_accesses.specs.declared.opened.OpenBitAccess.{OpenBitAccess}
 use Rattle.record_accesses.specs.Bits.{writer_of}
 use Rattle.record_accesses.specs.Opened.{opened, reads_bit}

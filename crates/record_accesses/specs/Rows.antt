@@ -1,7 +1,7 @@
 -- The bits that were written, and the rows of waves: the bits that entries from one number on give a wave.
 use Rattle.std.specs.Prelude.{ℕ, nat_le, Bool, ◌&&◌, List, [], ◌∷◌, ◌++◌, cond, length, Option, None, Some, is_some}
 use Rattle.std.specs.List.{position}
-use Rattle.record.specs.{Access, Past, same_bit}
+use Rattle.model.specs.{Access, Past, same_bit}
 use Rattle.record_accesses.specs.Moves.{alters, writes}
 
 -- The row of the bit of an access, where each row is an access to its own bit.

@@ -1,8 +1,8 @@
 -- The changes of waves, in numbers.
 use Rattle.std.specs.Prelude.{ℕ, nat_lt, Bool, cond, Option, None, Some, option_and_then}
-use Rattle.record.specs.safe_bit.{Move}
-use Rattle.columns.specs.declared.limits.WaveCount.{WaveCount}
-use Rattle.columns.specs.declared.limits.WaveCount.TheVariants.{Sixteen, All}
+use Rattle.model.specs.safe_bit.{Move}
+use Rattle.picture_layout.specs.declared.limits.WaveCount.{WaveCount}
+use Rattle.picture_layout.specs.declared.limits.WaveCount.TheVariants.{Sixteen, All}
 use Rattle.record_accesses.specs.declared.watched.BitChange.{BitChange}
 use Rattle.record_accesses.specs.Moves.{alters}
 

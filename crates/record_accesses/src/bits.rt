@@ -2,7 +2,7 @@
 ghost use Rattle.std.specs.Prelude.{◌≡◌};
 ghost use Rattle.record_accesses.specs.Bits.{bit_after, new_bit};
 
-use record::Move;
+use model::Move;
 
 /// What the moves of one bit leave, as far as a picture shows it.
 #[derive(Clone, Copy)]

@@ -56,7 +56,7 @@ mod words;
 mod written_bits;
 
 pub use boxes::boxes_show_overlapped_reads;
-pub use columns::{WaveCount, WaveLimit};
+pub use picture_layout::{WaveCount, WaveLimit};
 pub use opened::drops_open_read;
 pub use plain_store;
 pub use watch::RecordAccessWatch;

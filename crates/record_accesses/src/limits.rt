@@ -2,7 +2,7 @@
 ghost use Rattle.std.specs.Prelude.{◌≡◌};
 ghost use Rattle.record_accesses.specs.Waves.{is_within};
 
-use columns::WaveCount;
+use picture_layout::WaveCount;
 
 /// Returns whether the wave in a row is shown. A picture has rows for 65,536 waves.
 pub(crate) fn has_row(count: WaveCount, row: usize) -> bool

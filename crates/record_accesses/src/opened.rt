@@ -4,7 +4,7 @@ ghost use Rattle.record_accesses.specs.Keeping.{opened_taken};
 ghost use Rattle.record_accesses.specs.Opened.{begins_read as is_begin_of_read, begun_by, dropped, drops as is_dropping, drops_read as is_drop, left_open, read_of, reads_bit, write_of, writes_bit};
 
 use crate::moves::begins;
-use record::{Access, Mark, Move};
+use model::{Access, Mark, Move};
 use std::marker::Model;
 
 /// An access that is open, and the number of the entry with which it began.

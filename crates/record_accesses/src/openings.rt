@@ -2,11 +2,11 @@
 ghost use Rattle.std.specs.Prelude.{◌≡◌, ◌≤◌, IfOk, Ok, nat_lt};
 ghost use Rattle.laws.specs.{IsThere};
 ghost use Rattle.plain_store.specs.{checked};
-ghost use Rattle.record.specs.{opening_bit};
+ghost use Rattle.model.specs.{opening_bit};
 ghost use Rattle.record_accesses.specs.Accesses.{is_there as exists, possible_access};
 
 use plain_store::{Setup, opened};
-use record::{Access, Field, bit_of, width_of};
+use model::{Access, Field, bit_of, width_of};
 use std::alloc::AllocError;
 use std::marker::Model;
 use store_image::Image;

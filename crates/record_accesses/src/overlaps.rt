@@ -3,10 +3,10 @@ ghost use Rattle.std.specs.Prelude.{◌≡◌};
 ghost use Rattle.record_accesses.specs.Keeping.{HasOpened};
 ghost use Rattle.record_accesses.specs.Overlaps.{first_overlaps, is_writer, overlaps_by};
 ghost use Rattle.record_accesses.specs.Bits.{writer_of};
-ghost use Rattle.record.specs.{Past};
+ghost use Rattle.model.specs.{Past};
 
 use crate::opened::{OpenAccesses, OpenBitAccess, is_read_of};
-use record::{Access, Move};
+use model::{Access, Move};
 
 /// Returns the processes whose open accesses an access overlaps, where `writer` is the process whose write of its bit is open.
 pub(crate) fn overlaps(opened: &OpenAccesses, access: &Access, writer: Option<u8>) -> [bool; 16]

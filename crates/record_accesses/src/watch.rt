@@ -1,15 +1,15 @@
 //! The watch of the accesses of a record.
 ghost use Rattle.std.specs.Prelude.{◌≡◌, ◌<◌, ◌∷◌, [], Bool, IfOk, IfSome, List, None, Ok, OnOk, Some, length, option_map};
-ghost use Rattle.columns.specs.{given_access};
+ghost use Rattle.picture_layout.specs.{given_access};
 ghost use Rattle.plain_store.specs.{checked};
 ghost use Rattle.plain_store.specs.declared.setups.Setup.{Setup as Given};
-ghost use Rattle.record.specs.{Entry as Noted, Mark as Marked, Past};
+ghost use Rattle.model.specs.{Entry as Noted, Mark as Marked, Past};
 ghost use Rattle.laws.specs.{IsThere};
 ghost use Rattle.record_accesses.specs.Accesses.{possible_access, shown_access, shown_as, watched, watched_by};
 ghost use Rattle.record_accesses.specs.Keeping.{HasBits, HasOpened, HasTaken, HasWatched, IsPossible, OfTaken, entry_with};
 ghost use Rattle.record_accesses.specs.Opened.{drops as is_dropping};
 ghost use Rattle.record_accesses.specs.Rows.{waves_after};
-ghost use Rattle.columns.specs.declared.limits.WaveLimit.{WaveLimit as Limit};
+ghost use Rattle.picture_layout.specs.declared.limits.WaveLimit.{WaveLimit as Limit};
 
 use crate::opened::{OpenAccesses, dropped_read, drops_open_read};
 use crate::openings::Openings;
@@ -17,9 +17,9 @@ use crate::overlaps::overlaps;
 use crate::watched::{DroppedRead, Watched, WatchedBitAccess, begin, change, step};
 use crate::wave_rows::BitWaves;
 use crate::written_bits::WrittenBits;
-use columns::{ShownAccess, WaveLimit};
+use picture_layout::{ShownAccess, WaveLimit};
 use plain_store::Setup;
-use record::{Access, Entry, Mark};
+use model::{Access, Entry, Mark};
 use std::alloc::{AllocError, Global};
 use std::marker::Model;
 

@@ -1,11 +1,11 @@
 //! The rows of waves: the bits that entries from one number on give a wave.
 ghost use Rattle.std.specs.Prelude.{◌≡◌, ◌≤◌, ◌&&◌, [], IfOk, None, OnOk, cond, nat_le, true};
-ghost use Rattle.record.specs.{Past};
+ghost use Rattle.model.specs.{Past};
 ghost use Rattle.record_accesses.specs.Moves.{alters as is_altering};
 ghost use Rattle.record_accesses.specs.Rows.{row_in, waves_since, waves_with, written_bits};
 
 use crate::moves::alters;
-use record::Access;
+use model::Access;
 use std::alloc::{AllocError, Global};
 use std::marker::Model;
 
@@ -18,7 +18,7 @@ pub(crate) struct BitWaves {
 
 impl Model for BitWaves {
     ghost use Rattle.std.specs.Prelude.{List};
-    ghost use Rattle.record.specs.{Access as BitAccess};
+    ghost use Rattle.model.specs.{Access as BitAccess};
 
     ghost Value = { List BitAccess };
 

@@ -1,6 +1,6 @@
 //! What is shown of an entry, in words.
 ghost use Rattle.std.specs.Prelude.{◌≡◌, ◌++◌, codes, IfOk, OnOk, option_map};
-ghost use Rattle.columns.specs.{given_access, given_change};
+ghost use Rattle.picture_layout.specs.{given_access, given_change};
 ghost use Rattle.record_file.specs.scenario.{bit_word};
 ghost use Rattle.record_file.specs.{copy_word};
 ghost use Rattle.record_accesses.specs.Accesses.{shown_as, shown_change, shown_dropped, shown_made};
@@ -8,8 +8,8 @@ ghost use Rattle.record_accesses.specs.Words.{unlike, words_of};
 
 use crate::moves::kind;
 use crate::watched::{BitChange, DroppedRead, Watched, WatchedBitAccess};
-use columns::{AccessKind, AccessStep, ShownAccess, WaveChange};
-use record::{Access, Move};
+use picture_layout::{AccessKind, AccessStep, ShownAccess, WaveChange};
+use model::{Access, Move};
 use std::alloc::{AllocError, Global};
 
 impl Watched {

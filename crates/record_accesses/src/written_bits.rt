@@ -5,7 +5,7 @@ ghost use Rattle.record_accesses.specs.Rows.{row_in};
 
 use crate::bits::BitState;
 use crate::moves::writes;
-use record::Access;
+use model::Access;
 use std::alloc::{AllocError, Global};
 use std::marker::Model;
 

@@ -7,7 +7,7 @@ use Rattle.std.specs.Result.{is_ok}
 use Rattle.std.specs.Str.{bytes_eq}
 use Rattle.safe_bit.specs.{Move}
 use Rattle.safe_bit.specs.declared.Move.TheVariants as move
-use Rattle.record.specs.{Access, Field}
+use Rattle.model.specs.{Access, Field}
 use Rattle.files.specs.{FaultKind, KeyWord, counted, fault_if, known, word, ◌>>=◌}
 use Rattle.files.specs.declared.faults.FaultKind.TheVariants.{NotFirst, Unknown}
 use Rattle.scenario.specs.{BitWord, Heading, Opener, a_process, are_operands, begun as begun_head, bit_at, bit_word_of, bit_words, fault_of, fits_form, has_form, has_row, heading_read, heads, is_operand, is_phrase, number_at, one_bit_of, open_read, opener_of, openers}

@@ -7,7 +7,7 @@ use Rattle.std.specs.Fmt.{decimal}
 use Rattle.std.specs.List.{list_all}
 use Rattle.std.specs.Str.{bytes_eq}
 use Rattle.files.specs.{begins_with, known, statement_read, words_of, words_read, ◌>>=◌}
-use Rattle.record.specs.{Entry}
+use Rattle.model.specs.{Entry}
 use Rattle.scenario.specs.{are_digits, opener_of, spaced}
 use Rattle.scenario.proofs.Numerals.{own}
 use Rattle.scenario.proofs.Spaced.{words_of_spaced}

@@ -1,12 +1,12 @@
 -- The marks of a step are few, and take little room.
 use Rattle.std.proofs.Common.{◌≡◌, ℕ, suc, ◌+◌, ◌≤◌, ◌&&◌, not, if◌then◌else◌, Bool, true, false, cond, List, [], ◌∷◌, ◌++◌, length, map, Option, Some, None, refl, sym, ap, subst, arith}
-use Rattle.record.specs.reader_copies.Runs as copies
+use Rattle.model.specs.reader_copies.Runs as copies
 use Rattle.plain_store.specs.{Reply, changes}
 use Rattle.plain_store.specs.declared.Answer.TheVariants as answer
-use Rattle.record.specs.Closings.{Closing, Withdraws, Settles, Frees, Lowers, Quit, Ended, closing_next, is_last_settled, is_last_written, is_unwritten, no_ticket, settled_marks}
-use Rattle.record.specs.{AsksImage, Call, Clears, Mark, Next, Part, Place, Refuses, Wait, Waits, WritesCommit, bits_with, entered_if_none, first_marks, is_fresh, is_last, last_marks, lets_by, marks_of, placed, reply, store_read, waits_of}
-use Rattle.record.specs.Parts as part
-use Rattle.record.specs.declared.marks.Mark.TheVariants.{Called, Waiting, Entered, Taken, Left, Answered, Failed, Settled, Down, Withdrew, Restarted}
+use Rattle.model.specs.Closings.{Closing, Withdraws, Settles, Frees, Lowers, Quit, Ended, closing_next, is_last_settled, is_last_written, is_unwritten, no_ticket, settled_marks}
+use Rattle.model.specs.{AsksImage, Call, Clears, Mark, Next, Part, Place, Refuses, Wait, Waits, WritesCommit, bits_with, entered_if_none, first_marks, is_fresh, is_last, last_marks, lets_by, marks_of, placed, reply, store_read, waits_of}
+use Rattle.model.specs.Parts as part
+use Rattle.model.specs.declared.marks.Mark.TheVariants.{Called, Waiting, Entered, Taken, Left, Answered, Failed, Settled, Down, Withdrew, Restarted}
 
 -- the most bytes that a mark takes in a line: its sign and its words, each with a space
 abbrev pub room_of : Mark → ℕ

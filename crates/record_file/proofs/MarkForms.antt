@@ -9,8 +9,8 @@ use Rattle.plain_store.specs.{Command}
 use Rattle.plain_store.specs.declared.commands.Command.TheVariants as command
 use Rattle.plain_store.specs.declared.commands.Answer.TheVariants as answer
 use Rattle.plain_store.specs.declared.commands.Reply.TheVariants as reply
-use Rattle.record.specs.{Mark}
-use Rattle.record.specs.declared.marks.Mark.TheVariants as mark
+use Rattle.model.specs.{Mark}
+use Rattle.model.specs.declared.marks.Mark.TheVariants as mark
 use Rattle.files.specs.{FaultKind, counted, known, word, ◌>>=◌}
 use Rattle.scenario.specs.{Operand, Verb, a_process, are_operands, bit_at, command_of, commands, fault_of, fits_form, has_form, integer_at, is_operand, name_at, number_at, one_bit_of, operand_count, value_at, verb_of, verbs}
 use Rattle.scenario.specs.declared.forms.Operand.TheVariants as operand

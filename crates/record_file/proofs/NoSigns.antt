@@ -9,13 +9,13 @@ use Rattle.std.specs.Fmt.{decimal, signed_decimal}
 use Rattle.std.specs.List.{list_all}
 use Rattle.safe_bit.specs.{Move}
 use Rattle.safe_bit.specs.declared.Move.TheVariants as move
-use Rattle.record.specs.{Access, Mark}
+use Rattle.model.specs.{Access, Mark}
 use Rattle.plain_store.specs.{Answer, Command, Reply, Value, fits_i64, is_command, is_name, is_value, value_text}
 use Rattle.plain_store.specs.declared.commands.Answer.TheVariants as answer
 use Rattle.plain_store.specs.declared.commands.Command.TheVariants as command
 use Rattle.plain_store.specs.declared.commands.Reply.TheVariants as reply
 use Rattle.plain_store.specs.declared.commands.Value.TheVariants.{Count, Text}
-use Rattle.record.specs.declared.marks.Mark.TheVariants as mark
+use Rattle.model.specs.declared.marks.Mark.TheVariants as mark
 use Rattle.scenario.specs.{are_digits, command_words}
 use Rattle.scenario.proofs.Numerals.{own}
 use Rattle.record_file.specs.{access_words, answer_words, is_access, is_answer, is_mark, is_reply, is_sign, mark_words, move_words, reply_words}

@@ -4,7 +4,7 @@ use Rattle.std.proofs.lemmas.Bool.{and_parts}
 use Rattle.std.proofs.lemmas.List.Splits.{slice_split_none, slice_split_at}
 use Rattle.std.proofs.lemmas.Slice.Eq.{bytes_eq-Decides}
 use Rattle.std.specs.List.{All, list_all, onto_first}
-use Rattle.record.specs.{Mark}
+use Rattle.model.specs.{Mark}
 use Rattle.record_file.specs.{is_sign, mark_words, parts_of, signed_words}
 
 -- a part after its sign

@@ -1,12 +1,12 @@
 -- The text that `format!` puts together is the printed text.
 use Rattle.std.proofs.Common.{◌≡◌, ℕ, ◌+◌, ◌<◌, true, false, List, [], ◌∷◌, ◌++◌, length, drop, get_or, flat_map, codes, Some, None, refl, ap, sym, ◌∙◌, append_assoc, append-nil}
 use Rattle.std.specs.Fmt.{decimal}
-use Rattle.record.specs.{Access, Entry, Mark, mark_text}
+use Rattle.model.specs.{Access, Entry, Mark, mark_text}
 use Rattle.plain_store.specs.{Answer, Command, Reply, answer_text, command_text, reply_text}
 use Rattle.plain_store.specs.declared.commands.Answer.TheVariants as answer
 use Rattle.plain_store.specs.declared.commands.Command.TheVariants as command
 use Rattle.plain_store.specs.declared.commands.Reply.TheVariants as reply
-use Rattle.record.specs.declared.marks.Mark.TheVariants as mark
+use Rattle.model.specs.declared.marks.Mark.TheVariants as mark
 use Rattle.scenario.specs.{command_words, spaced}
 use Rattle.scenario.proofs.Places.{drop_in}
 use Rattle.record_file.specs.{access_words, answer_words, behind_spaces, dotted_field, entry_line, mark_words, move_words, reply_words, signed_words, step_entry}

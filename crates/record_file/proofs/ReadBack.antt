@@ -10,15 +10,15 @@ use Rattle.std.specs.List.{All, list_all}
 use Rattle.std.specs.Option.{ok_or}
 use Rattle.safe_bit.specs.{Move}
 use Rattle.safe_bit.specs.declared.Move.TheVariants as move
-use Rattle.record.specs.{Access, Entry, Field, Mark, field_word}
-use Rattle.record.specs.declared.access.Field.TheVariants.{Choosing, Ticket, Commit, Stamp0, Stamp1, Image0, Image1}
+use Rattle.model.specs.{Access, Entry, Field, Mark, field_word}
+use Rattle.model.specs.declared.access.Field.TheVariants.{Choosing, Ticket, Commit, Stamp0, Stamp1, Image0, Image1}
 use Rattle.plain_store.specs.{Answer, Command, Reply, fits_i64, is_command, is_name, value_text}
 use Rattle.plain_store.specs.declared.commands.Answer.TheVariants as answer
 use Rattle.plain_store.specs.declared.commands.Command.TheVariants as command
 use Rattle.plain_store.specs.declared.commands.Reply.TheVariants as reply
 use Rattle.files.specs.{FaultKind, counted, fault_if, known, ◌>>=◌}
 use Rattle.files.specs.declared.faults.FaultKind.TheVariants.{Words, Number}
-use Rattle.record.specs.declared.marks.Mark.TheVariants as mark
+use Rattle.model.specs.declared.marks.Mark.TheVariants as mark
 use Rattle.scenario.specs.{BitWord, Verb, are_digits, bit_word, bit_word_of, command_of, number_at, operand_count, verb_in, verb_of}
 use Rattle.scenario.specs.declared.bit_files.BitWord.TheVariants as bits
 use Rattle.scenario.specs.declared.keywords.Verb.TheVariants as verb

@@ -12,7 +12,7 @@ use Rattle.plain_store.proofs.GoodSetups.{IsGood, few-opening, good-checked}
 use Rattle.plain_store.specs.{Pair, Setup, are_pairs, checked, is_pair, names_differ, value_text}
 use Rattle.files.specs.{FaultKind, LineFault, at_line, fault_if, is_said, lines, words_of, words_read, ◌>>=◌}
 use Rattle.files.specs.declared.faults.FaultKind.TheVariants.{TooLong, Unknown}
-use Rattle.record.specs.{Entry}
+use Rattle.model.specs.{Entry}
 use Rattle.scenario.specs.{Given, Heading, Progress as Head, and_given, default_setup, heading_read, heading_words, headings_differ, headings_of, is_given, most_of, none_given, open_read, open_words, printed_line, spaced, with_heading, with_headings, with_pair}
 use Rattle.scenario.specs.declared.keywords.Heading.TheVariants.{Processes, Tickets, Stamps, Slots}
 use Rattle.scenario.proofs.HeadingLists.{all_given, are_free, are_others, free_more, heading_in, heading_keeps, number_kept, number_set, version_keeps}

@@ -3,13 +3,13 @@ use Rattle.std.proofs.Common.{◌≡◌, ℕ, ◌^◌, ◌&&◌, not, nat_lt, if
 use Rattle.std.proofs.lemmas.Bool.{and_from, and_parts}
 use Rattle.std.proofs.lemmas.List.Folds.{list_all-append}
 use Rattle.std.specs.List.{list_all}
-use Rattle.record.specs.reader_copies.Runs as copies
+use Rattle.model.specs.reader_copies.Runs as copies
 use Rattle.plain_store.specs.{Reply, changes}
 use Rattle.plain_store.specs.declared.Answer.TheVariants as answer
-use Rattle.record.specs.Closings.{Closing, Withdraws, Settles, Frees, Lowers, Quit, Ended, closing_next, is_last_settled, is_last_written, is_unwritten, no_ticket, settled_marks}
-use Rattle.record.specs.{AsksImage, Call, Clears, Mark, Next, Part, Place, Refuses, Wait, Waits, WritesCommit, bits_with, caller, entered_if_none, first_marks, is_fresh, is_last, last_marks, lets_by, marks_of, placed, reply, store_read, waits_of}
-use Rattle.record.specs.Parts as part
-use Rattle.record.specs.declared.marks.Mark.TheVariants.{Called, Waiting, Taken, Left, Answered, Down}
+use Rattle.model.specs.Closings.{Closing, Withdraws, Settles, Frees, Lowers, Quit, Ended, closing_next, is_last_settled, is_last_written, is_unwritten, no_ticket, settled_marks}
+use Rattle.model.specs.{AsksImage, Call, Clears, Mark, Next, Part, Place, Refuses, Wait, Waits, WritesCommit, bits_with, caller, entered_if_none, first_marks, is_fresh, is_last, last_marks, lets_by, marks_of, placed, reply, store_read, waits_of}
+use Rattle.model.specs.Parts as part
+use Rattle.model.specs.declared.marks.Mark.TheVariants.{Called, Waiting, Taken, Left, Answered, Down}
 use Rattle.record_file.specs.{is_mark, is_reply}
 use Rattle.record_file.proofs.SoundReplies.{read_sound, reply_sound}
 use Rattle.record_file.proofs.SoundParts.{is_sound_closing, is_sound_part, is_sound_taken}

@@ -3,13 +3,13 @@ use Rattle.std.proofs.Common.{◌≡◌, ℕ, zero, suc, ◌+◌, ◌≤◌, ◌
 use Rattle.std.proofs.lemmas.Bool.{and_from, and_parts}
 use Rattle.std.proofs.lemmas.Bool.Decides.{nat_tests}
 use Rattle.std.specs.List.{list_all, range_with_len}
-use Rattle.record.specs.{Access, Asks, AsksCommit, AsksImage, AsksStamp, Call, Clears, Field, Over, Part, Past, Place, Raises, Refuses, TakesTicket, Version, Wait, Waits, WritesCommit, WritesImage, WritesStamp, bits_with, caller, enter, first_full, greatest, index_of, is_called, is_commit, is_last, last_read, last_write, lets_by, max_of, newest_stamp, others, part_after, place_after, processes, read_so_far, reply, run_after, since, store_read, to_b, to_c, to_d, to_e, to_g, unfinished, waits_of, write_moved}
-use Rattle.record.specs.safe_number.{new_write, number_of_bits}
+use Rattle.model.specs.{Access, Asks, AsksCommit, AsksImage, AsksStamp, Call, Clears, Field, Over, Part, Past, Place, Raises, Refuses, TakesTicket, Version, Wait, Waits, WritesCommit, WritesImage, WritesStamp, bits_with, caller, enter, first_full, greatest, index_of, is_called, is_commit, is_last, last_read, last_write, lets_by, max_of, newest_stamp, others, part_after, place_after, processes, read_so_far, reply, run_after, since, store_read, to_b, to_c, to_d, to_e, to_g, unfinished, waits_of, write_moved}
+use Rattle.model.specs.safe_number.{new_write, number_of_bits}
 use Rattle.plain_store.specs.{Contents, Reply, changes}
 use Rattle.plain_store.specs.declared.Answer.TheVariants as answer
-use Rattle.record.specs.Closings.{Closing, Withdraws, Settles, Frees, Lowers, Quit, Ended, closing_after, failing, freeing, is_last_settled, is_last_written, no_ticket, reply_with, settling_from}
-use Rattle.record.specs.Parts as part
-use Rattle.record.specs.reader_copies.Runs as copies
+use Rattle.model.specs.Closings.{Closing, Withdraws, Settles, Frees, Lowers, Quit, Ended, closing_after, failing, freeing, is_last_settled, is_last_written, no_ticket, reply_with, settling_from}
+use Rattle.model.specs.Parts as part
+use Rattle.model.specs.reader_copies.Runs as copies
 use Rattle.record_file.specs.{is_answer, is_reply}
 use Rattle.record_file.proofs.SoundReplies.{index_small, is_sound, read_sound, reply_sound}
 

@@ -8,8 +8,8 @@ use Rattle.plain_store.specs.{Caller, Command, Contents, Pair, Value, added, at_
 use Rattle.plain_store.specs.declared.commands.Command.TheVariants.{Read, Write, Add, Cas, Ask}
 use Rattle.plain_store.specs.declared.commands.Reply.TheVariants as reply
 use Rattle.plain_store.specs.declared.commands.Value.TheVariants.{Count, Text}
-use Rattle.record.specs.store_image.{has_image, image_of, is_number, store_in, store_read as fields_read, used_in}
-use Rattle.record.specs.{Call, bytes_of_bits, image_bytes, store_read}
+use Rattle.model.specs.store_image.{has_image, image_of, is_number, store_in, store_read as fields_read, used_in}
+use Rattle.model.specs.{Call, bytes_of_bits, image_bytes, store_read}
 use Rattle.record_file.specs.{is_reply}
 
 -- a store whose pairs are pairs and whose numbers have 16 bits

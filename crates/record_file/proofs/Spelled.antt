@@ -6,14 +6,14 @@ use Rattle.std.specs.Fmt.{decimal}
 use Rattle.std.specs.List.{list_all}
 use Rattle.safe_bit.specs.{Move}
 use Rattle.safe_bit.specs.declared.Move.TheVariants as move
-use Rattle.record.specs.{Access, Entry, Field, Mark, field_word}
+use Rattle.model.specs.{Access, Entry, Field, Mark, field_word}
 use Rattle.plain_store.specs.{Answer, Reply}
 use Rattle.plain_store.specs.declared.commands.Answer.TheVariants as answer
 use Rattle.plain_store.specs.declared.commands.Reply.TheVariants as reply
 use Rattle.files.specs.{FaultKind, counted, fault_if, known, word, ◌>>=◌}
 use Rattle.files.specs.declared.faults.FaultKind.TheVariants.{Unknown, Words}
 use Rattle.files.proofs.Passing.{passed, no_fault, length_of}
-use Rattle.record.specs.declared.marks.Mark.TheVariants as mark
+use Rattle.model.specs.declared.marks.Mark.TheVariants as mark
 use Rattle.scenario.specs.{BitWord, bit_word_of, command_of, integer_at, number_at, one_bit_of, operand_count, value_at, verb_of, verbs}
 use Rattle.scenario.specs.declared.bit_files.BitWord.TheVariants as bits
 use Rattle.scenario.proofs.BitsSaid.{bit_key, key_spelled, one_bit_spelled}

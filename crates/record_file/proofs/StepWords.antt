@@ -6,7 +6,7 @@ use Rattle.std.proofs.lemmas.List.{drop-drop, length-append, take-append-drop, t
 use Rattle.std.specs.Fmt.{decimal}
 use Rattle.safe_bit.specs.{Move}
 use Rattle.safe_bit.specs.declared.Move.TheVariants as move
-use Rattle.record.specs.{Access, field_word}
+use Rattle.model.specs.{Access, field_word}
 use Rattle.scenario.specs.{spaced}
 use Rattle.record_file.specs.{copy_word, entry_words, move_words, step_entry}
 

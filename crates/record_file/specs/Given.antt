@@ -1,11 +1,11 @@
 -- The ranges of the parts of an entry, which their types give.
 use Rattle.std.specs.Prelude.{◌≡◌, ◌≤◌, ◌^◌, Bool, true, nat_lt, ◌&&◌, Option, Some, None, length}
 use Rattle.std.specs.List.{list_all}
-use Rattle.record.specs.{Access, Entry, Mark}
+use Rattle.model.specs.{Access, Entry, Mark}
 use Rattle.plain_store.specs.{Answer, Reply, fits_i64, is_command, is_value}
 use Rattle.plain_store.specs.declared.commands.Answer.TheVariants as answer
 use Rattle.plain_store.specs.declared.commands.Reply.TheVariants as reply
-use Rattle.record.specs.declared.marks.Mark.TheVariants as mark
+use Rattle.model.specs.declared.marks.Mark.TheVariants as mark
 
 -- an owner and a reader have 8 bits, and the number of a bit has 16
 abbrev pub is_access : Option Access → Bool

@@ -3,11 +3,11 @@ use Rattle.std.specs.Prelude.{ℕ, List, [], ◌∷◌, ◌++◌, codes, flat_ma
 use Rattle.std.specs.Fmt.{decimal, signed_decimal}
 use Rattle.safe_bit.specs.{Move}
 use Rattle.safe_bit.specs.declared.Move.TheVariants.{BeginWrite, EndWrite, BeginRead, EndRead, Settle}
-use Rattle.record.specs.{Access, Entry, Field, Mark, field_word}
+use Rattle.model.specs.{Access, Entry, Field, Mark, field_word}
 use Rattle.plain_store.specs.{Answer, Reply, Setup, value_text}
 use Rattle.plain_store.specs.declared.commands.Answer.TheVariants as answer
 use Rattle.plain_store.specs.declared.commands.Reply.TheVariants as reply
-use Rattle.record.specs.declared.marks.Mark.TheVariants as mark
+use Rattle.model.specs.declared.marks.Mark.TheVariants as mark
 use Rattle.scenario.specs.{BitLine, bit_line_words, bit_word, command_words, kind_words, open_words, printed_line, spaced}
 use Rattle.scenario.specs.declared.bit_files.BitLine.TheVariants as line
 

@@ -3,7 +3,7 @@ use Rattle.std.specs.Prelude.{◌≡◌, ◌↔◌, ◌∷◌, ℕ, ◌<◌, ◌
 use Rattle.std.specs.Global.{Vec}
 use Rattle.std.specs.List.{AllByRecursion, list_all}
 use Rattle.plain_store.specs.{Setup, checked}
-use Rattle.record.specs.{Entry, Event, is_event, record_of}
+use Rattle.model.specs.{Entry, Event, is_event, record_of}
 use Rattle.scenario.specs.{IsScenario, spaced}
 use Rattle.record_file.specs.Given.{IsEntry}
 use Rattle.record_file.specs.Printing.{entry_line, entry_words, record_text}

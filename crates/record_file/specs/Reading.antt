@@ -5,13 +5,13 @@ use Rattle.std.specs.List.{slice_split}
 use Rattle.std.specs.Str.{bytes_eq}
 use Rattle.safe_bit.specs.{Move}
 use Rattle.safe_bit.specs.declared.Move.TheVariants as move
-use Rattle.record.specs.{Access, Entry, Field, Mark}
+use Rattle.model.specs.{Access, Entry, Field, Mark}
 use Rattle.plain_store.specs.{Answer, Reply}
 use Rattle.plain_store.specs.declared.commands.Answer.TheVariants as answer
 use Rattle.plain_store.specs.declared.commands.Reply.TheVariants as reply
 use Rattle.files.specs.{FaultKind, counted, fault_if, known, texts, word, ◌>>=◌}
 use Rattle.files.specs.declared.faults.FaultKind.TheVariants.{Unknown, Words}
-use Rattle.record.specs.declared.marks.Mark.TheVariants as mark
+use Rattle.model.specs.declared.marks.Mark.TheVariants as mark
 use Rattle.scenario.specs.{BitWord, Verb, bit_word_of, command_of, integer_at, number_at, one_bit_of, operand_count, value_at, verb_of}
 use Rattle.scenario.specs.declared.bit_files.BitWord.TheVariants as bits
 use Rattle.scenario.specs.declared.keywords.Verb.TheVariants as verb

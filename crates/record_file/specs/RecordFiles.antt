@@ -7,7 +7,7 @@ use Rattle.std.specs.Str.{bytes_eq}
 use Rattle.plain_store.specs.{Setup}
 use Rattle.files.specs.{FaultKind, Grammar, LineFault, at_line, begun, fault_if, known, lines, word, words_of, words_read, ◌>>=◌}
 use Rattle.files.specs.declared.faults.FaultKind.TheVariants.{NotFirst, Unknown, TooLong}
-use Rattle.record.specs.{Entry}
+use Rattle.model.specs.{Entry}
 use Rattle.scenario.specs.{Heading, Opener, Progress as Head, at_version, heading_read, open_read, opener_of}
 use Rattle.scenario.specs.declared.keywords.Opener.TheVariants as opener
 use Rattle.record_file.specs.Reading.{entry_of}

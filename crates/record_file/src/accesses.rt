@@ -7,7 +7,7 @@ ghost use Rattle.record_file.specs.Reading.{AreFourParts, access_of, copy_of, do
 
 use crate::keywords::field as field_named;
 use files::FaultKind;
-use record::{Access, Field};
+use model::{Access, Field};
 use safe_bit::Move;
 use scenario::bit_files::{BitWord, one_bit};
 use scenario::operands::{number, process};

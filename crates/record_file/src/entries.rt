@@ -9,7 +9,7 @@ use crate::faults::both;
 use crate::marks::mark;
 use files::FaultKind;
 use plain_store::NestedTypes;
-use record::{Access, Act, Entry, Mark};
+use model::{Access, Act, Entry, Mark};
 use scenario::operands::process;
 use smallvec::SmallVec;
 use std::alloc::Global;
@@ -26,7 +26,7 @@ struct MarkList {
 
 impl Model for MarkList {
     ghost use Rattle.std.specs.Prelude.{List, ◌≤◌};
-    ghost use Rattle.record.specs.{Mark};
+    ghost use Rattle.model.specs.{Mark};
 
     ghost Value = { List Mark };
 

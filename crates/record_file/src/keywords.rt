@@ -3,7 +3,7 @@ ghost use Rattle.std.specs.Prelude.{◌≡◌};
 ghost use Rattle.record_file.specs.Keywords.{field_of, mark_word_of, reply_word_of, answer_word_of, own_answer_of};
 
 use files::meaning_of;
-use record::Field;
+use model::Field;
 
 /// The first word of a mark.
 #[derive(Clone, Copy)]

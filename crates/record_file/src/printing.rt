@@ -10,7 +10,7 @@ use crate::sound::sound_entry;
 use crate::steps::StepLine;
 use itoa::Buffer;
 use plain_store::{NestedTypes, Setup};
-use record::{Access, Entry, Mark};
+use model::{Access, Entry, Mark};
 use scenario::printing::{print_opening, setup_lines};
 use std::alloc::{AllocError, Global};
 

@@ -9,7 +9,7 @@ use crate::forms::RECORD;
 use crate::line_kinds::LineKind;
 use files::{FaultKind, FromLines};
 use plain_store::{NestedTypes, Setup};
-use record::Entry;
+use model::Entry;
 use scenario::Reader;
 use scenario::keywords::Heading;
 use std::alloc::Global;

@@ -6,7 +6,7 @@ ghost use Rattle.record_file.specs.Given.{is_access, is_answer, is_entry, is_mar
 ghost use Rattle.record_file.specs.Printing.{step_entry};
 
 use plain_store::{Answer, NestedTypes, Reply, Value};
-use record::{Access, Entry, Mark};
+use model::{Access, Entry, Mark};
 
 /// The parts of an entry are what their types allow.
 pub fn sound_entry(entry: &Entry)

@@ -3,12 +3,12 @@
 ghost use Rattle.std.specs.Prelude.{◌≡◌, ◌+◌, ◌-◌, ◌<◌, ◌≤◌, ◌∷◌, ◌++◌, [], codes, drop, take, false, true, IfSome};
 ghost use Rattle.std.specs.Fmt.{decimal};
 ghost use Rattle.scenario.specs.{spaced};
-ghost use Rattle.record.specs.{field_word};
+ghost use Rattle.model.specs.{field_word};
 ghost use Rattle.record_file.specs.Given.{is_entry};
 ghost use Rattle.record_file.specs.Printing.{access_text, entry_words, move_words, step_entry};
 
 use crate::sound::sound_step;
-use record::{Access, Field};
+use model::{Access, Field};
 use safe_bit::Move;
 
 /// The fewest bytes of such a line, as in `0 1.commit.0.0 end`. The length is checked once, so the parts need not check it.

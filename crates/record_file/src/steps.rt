@@ -5,7 +5,7 @@ ghost use Rattle.std.specs.Fmt.{decimal};
 ghost use Rattle.record_file.specs.Printing.{dotted_field, entry_line, front_text, move_text, step_entry};
 
 use itoa::write_digits;
-use record::{Access, Field};
+use model::{Access, Field};
 use safe_bit::Move;
 use std::marker::Model;
 

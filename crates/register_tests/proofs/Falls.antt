@@ -1,7 +1,7 @@
 -- Process 0 fails in its doorway, its memory unit works, and process 1 comes after it: each access may be made.
 use Rattle.std.proofs.Common.{◌≡◌, ℕ, ◌<◌, nat_lt, length, Bool, true, false, ◌&&◌, List, [], Option, refl, ap, ◌∙◌}
 use Rattle.plain_store.specs.{Setup}
-use Rattle.record.specs.{TornBit}
+use Rattle.model.specs.{TornBit}
 use Rattle.bakery.specs.process.{ProcessState, may_step, process_after, settling_with, torn_of}
 use Rattle.bakery.specs.Doors.{MayDrop, dropped, is_going}
 use Rattle.bakery.specs.Locks.{LockRows, new_locks}

@@ -1,7 +1,7 @@
 -- Two processes have taken tickets, and one of them gives up: each access may be made, and so may the drop of its open read.
 use Rattle.std.proofs.Common.{◌≡◌, ℕ, ◌<◌, nat_lt, Bool, true, false, ◌&&◌, List, [], Option, Some, None, IfSome, length, refl, ap, ◌∙◌}
 use Rattle.plain_store.specs.{Setup}
-use Rattle.record.specs.{Field}
+use Rattle.model.specs.{Field}
 use Rattle.bakery.specs.process.{ProcessState}
 use Rattle.bakery.specs.process.laws.{reads_of}
 use Rattle.bakery.specs.Doors.{MayDrop, dropped, is_waiting}

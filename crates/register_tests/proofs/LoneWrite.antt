@@ -1,8 +1,8 @@
 -- The section of a lone write: each access may be made, and where its steps come to; and the registers once it is done, or once it has failed and is settled.
 use Rattle.std.proofs.Common.{◌≡◌, ℕ, Bool, true, false, List, [], Option, refl}
-use Rattle.record.specs.store_image.{count_bytes, count_in, image_of, name_in, number_bytes, number_in, store_in, unused_slot, value_in}
-use Rattle.record.specs.store_image.Image as slots
-use Rattle.record.specs.{TornBit}
+use Rattle.model.specs.store_image.{count_bytes, count_in, image_of, name_in, number_bytes, number_in, store_in, unused_slot, value_in}
+use Rattle.model.specs.store_image.Image as slots
+use Rattle.model.specs.{TornBit}
 use Rattle.bakery.specs.process.{ProcessState, process_after, settling_with, torn_of}
 use Rattle.bakery.specs.{IsQuiet}
 use Rattle.bakery.specs.Locks.{new_locks}

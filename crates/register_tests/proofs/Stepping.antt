@@ -2,8 +2,8 @@
 use Rattle.std.proofs.Common.{◌≡◌, ℕ, ◌<◌, nat_lt, Bool, true, false, ◌&&◌, not, List, length, refl, sym, ap, ◌∙◌, subst, true≢false}
 use Rattle.reader_copies.specs.{CanMake, Progress, progress_of}
 use Rattle.reader_copies.specs.declared.runs.Progress.TheVariants.{Done, Going}
-use Rattle.record.specs.{Access, value_of}
-use Rattle.record.specs.Closings.{Withdraws, Settles, Frees, Lowers, Quit, Ended}
+use Rattle.model.specs.{Access, value_of}
+use Rattle.model.specs.Closings.{Withdraws, Settles, Frees, Lowers, Quit, Ended}
 use Rattle.bakery.specs.process.laws.{Closes, Doing, Lies, Rests, Runs}
 use Rattle.bakery.specs.process.{ProcessState, may_step, next_at, stepped}
 use Rattle.bakery.specs.Units.{remains}

@@ -1,7 +1,7 @@
 -- Copies of bits in the states that several tests share.
 use Rattle.std.specs.Prelude.{◌≡◌, ℕ, true, false, List, [], ◌∷◌}
 use Rattle.reader_copies.specs.safe_bit.Cell.{Cell, cell_of}
-use Rattle.record.specs.safe_bit.declared.Move.TheVariants.{BeginWrite, EndWrite, BeginRead, EndRead}
+use Rattle.model.specs.safe_bit.declared.Move.TheVariants.{BeginWrite, EndWrite, BeginRead, EndRead}
 use Rattle.reader_copies.specs.{Made, cell_at, new_row, row_after}
 
 -- a copy in which 1 was written

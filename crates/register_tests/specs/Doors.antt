@@ -1,9 +1,9 @@
 -- Steps of a door and of the clearing of a ticket, and reads of bits of a lock: whether each may be made, and what they make of the locks. All of it computes.
 use Rattle.std.specs.Prelude.{ℕ, Bool, ◌&&◌, true, false, List, [], slice_set}
 use Rattle.plain_store.specs.{Setup}
-use Rattle.record.specs.{Access, copy, value_of}
-use Rattle.record.specs.declared.access.Field.TheVariants.{Choosing, Ticket}
-use Rattle.record.specs.safe_bit.declared.Move.TheVariants.{EndRead}
+use Rattle.model.specs.{Access, copy, value_of}
+use Rattle.model.specs.declared.access.Field.TheVariants.{Choosing, Ticket}
+use Rattle.model.specs.safe_bit.declared.Move.TheVariants.{EndRead}
 use Rattle.bakery.specs.process.{ProcessState, may_step, next_at, process_after, stepped, withdrawn}
 use Rattle.bakery.specs.Doors.{is_going}
 use Rattle.bakery.specs.Locks.{LockRows, answered, lock_after, lock_of, locks_after, made_by, row_in}

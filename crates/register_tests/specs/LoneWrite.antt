@@ -4,8 +4,8 @@ use Rattle.reader_copies.specs.safe_bit.Cell.{Cell, new_cell}
 use Rattle.plain_store.specs.{Command, Contents, Setup, empty_store}
 use Rattle.plain_store.specs.declared.Command.TheVariants.{Write}
 use Rattle.plain_store.specs.declared.Value.TheVariants.{Count}
-use Rattle.record.specs.safe_number.{new_write}
-use Rattle.record.specs.{AsksImage, Call, Part, Place, Reading, Run, Version, WritesCommit, WritesImage, Writing, enter, new_image, write_moved}
+use Rattle.model.specs.safe_number.{new_write}
+use Rattle.model.specs.{AsksImage, Call, Part, Place, Reading, Run, Version, WritesCommit, WritesImage, Writing, enter, new_image, write_moved}
 use Rattle.bakery.specs.process.laws.{Runs, call}
 use Rattle.bakery.specs.process.{ProcessState, called_inside, process_after}
 use Rattle.bakery.specs.Registers.{DataRow, opening_cell, row_from}

@@ -1,6 +1,6 @@
 -- Steps of a section: whether each may be made, and what they make of the registers. All of it computes.
 use Rattle.std.specs.Prelude.{ℕ, Bool, ◌&&◌, false, nat_lt, length}
-use Rattle.record.specs.{Access, value_of}
+use Rattle.model.specs.{Access, value_of}
 use Rattle.bakery.specs.process.{ProcessState, next_at, stepped}
 use Rattle.bakery.specs.Registers.{DataRow, after_access, answered, made_of, register_at}
 use Rattle.bakery.specs.Sections.{is_going}

@@ -1,6 +1,6 @@
 -- Steps of a memory unit: whether each may be made, and what they make of the registers. All of it computes.
 use Rattle.std.specs.Prelude.{ℕ, Bool, not, true, false, List, slice_set}
-use Rattle.record.specs.{Access}
+use Rattle.model.specs.{Access}
 use Rattle.bakery.specs.process.{ProcessState, may_step, next_at, stepped}
 use Rattle.bakery.specs.declared.unit_progress.UnitProgress.{UnitProgress}
 use Rattle.bakery.specs.declared.unit_progress.UnitProgress.TheVariants as progress

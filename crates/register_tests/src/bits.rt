@@ -1,4 +1,4 @@
-use record::SafeBit;
+use model::SafeBit;
 
 /// What four reads of one bit give, each with a flick that is not the bit's value at its end; whether a write is open after the
 /// first, and a read after one that was dropped. The first read is alone; a write begins and ends within the second; a write

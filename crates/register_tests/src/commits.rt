@@ -9,7 +9,7 @@ use super::sections::{a, goes_on};
 use super::units::{UnitSteps, place_of, settle};
 use bakery::{DataRow, Image, Locks, Section, SectionProgress, Unit, UnitProgress};
 use plain_store::{Command, NestedTypes, Reply, Setup, Store, Value};
-use record::Field;
+use model::Field;
 use std::alloc::{AllocError, Global};
 
 /// The outcome of the steps of a section.

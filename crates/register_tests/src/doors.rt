@@ -1,7 +1,7 @@
 //! Doors, and the clearing of tickets, driven to their end on registers.
 ghost use Rattle.std.specs.Prelude.{◌≡◌, ◌<◌, true, Ok, [], length};
 ghost use Rattle.plain_store.specs.{checked};
-ghost use Rattle.record.specs.{copy};
+ghost use Rattle.model.specs.{copy};
 ghost use Rattle.bakery.specs.process.{may_step, process_after};
 ghost use Rattle.bakery.specs.Doors.{goes_on, is_going};
 ghost use Rattle.bakery.specs.Locks.{lock_of, new_locks};
@@ -11,7 +11,7 @@ ghost use Rattle.register_tests.specs.LoneWrite.{one};
 use bakery::{Door, DoorProgress, Leaving, Lock, Locks};
 use plain_store::Setup;
 use reader_copies::Progress;
-use record::{Access, Field, Move};
+use model::{Access, Field, Move};
 use std::alloc::{AllocError, Global};
 
 /// The outcome of the steps of a door.

@@ -1,5 +1,5 @@
 //! A plain memory of the bits of process 0 alone, on which the cursor of its section is driven by hand.
-use record::{Access, Move, number_of_field};
+use model::{Access, Move, number_of_field};
 use std::alloc::{AllocError, Global};
 
 /// How many registers a process has.

@@ -5,7 +5,7 @@ ghost use Rattle.bakery.specs.Sections.{is_going, goes_on};
 use super::memory::Memory;
 use bakery::{Section, SectionProgress};
 use plain_store::{Command, Name, NestedTypes, Reply, Setup, Value};
-use record::{Access, Field, Move};
+use model::{Access, Field, Move};
 use std::alloc::{AllocError, Global};
 
 /// Whether an access is left.

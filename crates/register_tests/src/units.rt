@@ -5,7 +5,7 @@ ghost use Rattle.register_tests.specs.Units.{is_down, locks_settled, row_settled
 
 use bakery::{Data, DataRow, Lock, Locks, Unit, UnitProgress};
 use plain_store::Setup;
-use record::{Access, Field, Move, TornBit};
+use model::{Access, Field, Move, TornBit};
 use std::alloc::{AllocError, Global};
 
 /// The first step of the unit of a process that failed before its first access.

@@ -1,7 +1,7 @@
 -- A write that ends a call advances by its cursor.
 use Rattle.std.proofs.Common.{◌≡◌, ℕ, ◌==◌, ◌&&◌, Bool, false, not, List, get_or, sym, ap, ◌∙◌, subst}
 use Rattle.plain_store.specs.{Setup}
-use Rattle.record.specs.{Field, access_of, is_unwritten, next_written, write_moved}
+use Rattle.model.specs.{Field, access_of, is_unwritten, next_written, write_moved}
 use Rattle.safe_number.specs.{NumberWrite}
 use Rattle.registers.specs.{CursorState, WritesAt, is_fresh, is_over, is_settling, moved, next_access, write_after, write_kept}
 use Rattle.registers.proofs.CursorRuns.{fresh-write, write-moved, write-next, write-stays, write-step}

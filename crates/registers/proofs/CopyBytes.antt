@@ -10,7 +10,7 @@ use Rattle.safe_number.proofs.Numbers.{bit_in-past}
 use Rattle.reader_copies.specs.{IsMask, bit_of_words, bits_of_words, cell_in, flag_in}
 use Rattle.reader_copies.proofs.Flags.{flag-zero}
 use Rattle.reader_copies.proofs.Words.{bit-found, length-bits}
-use Rattle.record.specs.{bytes_of_bits}
+use Rattle.model.specs.{bytes_of_bits}
 use Rattle.registers.specs.CopyBytes.{has_open_write, register_bytes}
 use Rattle.registers.proofs.Words.{bit-elsewhere, bit-in_word}
 

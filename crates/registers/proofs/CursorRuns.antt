@@ -3,9 +3,9 @@ use Rattle.std.proofs.Common.{◌≡◌, ℕ, ◌+◌, ◌*◌, ◌<◌, ◌==�
 use Rattle.std.proofs.lemmas.Bool.{cases_eq, eq-eqb, eqb-false, ne_eqb}
 use Rattle.plain_store.specs.{Setup}
 use Rattle.reader_copies.specs.Runs as copies
-use Rattle.record.specs.{Call, Field, Reading, Run, Writing, access_at, access_of, bits_with, is_last, next_written, run_after, value_of, width, write_moved}
-use Rattle.record.specs.Parts.{Part, Raises, Asks, TakesTicket, Lowers, Refuses, Waits, AsksCommit, AsksStamp, AsksImage, WritesImage, WritesStamp, WritesCommit, Clears, Over, is_read, last_marks, part_after, read_at, written_at}
-use Rattle.record.specs.Places as places
+use Rattle.model.specs.{Call, Field, Reading, Run, Writing, access_at, access_of, bits_with, is_last, next_written, run_after, value_of, width, write_moved}
+use Rattle.model.specs.Parts.{Part, Raises, Asks, TakesTicket, Lowers, Refuses, Waits, AsksCommit, AsksStamp, AsksImage, WritesImage, WritesStamp, WritesCommit, Clears, Over, is_read, last_marks, part_after, read_at, written_at}
+use Rattle.model.specs.Places as places
 use Rattle.safe_number.specs.{NumberWrite}
 use Rattle.registers.specs.{CursorState, IsAtPart, IsDone, ReadsAt, WritesAt, after_by, bit_begun, ends_bit, is_fresh, is_over, is_settling, move_by, moved, next_access, read_after, read_move, run_at, run_by, write_after, write_kept, write_move}
 use Rattle.registers.proofs.Kept.{next-kept, write-kept}

@@ -2,7 +2,7 @@
 use Rattle.std.proofs.Common.{◌≡◌, ℕ, zero, suc, ◌+◌, ◌≤◌, Bool, true, false, cond, List, refl, sym, ◌∙◌, arith, ap}
 use mir.Val.{bool_byte}
 use Rattle.safe_bit.specs.Cell.{Cell}
-use Rattle.flicks.specs.{FlickState, after_flick, flicks_after}
+use Rattle.choices.specs.{FlickState, after_flick, flicks_after}
 use Rattle.registers.specs.{CursorState, LeadsTo, access_of, overlapped_of, overlaps_next, run_of}
 
 -- a run is two runs, one after the other

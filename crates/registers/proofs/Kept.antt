@@ -4,7 +4,7 @@ use Rattle.std.proofs.lemmas.Bool.{cases_eq, eq-eqb, ne_eqb}
 use Rattle.safe_bit.specs.declared.moves.Move.TheVariants.{BeginWrite, EndWrite}
 use Rattle.reader_copies.specs.Runs as copies
 use Rattle.safe_number.specs.{NumberWrite, write_on}
-use Rattle.record.specs.{bit_written, next_written, write_moved}
+use Rattle.model.specs.{bit_written, next_written, write_moved}
 use Rattle.registers.specs.{CursorState, bit_begun, made_of_bit, write_after, write_kept, write_move}
 
 abbrev writing : Bool → ℕ → copies.Writing

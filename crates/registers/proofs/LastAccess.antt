@@ -3,8 +3,8 @@ use Rattle.std.proofs.Common.{◌≡◌, ◌+◌, ◌-◌, ◌==◌, ◌&&◌, B
 use Rattle.std.proofs.lemmas.Bool.{ne_eqb}
 use Rattle.std.proofs.lemmas.List.{get_or_push}
 use Rattle.safe_bit.specs.declared.moves.Move.TheVariants.{BeginWrite, EndWrite, EndRead}
-use Rattle.record.specs.{Call, value_of}
-use Rattle.record.specs.Parts.{Part, is_read, read_at, written_at}
+use Rattle.model.specs.{Call, value_of}
+use Rattle.model.specs.Parts.{Part, is_read, read_at, written_at}
 use Rattle.registers.specs.{CursorState, IsAtPart, NumberRun, ReadsAt, WritesAt, access_on, last_access, last_by_run, last_read, last_write, move_by, moved, next_access, read_after, read_move, write_after}
 use Rattle.registers.specs.Accesses.{access_with}
 use Rattle.registers.proofs.CursorRuns.{read-moved, write-moved}

@@ -7,7 +7,7 @@ use Rattle.std.proofs.lemmas.List.{get_or-drop, get_or-take, get_or_past, length
 use Rattle.safe_number.specs.{AreBytes, IsBytesOf, number_of_bits}
 use Rattle.safe_number.proofs.Bits.{bit_at-number, number-fits}
 use Rattle.safe_number.proofs.Numbers.{bit_in-past}
-use Rattle.record.specs.{bytes_of_bits}
+use Rattle.model.specs.{bytes_of_bits}
 use Rattle.registers.specs.CopyBytes.{register_bytes}
 
 made-length : (k : ℕ) (bits : List Bool) → length (bytes_of_bits k bits) ≡ k

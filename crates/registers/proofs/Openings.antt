@@ -4,8 +4,8 @@ use Rattle.std.proofs.Math.Nat.{mul-le-mul_right}
 use Rattle.std.proofs.lemmas.Nat.{div-mul-add}
 use Rattle.safe_bit.specs.Cell.{Cell}
 use Rattle.plain_store.specs.{Setup}
-use Rattle.record.specs.{Access, Field, field_number, width}
-use Rattle.record.specs.declared.access.Field.TheVariants.{Choosing, Ticket, Commit, Stamp0, Stamp1, Image0, Image1}
+use Rattle.model.specs.{Access, Field, field_number, width}
+use Rattle.model.specs.declared.access.Field.TheVariants.{Choosing, Ticket, Commit, Stamp0, Stamp1, Image0, Image1}
 use Rattle.registers.specs.{AreOf, AreOfOneSetup, CursorState, Fits, HasLanes, IsAtCopy, RegisterName, field_numbered, lane_number, lane_of, lane_of_access, register_number}
 
 numbered : (f : Field) → field_numbered (field_number f) ≡ f

@@ -1,10 +1,10 @@
 -- A position advances by its cursor.
 use Rattle.std.proofs.Common.{◌≡◌, ◌<◌, Bool, true, false, cond, [], ◌++◌, refl, arith}
 use Rattle.plain_store.specs.{Setup}
-use Rattle.record.specs.{Call, Field, Part, Reading, Writing, enter, first_marks, is_read, marks_of, new_run, place_after, read_at, width, written_at}
-use Rattle.record.specs.declared.access.Field.TheVariants.{Choosing, Ticket, Commit, Stamp0, Stamp1, Image0, Image1}
+use Rattle.model.specs.{Call, Field, Part, Reading, Writing, enter, first_marks, is_read, marks_of, new_run, place_after, read_at, width, written_at}
+use Rattle.model.specs.declared.access.Field.TheVariants.{Choosing, Ticket, Commit, Stamp0, Stamp1, Image0, Image1}
 use Rattle.safe_number.specs.{new_write}
-use Rattle.record.proofs.Width.{IsGood}
+use Rattle.model.proofs.Width.{IsGood}
 use Rattle.registers.specs.{CursorState, IsAtPart, ReadsAt, WritesAt, entered, marks_moved, moved, place_at, place_moved, reading, run_at, writing}
 use Rattle.registers.proofs.CursorRuns.{moves}
 

@@ -4,7 +4,7 @@ use Rattle.std.proofs.lemmas.List.{get_or-set_same, length-set, set-set, set-get
 use Rattle.safe_bit.specs.Cell.{Cell, new_cell, cell_after, read_answer}
 use Rattle.safe_bit.specs.{Move}
 use Rattle.safe_bit.specs.declared.moves.Move.TheVariants.{BeginRead, EndRead}
-use Rattle.flicks.specs.{FlickState, flick_of, after_flick}
+use Rattle.choices.specs.{FlickState, flick_of, after_flick}
 use Rattle.reader_copies.specs.{after_read, cell_in, over}
 use Rattle.registers.specs.{CursorState, LeadsTo, cell_at, lane_number, lane_of, memory_moved, more_bits}
 use Rattle.registers.specs.declared.cursor.NumberRun.TheVariants.{Reads}

@@ -6,8 +6,8 @@ use Rattle.std.proofs.lemmas.List.{set_past}
 use Rattle.std.proofs.Math.Nat.{mul-le-mul_left}
 use Rattle.safe_bit.specs.Cell.{Cell}
 use Rattle.safe_bit.specs.{Move}
-use Rattle.flicks.specs.{FlickState, after_flick, flick_of, flicks_after}
-use Rattle.record.specs.{Access, value_of}
+use Rattle.choices.specs.{FlickState, after_flick, flick_of, flicks_after}
+use Rattle.model.specs.{Access, value_of}
 use Rattle.registers.specs.{CursorState, Fits, HasLanes, IsAtCopy, LeadsTo, NumberRun, RegisterName, access_next, after_by, answered, applied, cursor_after, ends_copy, ends_overlapped, is_settling, lane_number, lane_of_access, memory_moved, newest_of, next_access, overlapped_of, rest_by, rest_of, run_of}
 use Rattle.registers.specs.Accesses.{made_by}
 use Rattle.registers.specs.declared.cursor.NumberRun.TheVariants.{Reads, Writes, Settles}

@@ -5,7 +5,7 @@ use Rattle.std.proofs.lemmas.Bool.{eq-eqb, ne_eqb}
 use Rattle.std.proofs.lemmas.List.{length-set}
 use Rattle.safe_bit.specs.Cell.{Cell}
 use Rattle.safe_bit.specs.declared.moves.Move.TheVariants.{BeginWrite, EndWrite}
-use Rattle.flicks.specs.{after_flick}
+use Rattle.choices.specs.{after_flick}
 use Rattle.reader_copies.specs.{after_write, cell_in, over}
 use Rattle.registers.specs.{CursorState, HasLanes, LeadsTo, first_lane, lane_number, lane_of}
 use Rattle.registers.specs.declared.cursor.NumberRun.TheVariants.{Writes}

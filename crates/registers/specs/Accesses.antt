@@ -4,8 +4,8 @@ use Rattle.safe_bit.specs.Cell.{Cell, read_answer}
 use Rattle.safe_bit.specs.{Move}
 use Rattle.safe_bit.specs.declared.moves.Move.TheVariants.{BeginWrite, EndWrite, BeginRead, EndRead, Settle}
 use Rattle.reader_copies.specs.{is_open_at}
-use Rattle.flicks.specs.{FlickState, flick_of, after_flick, flicks_after}
-use Rattle.record.specs.{Access, ended_with, value_of}
+use Rattle.choices.specs.{FlickState, flick_of, after_flick, flicks_after}
+use Rattle.model.specs.{Access, ended_with, value_of}
 use Rattle.registers.specs.Memory.{cell_at, memory_moved}
 use Rattle.registers.specs.Cursors.{CursorState, lane_number}
 use Rattle.registers.specs.declared.cursor.NumberRun.{NumberRun}

@@ -1,7 +1,7 @@
 -- The cursor of a register access: in a script, and at a part of a call.
 use Rattle.std.specs.Prelude.{◌≡◌, ◌<◌, ℕ, Bool, true, false, cond, List, [], ◌++◌, length}
 use Rattle.plain_store.specs.{Setup}
-use Rattle.record.specs.{Call, Field, Mark, Part, Place, Reading, Run, Writing, enter, first_marks, is_read, last_marks, part_after, read_at, width, written_at}
+use Rattle.model.specs.{Call, Field, Mark, Part, Place, Reading, Run, Writing, enter, first_marks, is_read, last_marks, part_after, read_at, width, written_at}
 use Rattle.registers.specs.Accesses.{cursor_after, next_access}
 use Rattle.registers.specs.Begins.{is_fresh, reading, writing}
 use Rattle.registers.specs.Cursors.{CursorState, is_over}

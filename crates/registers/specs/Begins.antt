@@ -1,9 +1,9 @@
 -- A register access at its begin, and the invariant of the fields of a cursor.
 use Rattle.std.specs.Prelude.{◌≡◌, ℕ, ◌+◌, ◌*◌, ◌<◌, ◌≤◌, ◌==◌, ◌&&◌, ◌||◌, not, Bool, true, false, cond, if◌then◌else◌, List, [], Option, None, Some, length, replicate}
 use Rattle.plain_store.specs.{Setup}
-use Rattle.record.specs.declared.access.Field.TheVariants.{Choosing}
+use Rattle.model.specs.declared.access.Field.TheVariants.{Choosing}
 use Rattle.registers.specs.declared.fields.RegisterName.{RegisterName}
-use Rattle.record.specs.{TornBit, width}
+use Rattle.model.specs.{TornBit, width}
 use Rattle.safe_number.specs.{bits_in}
 use Rattle.registers.specs.Cursors.{CursorState, IsAtCopy, lane_number}
 use Rattle.registers.specs.declared.cursor.NumberRun.{NumberRun}

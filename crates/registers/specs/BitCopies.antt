@@ -1,7 +1,7 @@
 -- One copy of a bit, and its cell in a memory.
 use Rattle.std.specs.Prelude.{ℕ, List}
 use Rattle.safe_bit.specs.Cell.{Cell}
-use Rattle.record.specs.{Access}
+use Rattle.model.specs.{Access}
 use Rattle.registers.specs.declared.fields.BitCopy.{BitCopy}
 use Rattle.registers.specs.Memory.{cell_at}
 use Rattle.registers.specs.Cursors.{lane_number}

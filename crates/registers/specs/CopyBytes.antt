@@ -2,7 +2,7 @@
 use Rattle.std.specs.Prelude.{ℕ, Bool, List, cond, map, Option, None, Some}
 use Rattle.std.specs.List.{list_any}
 use Rattle.safe_bit.specs.Cell.{Cell}
-use Rattle.record.specs.{bytes_of_bits}
+use Rattle.model.specs.{bytes_of_bits}
 use Rattle.registers.specs.declared.fields.RegisterName.{RegisterName}
 use Rattle.registers.specs.Cursors.{lane_number}
 use Rattle.registers.specs.Memory.{lane_of}

@@ -2,7 +2,7 @@
 use Rattle.std.specs.Prelude.{◌≡◌, ◌<◌, ℕ, ◌+◌, ◌-◌, ◌*◌, ◌==◌, Bool, if◌then◌else◌, List}
 use Rattle.safe_bit.specs.Cell.{Cell}
 use Rattle.registers.specs.declared.fields.RegisterName.{RegisterName}
-use Rattle.record.specs.{field_number}
+use Rattle.model.specs.{field_number}
 use Rattle.registers.specs.Memory.{HasLanes}
 use Rattle.reader_copies.specs.{bits_of_words}
 use Rattle.registers.specs.declared.cursor.NumberRun.{NumberRun}

@@ -1,7 +1,7 @@
 -- The laws of every cursor that is at a part of a call.
 use Rattle.std.specs.Prelude.{◌≡◌, ◌<◌, Bool, false, true, Ok, Some}
 use Rattle.plain_store.specs.{checked}
-use Rattle.record.specs.{Call, Part, access_at, enter, marks_of, place_after}
+use Rattle.model.specs.{Call, Part, access_at, enter, marks_of, place_after}
 use Rattle.registers.specs.Accesses.{next_access}
 use Rattle.registers.specs.AtParts.{IsAtPart, IsDone, entered, marks_moved, moved, place_at, place_moved, run_at}
 use Rattle.registers.specs.Cursors.{CursorState, is_over}

@@ -1,4 +1,4 @@
-pub use Rattle.flicks.specs as flicks
+pub use Rattle.choices.specs as choices
 pub use Rattle.reader_copies.specs as reader_copies
 pub use Rattle.safe_bit.specs as safe_bit
 pub mod Accesses

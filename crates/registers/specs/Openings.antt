@@ -3,8 +3,8 @@ use Rattle.std.specs.Prelude.{◌≡◌, ◌<◌, ◌==◌, ℕ, ◌*◌, ◌/�
 use Rattle.std.specs.List.{range_with_len}
 use Rattle.safe_bit.specs.Cell.{Cell, new_cell}
 use Rattle.plain_store.specs.{Setup}
-use Rattle.record.specs.{Field, fields, width}
-use Rattle.record.specs.declared.access.Field.TheVariants.{Image1}
+use Rattle.model.specs.{Field, fields, width}
+use Rattle.model.specs.declared.access.Field.TheVariants.{Image1}
 use Rattle.registers.specs.Memory.{lane_of}
 
 -- the field of this number in their order

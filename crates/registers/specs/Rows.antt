@@ -5,7 +5,7 @@ use Rattle.safe_bit.specs.Cell.{Cell}
 use Rattle.reader_copies.specs.Runs as copies
 use Rattle.safe_number.specs.{NumberWrite}
 use Rattle.registers.specs.declared.fields.RegisterName.{RegisterName}
-use Rattle.record.specs.{field_number}
+use Rattle.model.specs.{field_number}
 use Rattle.registers.specs.Memory.{lane_of}
 use Rattle.registers.specs.Begins.{made_of_bit}
 use Rattle.registers.specs.Cursors.{CursorState, lane_number}

@@ -1,6 +1,6 @@
 //! Accesses that were made on the memory.
 
-use record::Access;
+use model::Access;
 
 /// An access that was made, and whether it ended a read that a write overlapped: a write was open when the read began,
 /// or has begun since.

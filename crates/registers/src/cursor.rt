@@ -2,7 +2,7 @@
 ghost use Rattle.std.specs.Prelude.{◌≡◌, ℕ, ◌<◌, ◌≤◌, ◌+◌, ◌*◌, ◌/◌, ◌%◌, ◌^◌, false, Ok, length, slice_index_or};
 ghost use Rattle.plain_store.specs.{checked};
 ghost use Rattle.reader_copies.specs.{HasItsValue};
-ghost use Rattle.record.specs.{IsTornOf, value_of, width};
+ghost use Rattle.model.specs.{IsTornOf, value_of, width};
 ghost use Rattle.safe_number.specs.{bit_in, bits_in, bits_of_number, number_of_bits};
 ghost use Rattle.registers.specs.Accesses.{cursor_after, next_access, value_written};
 ghost use Rattle.registers.specs.Begins.{idle_cursor, is_fresh, is_torn, reading, settling, settling_from, torn_bit, writing};
@@ -16,7 +16,7 @@ use crate::fields::RegisterName;
 use crate::word_bytes::{bytes_of, register_bytes, words_of};
 use plain_store::Setup;
 use reader_copies::Torn;
-use record::{Access, Field, Move, TornBit, number_of_field, width_of};
+use model::{Access, Field, Move, TornBit, number_of_field, width_of};
 use std::marker::Model;
 
 /// The kind of a register access.

@@ -2,7 +2,7 @@
 ghost use Rattle.std.specs.Prelude.{◌≡◌};
 ghost use Rattle.registers.specs.BitCopies.{copy_named};
 
-use record::{Access, Field};
+use model::{Access, Field};
 
 /// One register: its owner, and its field among the owner's registers.
 #[derive(Clone, Copy)]

@@ -1,8 +1,8 @@
 //! The memory, and the accesses on it.
 ghost use Rattle.std.specs.Prelude.{◌≡◌, ◌≢◌, ℕ, ◌<◌, ◌≤◌, ◌+◌, ◌*◌, ◌%◌, length, false, IfOk, Ok};
 ghost use Rattle.plain_store.specs.{checked};
-ghost use Rattle.record.specs.{width};
-ghost use Rattle.flicks.specs.{after_flick, flick_of};
+ghost use Rattle.model.specs.{width};
+ghost use Rattle.choices.specs.{after_flick, flick_of};
 ghost use Rattle.registers.specs.Accesses.{LeadsTo, applied, cursor_after, ends_overlapped, newest_of, next_answered, overlapped_of, run_of};
 ghost use Rattle.registers.specs.Begins.{is_settling};
 ghost use Rattle.registers.specs.Cursors.{Fits, first_lane, rest_of};
@@ -15,10 +15,10 @@ mod seeing;
 
 use crate::access_made::{AccessMade, AccessesMade};
 use crate::cursor::{Cursor, NumberRun, word_at};
-use flicks::Flicks;
+use choices::Flicks;
 use plain_store::Setup;
 use reader_copies::Copies;
-use record::{Field, field_numbered, width_of};
+use model::{Field, field_numbered, width_of};
 use std::alloc::{AllocError, Global};
 use std::marker::Model;
 

@@ -1,7 +1,7 @@
 -- How the lines of a run are spelled.
 use Rattle.std.specs.Prelude.{ℕ, List, ◌++◌, codes}
 use Rattle.std.specs.Fmt.{decimal}
-use Rattle.record.specs.{Mark, Refusal, mark_text, refusal_text}
+use Rattle.model.specs.{Mark, Refusal, mark_text, refusal_text}
 use Rattle.run_lines.specs.declared.lines.ReplayLine.{ReplayLine}
 use Rattle.run_lines.specs.declared.lines.ReplayLine.TheVariants.{Marked, Refused, Tired, Shown, Ended}
 

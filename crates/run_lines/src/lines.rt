@@ -1,7 +1,7 @@
 //! The lines that `replay` prints.
 ghost use Rattle.run_lines.specs.Lines.{line_text};
 
-use record::{Mark, Refusal};
+use model::{Mark, Refusal};
 use std::fmt;
 
 /// A line of a run, as `replay` prints it. It is printed without its end.

@@ -12,13 +12,13 @@ use Rattle.std.proofs.lemmas.List.FromFn.{get_or-range_with_len, length-map-rang
 use Rattle.std.proofs.lemmas.Simd.{map-map}
 use Rattle.std.proofs.lemmas.Slice.Eq.{bytes_eq-Decides}
 use Rattle.plain_store.specs.{Setup, checked, opening_store}
-use Rattle.record.specs.store_image.{image_of}
-use Rattle.record.specs.safe_bit.Cell.{Cell}
-use Rattle.record.specs.safe_number.{bit_in}
-use Rattle.record.specs.declared.access.Field.TheVariants.{Choosing, Ticket, Commit, Stamp0, Stamp1, Image0, Image1}
-use Rattle.record.specs.{Field, Past, copy, opening_bits, processes, width}
-use Rattle.record.proofs.safe_number.Numbers.{length_bits}
-use Rattle.record.proofs.store_image.GoodRanges.{few-callers, few-slots}
+use Rattle.model.specs.store_image.{image_of}
+use Rattle.model.specs.safe_bit.Cell.{Cell}
+use Rattle.model.specs.safe_number.{bit_in}
+use Rattle.model.specs.declared.access.Field.TheVariants.{Choosing, Ticket, Commit, Stamp0, Stamp1, Image0, Image1}
+use Rattle.model.specs.{Field, Past, copy, opening_bits, processes, width}
+use Rattle.model.proofs.safe_number.Numbers.{length_bits}
+use Rattle.model.proofs.store_image.GoodRanges.{few-callers, few-slots}
 use Rattle.plain_store.proofs.GoodSetups.{good-checked}
 use Rattle.calls.specs.world.{CoreState, InEachCorePast}
 use Rattle.calls.specs.world.laws.{cell_held}

@@ -3,9 +3,9 @@ use Rattle.std.proofs.Common.{◌≡◌, ◌≢◌, ◌<◌, ◌==◌, ◌&&◌,
 use Rattle.std.specs.Prelude.{is_none, is_some}
 use Rattle.plain_store.specs.{Command, Setup}
 use Rattle.plain_store.specs.declared.Command.TheVariants.{Ask}
-use Rattle.record.specs.{Entry, Event, Past, entry_of, has, is_called, is_failed, number_in_call, past-induction, past_of}
-use Rattle.record.specs.Closings.{Closing, Withdraws, Settles, Frees, Lowers, Quit, Ended, closing_after}
-use Rattle.record.proofs.Width.{IsGood}
+use Rattle.model.specs.{Entry, Event, Past, entry_of, has, is_called, is_failed, number_in_call, past-induction, past_of}
+use Rattle.model.specs.Closings.{Closing, Withdraws, Settles, Frees, Lowers, Quit, Ended, closing_after}
+use Rattle.model.proofs.Width.{IsGood}
 use Rattle.calls.specs.{accesses_itself, first_if, first_in_call}
 use Rattle.calls.specs.world.laws.{Doing, call, closes, doing}
 use Rattle.calls.proofs.InCall.{first-mine, first-other}

@@ -6,7 +6,7 @@ use Rattle.std.proofs.lemmas.Option.{get_or_from_slice_get, slice_get-get_or, sl
 use Rattle.std.specs.List.{list_any, range_with_len}
 use Rattle.std.specs.Prelude.{is_none, is_some, slice_index_or}
 use Rattle.plain_store.specs.{Command, Setup}
-use Rattle.record.specs.{Access, Entry, Mark, Past, called_in, calls_in, has, is_failed, own, width}
+use Rattle.model.specs.{Access, Entry, Mark, Past, called_in, calls_in, has, is_failed, own, width}
 use Rattle.run_state.specs.{FinishedRead, HasHeard, Passes, ProcessKept, SnapshotState, TellsNumber, failed_at, has_accessed, kept, kept_marked, kept_stepped, nothing_kept, opened_if, read_after, read_last, read_with, without_accesses}
 use Rattle.calls.specs.{CallStanding, EntryKnown, accessed_by, begun, ends_number, first_if, heard, marked_all, standing}
 use Rattle.calls.specs.world.laws.{doing}

@@ -5,9 +5,9 @@ use Rattle.std.proofs.Math.Seq.{drop-append_seam}
 use Rattle.std.proofs.lemmas.Bool.Decides.{nat_tests}
 use Rattle.std.proofs.lemmas.List.{length-append}
 use Rattle.plain_store.specs.{Setup}
-use Rattle.record.specs.{Entry, Past, entry_of}
+use Rattle.model.specs.{Entry, Past, entry_of}
 use Rattle.calls.specs.scenario.{Line}
-use Rattle.calls.specs.course.{Happening, IsFront, IsLineMade, Lacks, LineMade, Looks, MadeNewest, Run, Tires, Tries, events_in, past_after, past_in, run_after, run_at_start, runs}
+use Rattle.calls.specs.scenario_run.{Happening, IsFront, IsLineMade, Lacks, LineMade, Looks, MadeNewest, Run, Tires, Tries, events_in, past_after, past_in, run_after, run_at_start, runs}
 use Rattle.calls.proofs.course_proofs.Grows.{Grows, lines_grow}
 use Rattle.run_state.specs.{EventsAreMade, IsMade, first_of, made_line, makes_event, making_line, number_in}
 

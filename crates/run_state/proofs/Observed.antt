@@ -6,8 +6,8 @@ use Rattle.std.specs.Option.{option_to_list}
 use Rattle.std.proofs.Math.Seq.{take-append_seam, take-nil}
 use Rattle.std.proofs.lemmas.List.{length-append, length-reverse, length-take, reverse-append, reverse-reverse, take-append-le, take_at}
 use Rattle.plain_store.specs.{Reply, Setup, checked}
-use Rattle.record.specs.{Access, Entry, Event, Mark, Past, Taken, entry_of, history, past_of, reply_taken}
-use Rattle.record.proofs.Width.{is_good}
+use Rattle.model.specs.{Access, Entry, Event, Mark, Past, Taken, entry_of, history, past_of, reply_taken}
+use Rattle.model.proofs.Width.{is_good}
 use Rattle.calls.specs.world.laws.{Doing, doing}
 use Rattle.calls.specs.world.process.{number_read, process_after}
 use Rattle.calls.specs.world.{CoreState, InEachCorePast}
@@ -16,7 +16,7 @@ use Rattle.calls.proofs.world_proofs.laws_proofs.FrameEvents.{accepted}
 use Rattle.judge.specs.{HasAudited, HasJudged, JudgeState}
 use Rattle.judge.specs.ThisLockVerdicts.{newest_first, newest_is_bad, stays_bad}
 use Rattle.judge.specs.auditor.{AllKeep, IsAt, IsOfEvent, IsVerdict, Law, Verdict}
-use Rattle.judge.specs.read_law.declared.verdicts.Verdict.TheVariants.{Good, Bad}
+use Rattle.judge.specs.safe_monitor.declared.verdicts.Verdict.TheVariants.{Good, Bad}
 use Rattle.judge.proofs.auditor.Recovers.{recovers}
 use Rattle.judge.proofs.auditor.Unique.{one_verdict}
 use Rattle.judge.proofs.auditor.Whole.{of_events}

@@ -1,8 +1,8 @@
 -- The state has only the first access of a call.
 use Rattle.std.proofs.Common.{◌≡◌, ℕ, Bool, true, false, cond, List, Option, Some, None, refl}
 use Rattle.plain_store.specs.{Setup}
-use Rattle.record.specs.{Past, Stage, Taken}
-use Rattle.record.specs.declared.stages.Stage.TheVariants.{Idle, Doorway, Waiting, Inside, Leaving, Settling, Down}
+use Rattle.model.specs.{Past, Stage, Taken}
+use Rattle.model.specs.declared.stages.Stage.TheVariants.{Idle, Doorway, Waiting, Inside, Leaving, Settling, Down}
 use Rattle.run_state.specs.{FinishedRead, call_kept, call_told, kept, open_lines, ticket_lines, without_accesses}
 use Rattle.calls.specs.{CallStanding, is_calling, open_call, standing}
 use Rattle.calls.specs.world.process.{TicketKnown}

@@ -1,13 +1,13 @@
 -- A scenario's lines were played up to an event: what the observer has seen then, and what is written of it.
 use Rattle.std.proofs.Common.{◌≡◌, ℕ, List, [], ◌++◌, Option, ap, sym, subst, ◌∙◌, append_assoc}
 use Rattle.plain_store.specs.{Setup}
-use Rattle.record.specs.{Event, Past, Taken, history, past_of}
+use Rattle.model.specs.{Event, Past, Taken, history, past_of}
 use Rattle.calls.specs.scenario.{Script}
 use Rattle.calls.specs.world.Cores.{InEachCorePast}
-use Rattle.calls.specs.course.world.{CoreState, with_history}
-use Rattle.calls.specs.course.world.Shows.{Shows, WorldState}
-use Rattle.calls.specs.course.{CourseState, Follows, LineMade, PlaysPart, PlaysUntil, events_in, past_in, run_at_start, tried}
-use Rattle.calls.specs.course.declared.until.Until.TheVariants as until
+use Rattle.calls.specs.scenario_run.world.{CoreState, with_history}
+use Rattle.calls.specs.scenario_run.world.Shows.{Shows, WorldState}
+use Rattle.calls.specs.scenario_run.{CourseState, Follows, LineMade, PlaysPart, PlaysUntil, events_in, past_in, run_at_start, tried}
+use Rattle.calls.specs.scenario_run.declared.until.Until.TheVariants as until
 use Rattle.run_state.specs.{HasSeen, Hears, Stands, StateObserver, WritesMade, head_lines, making_line, state_lines, state_of, stated}
 use Rattle.run_state.proofs.Makers.{front_is}
 

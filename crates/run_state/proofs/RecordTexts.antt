@@ -3,13 +3,13 @@ use Rattle.std.proofs.Common.{◌≡◌, ℕ, zero, suc, ◌-◌, List, [], ◌�
 use Rattle.std.proofs.lemmas.Bool.{cases_lt}
 use Rattle.std.proofs.lemmas.List.{length-drop, length-reverse, reverse-append, reverse-reverse, take-append-drop, take_all, take_at}
 use Rattle.plain_store.specs.{Setup}
-use Rattle.record.specs.{Entry, Past, Taken, history, past_of}
+use Rattle.model.specs.{Entry, Past, Taken, history, past_of}
 use Rattle.calls.specs.world.{CoreState, with_history}
 use Rattle.calls.specs.world.Shows.{Shows}
 use Rattle.judge.specs.Judgements.{status_of_verdict}
 use Rattle.judge.specs.{HasAudited}
 use Rattle.judge.specs.auditor.{AllKeep, Law, Verdict}
-use Rattle.judge.specs.read_law.declared.verdicts.Verdict.TheVariants.{Good}
+use Rattle.judge.specs.safe_monitor.declared.verdicts.Verdict.TheVariants.{Good}
 use Rattle.judge.proofs.auditor.Unique.{one_verdict}
 use Rattle.judge.proofs.auditor.Whole.{good_of}
 use Rattle.run_state.specs.{HasObserved, RecordObserver, RecordsHaveStatesOfRuns, Stands, IsStored, TellsState, bad_line, count_line, first_of, good_ones, line_of_newest, newest_line, newest_lines, newest_stored, recorded_state, state_after, state_lines}

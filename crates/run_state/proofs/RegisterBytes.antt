@@ -3,11 +3,11 @@ use Rattle.std.proofs.Common.{◌≡◌, ℕ, zero, suc, ◌-◌, ◌*◌, ◌/�
 use Rattle.std.specs.Int.{bit_at}
 use Rattle.std.proofs.lemmas.Bool.{cases_lt}
 use Rattle.std.proofs.lemmas.List.{ext_get_or, get_or-take, get_or_past, length-append, length-replicate, length-take-le}
-use Rattle.record.specs.{bytes_of_bits}
-use Rattle.record.specs.safe_number.{AreBytes, bit_in, bits_in, little_endian, number_of_bits}
-use Rattle.record.proofs.Bytes.{bytes-of-bits}
-use Rattle.record.proofs.safe_number.Bits.{bits-bytes}
-use Rattle.record.proofs.safe_number.Numbers.{bit_in-past, bit_in-take, bits-told, get-bits, length_bits, range_same}
+use Rattle.model.specs.{bytes_of_bits}
+use Rattle.model.specs.safe_number.{AreBytes, bit_in, bits_in, little_endian, number_of_bits}
+use Rattle.model.proofs.Bytes.{bytes-of-bits}
+use Rattle.model.proofs.safe_number.Bits.{bits-bytes}
+use Rattle.model.proofs.safe_number.Numbers.{bit_in-past, bit_in-take, bits-told, get-bits, length_bits, range_same}
 use Rattle.calls.specs.world.process.registers.{register_bytes}
 use Rattle.calls.proofs.world_proofs.process_proofs.registers_proofs.CopyBytes.{register-made}
 use Rattle.calls.proofs.world_proofs.process_proofs.registers_proofs.MadeBytes.{register-bits}

@@ -1,18 +1,18 @@
 -- An observer observes each report of a run.
 use Rattle.std.proofs.Common.{◌≡◌, ◌<◌, Bool, true, List, [], ◌∷◌, ℕ, zero, suc, Option, None, Some, refl, ap, sym, subst, ◌∙◌, arith}
 use Rattle.plain_store.specs.{Setup}
-use Rattle.record.specs.{Access, Entry, Past, entry_of, width}
-use Rattle.record.specs.declared.events.Event.TheVariants.{Step}
-use Rattle.record.proofs.Width.{is_good}
+use Rattle.model.specs.{Access, Entry, Past, entry_of, width}
+use Rattle.model.specs.declared.events.Event.TheVariants.{Step}
+use Rattle.model.proofs.Width.{is_good}
 use Rattle.calls.proofs.course_proofs.laws.Steps.{step_is}
-use Rattle.calls.specs.course.world.laws.{doing}
-use Rattle.calls.specs.course.world.process.{number_read}
+use Rattle.calls.specs.scenario_run.world.laws.{doing}
+use Rattle.calls.specs.scenario_run.world.process.{number_read}
 use Rattle.calls.specs.{ends_number}
 use Rattle.run_state.specs.{HasSeen, HearsTold, IsNewestWithin, Passes, StateObserver, TellsNumber, newest, newest_line, unmarked_entry}
 use Rattle.run_state.proofs.FirstAccesses.{has-first}
 use Rattle.calls.proofs.world_proofs.WorldShows.{past-after}
 use Rattle.calls.proofs.UnmarkedSteps.{inside_never, not_so}
-use Rattle.calls.specs.course.{Happening, Happens, PassWithin, Stepped, StepsOn, StepsWithin, Told, Tries, past_after, told_unmarked, tried}
+use Rattle.calls.specs.scenario_run.{Happening, Happens, PassWithin, Stepped, StepsOn, StepsWithin, Told, Tries, past_after, told_unmarked, tried}
 use Rattle.calls.proofs.Tabling.{in_turn, past_told}
 
 -- the report of a turn

@@ -3,9 +3,9 @@ use Rattle.std.proofs.Common.{◌≡◌, ◌<◌, ℕ, nat_lt, Bool, true, false
 use Rattle.std.proofs.lemmas.Bool.Decides.{nat_tests}
 use Rattle.std.specs.Prelude.{OnOk, Result, Ok, Err}
 use Rattle.plain_store.specs.{Setup}
-use Rattle.record.specs.{Access, Entry, Past, Taken, entry_of, history, past_of, stage}
-use Rattle.record.specs.declared.events.Event.TheVariants.{Step}
-use Rattle.record.proofs.Width.{is_good}
+use Rattle.model.specs.{Access, Entry, Past, Taken, entry_of, history, past_of, stage}
+use Rattle.model.specs.declared.events.Event.TheVariants.{Step}
+use Rattle.model.proofs.Width.{is_good}
 use Rattle.calls.specs.world.laws.{IsThere}
 use Rattle.calls.proofs.world_proofs.laws_proofs.HeldThere.{access_there}
 use Rattle.calls.specs.world.process.{ProcessState, process_after}

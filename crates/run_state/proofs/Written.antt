@@ -7,14 +7,14 @@ use Rattle.std.specs.List.{range_with_len}
 use Rattle.std.specs.Prelude.{Ok, if◌then◌else◌, option_map}
 use Rattle.plain_store.proofs.GoodSetups.{few-processes, good-checked}
 use Rattle.plain_store.specs.{Setup, checked}
-use Rattle.record.specs.safe_bit.declared.Move.TheVariants.{BeginRead, BeginWrite, EndRead, EndWrite, Settle}
-use Rattle.record.specs.safe_bit.Cell.{Cell}
-use Rattle.record.specs.safe_bit.{Move, read_value}
-use Rattle.record.specs.{Access, Call, Entry, Event, Field, Past, Reading, Run, Writing, access_at, access_of, bit_written, copy, ended, ended_with, entry_of, moves_of, next_written, opening_bit, past_of, valued, width}
-use Rattle.record.specs.Closings.{Withdraws, Settles, Frees, Lowers}
-use Rattle.record.specs.declared.access.Field.TheVariants.{Choosing, Ticket, Commit, Stamp0, Stamp1, Image0, Image1}
-use Rattle.record.specs.declared.events.Event.TheVariants.{Step}
-use Rattle.record.proofs.Width.{IsGood, is_good}
+use Rattle.model.specs.safe_bit.declared.Move.TheVariants.{BeginRead, BeginWrite, EndRead, EndWrite, Settle}
+use Rattle.model.specs.safe_bit.Cell.{Cell}
+use Rattle.model.specs.safe_bit.{Move, read_value}
+use Rattle.model.specs.{Access, Call, Entry, Event, Field, Past, Reading, Run, Writing, access_at, access_of, bit_written, copy, ended, ended_with, entry_of, moves_of, next_written, opening_bit, past_of, valued, width}
+use Rattle.model.specs.Closings.{Withdraws, Settles, Frees, Lowers}
+use Rattle.model.specs.declared.access.Field.TheVariants.{Choosing, Ticket, Commit, Stamp0, Stamp1, Image0, Image1}
+use Rattle.model.specs.declared.events.Event.TheVariants.{Step}
+use Rattle.model.proofs.Width.{IsGood, is_good}
 use Rattle.calls.specs.world.laws.Writes.{WritesFitTheirRegister, WritesLeaveTheirBits}
 use Rattle.calls.specs.world.laws.{Closes, CopiesHold, Doing, FitsItsRegister, HoldsBit, RegisterWrite, Runs, accesses_in_all, accesses_made, call, cell_held, doing, next_of, register_write, steps_alone, write_at, write_ended}
 use Rattle.calls.proofs.world_proofs.laws_proofs.Steps.{StepIs, step_is}

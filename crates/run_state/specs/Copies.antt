@@ -5,11 +5,11 @@ use Rattle.std.specs.Global.{Vec}
 use Rattle.std.specs.List.{list_all, list_any, range_with_len}
 use Rattle.std.specs.Str.{bytes_eq}
 use Rattle.plain_store.specs.{Contents, Setup, callers_of}
-use Rattle.record.specs.safe_bit.Cell.{Cell}
-use Rattle.record.specs.safe_number.{bits_in, number_of_bits}
-use Rattle.record.specs.store_image.{image_of, store_in}
-use Rattle.record.specs.{Access, Field, Past, bytes_of_bits, field_word, fields, image_bytes, opening_bits, processes}
-use Rattle.record.specs.declared.access.Field.TheVariants.{Image0, Image1}
+use Rattle.model.specs.safe_bit.Cell.{Cell}
+use Rattle.model.specs.safe_number.{bits_in, number_of_bits}
+use Rattle.model.specs.store_image.{image_of, store_in}
+use Rattle.model.specs.{Access, Field, Past, bytes_of_bits, field_word, fields, image_bytes, opening_bits, processes}
+use Rattle.model.specs.declared.access.Field.TheVariants.{Image0, Image1}
 use Rattle.calls.specs.world.{cells_held}
 use Rattle.calls.specs.world.laws.{cell_held}
 use Rattle.calls.specs.world.process.registers.{has_open_write, values_in}

@@ -2,12 +2,12 @@
 use Rattle.std.specs.Prelude.{◌≡◌, ℕ, ◌+◌, ◌-◌, ◌*◌, ◌/◌, ◌%◌, ◌==◌, nat_lt, Bool, true, false, not, ◌&&◌, ◌||◌, List, [], ◌++◌, codes, cond, if◌then◌else◌, Option, None, Some}
 use Rattle.std.specs.Fmt.{decimal}
 use Rattle.plain_store.specs.{Setup}
-use Rattle.record.specs.safe_bit.{Move}
-use Rattle.record.specs.safe_bit.declared.Move.TheVariants.{BeginWrite, EndWrite, EndRead}
-use Rattle.record.specs.{Access, Entry, Field, Past, Stage, entry_of, field_word, width}
-use Rattle.record.specs.declared.access.Field.TheVariants.{Ticket}
-use Rattle.record.specs.declared.events.Event.TheVariants.{Step}
-use Rattle.record.specs.declared.stages.Stage.TheVariants.{Doorway, Waiting, Inside, Settling}
+use Rattle.model.specs.safe_bit.{Move}
+use Rattle.model.specs.safe_bit.declared.Move.TheVariants.{BeginWrite, EndWrite, EndRead}
+use Rattle.model.specs.{Access, Entry, Field, Past, Stage, entry_of, field_word, width}
+use Rattle.model.specs.declared.access.Field.TheVariants.{Ticket}
+use Rattle.model.specs.declared.events.Event.TheVariants.{Step}
+use Rattle.model.specs.declared.stages.Stage.TheVariants.{Doorway, Waiting, Inside, Settling}
 use Rattle.judge.specs.record_file.scenario.{bit_word}
 use Rattle.calls.specs.{Called, holds_up, is_read_end, open_call}
 use Rattle.run_state.specs.declared.kept.FinishedRead.{FinishedRead}

@@ -2,7 +2,7 @@
 use Rattle.std.specs.Prelude.{◌≡◌, ℕ, zero, suc, ◌==◌, Bool, true, false, List, [], ◌∷◌, length, cond, Option, None, Some, is_none, is_some}
 use Rattle.std.specs.List.{list_any}
 use Rattle.plain_store.specs.{Setup}
-use Rattle.record.specs.{Access, Entry, Mark, Past, called_in, has, is_failed, width}
+use Rattle.model.specs.{Access, Entry, Mark, Past, called_in, has, is_failed, width}
 use Rattle.calls.specs.{CallStanding, Called, at_rest, begun, ends_number, first_if, marked_all, no_accesses, number_after, standing}
 use Rattle.run_state.specs.declared.kept.FinishedRead.{FinishedRead}
 use Rattle.calls.specs.world.laws.{doing}

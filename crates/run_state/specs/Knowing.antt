@@ -1,7 +1,7 @@
 -- Which past a core shows, and which one the lines of a process are of.
 use Rattle.std.specs.Prelude.{◌≡◌, ◌<◌, List, Ok}
 use Rattle.plain_store.specs.{checked}
-use Rattle.record.specs.{Event, Past, Taken, past_of}
+use Rattle.model.specs.{Event, Past, Taken, past_of}
 use Rattle.calls.specs.world.{CoreState, with_history}
 use Rattle.calls.specs.world.Shows.{Shows}
 use Rattle.run_state.specs.declared.process_lines.ProcessLines.{ProcessLines}

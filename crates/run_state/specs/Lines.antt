@@ -2,7 +2,7 @@
 use Rattle.std.specs.Prelude.{ℕ, List, [], ◌++◌, codes, slice_get, Option, None, Some}
 use Rattle.std.specs.Fmt.{decimal}
 use Rattle.plain_store.specs.{command_text, reply_text}
-use Rattle.record.specs.{Taken}
+use Rattle.model.specs.{Taken}
 use Rattle.calls.specs.{Called}
 
 -- a line of p

@@ -3,7 +3,7 @@ use Rattle.std.specs.Prelude.{◌≡◌, ◌<◌, ◌≤◌, ℕ, suc, ◌-◌, 
 use Rattle.std.specs.Fmt.{decimal}
 use Rattle.plain_store.specs.{Setup}
 use Rattle.calls.specs.scenario.{Line, Script, line_words, spaced}
-use Rattle.calls.specs.course.{LineMade, MadeNewest, Run, events_in, happenings, past_after, run_after, run_at_start, runs}
+use Rattle.calls.specs.scenario_run.{LineMade, MadeNewest, Run, events_in, happenings, past_after, run_after, run_at_start, runs}
 
 -- The number of the line that is followed by `after` lines, among the numbers of some lines.
 abbrev pub number_in : List ℕ → ℕ → ℕ

@@ -1,7 +1,7 @@
 -- What an observer of a record stores of its entries.
 use Rattle.std.specs.Prelude.{◌≡◌, ◌<◌, ℕ, List, [], ◌∷◌, ◌++◌, length, reverse, Option, None, Some, option_map}
 use Rattle.plain_store.specs.{Reply, Setup}
-use Rattle.record.specs.{Access, Entry, Mark, Past, Taken, history, reply_taken}
+use Rattle.model.specs.{Access, Entry, Mark, Past, Taken, history, reply_taken}
 use Rattle.calls.specs.world.process.{process_after}
 use Rattle.judge.specs.Judging.{HasJudged}
 use Rattle.run_state.specs.Keeping.{TellsNumber}

@@ -3,9 +3,9 @@ use Rattle.std.specs.Prelude.{ℕ, ◌+◌, ◌==◌, Bool, true, false, List, [
 use Rattle.std.specs.Fmt.{decimal}
 use Rattle.std.specs.Str.{bytes_eq}
 use Rattle.plain_store.specs.{Setup}
-use Rattle.record.specs.declared.events.Event.TheVariants.{Step}
-use Rattle.record.specs.{Entry, Past, Stage, calls_in, entry_of, history, own, stage, stage_word}
-use Rattle.record.specs.declared.stages.Stage.TheVariants.{Idle, Down}
+use Rattle.model.specs.declared.events.Event.TheVariants.{Step}
+use Rattle.model.specs.{Entry, Past, Stage, calls_in, entry_of, history, own, stage, stage_word}
+use Rattle.model.specs.declared.stages.Stage.TheVariants.{Idle, Down}
 use Rattle.judge.specs.record_file.{entry_line}
 use Rattle.calls.specs.{open_call}
 use Rattle.run_state.specs.Doing.{doing_lines}

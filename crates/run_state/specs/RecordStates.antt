@@ -1,7 +1,7 @@
 -- The state after the first entries of a record, by the laws of this project's lock.
 use Rattle.std.specs.Prelude.{◌≡◌, ℕ, List, [], ◌∷◌, ◌++◌, codes, reverse, take, Ok, Result, Some}
 use Rattle.plain_store.specs.{Setup, checked}
-use Rattle.record.specs.{AreGiven, Entry, Event, past_of}
+use Rattle.model.specs.{AreGiven, Entry, Event, past_of}
 use Rattle.judge.specs.Ends.{TrialEnds}
 use Rattle.judge.specs.Firsts.{TellsFirsts}
 use Rattle.judge.specs.Judgements.{status_of_verdict, verdict_line}
@@ -9,8 +9,8 @@ use Rattle.judge.specs.ReasonLines.{number_line}
 use Rattle.judge.specs.auditor.{IsVerdict, Law, Verdict}
 use Rattle.judge.specs.files.Engines.{Streams}
 use Rattle.judge.specs.files.{Fault}
-use Rattle.judge.specs.read_law.declared.verdicts.Verdict.TheVariants.{Good, Bad}
-use Rattle.judge.specs.read_law.{law_text}
+use Rattle.judge.specs.safe_monitor.declared.verdicts.Verdict.TheVariants.{Good, Bad}
+use Rattle.judge.specs.safe_monitor.{law_text}
 use Rattle.run_state.specs.States.{first_of, state_after}
 
 -- the items of the good entries: all, or those before the first bad entry

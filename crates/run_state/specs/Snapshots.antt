@@ -1,7 +1,7 @@
 -- The state of a run: what a snapshot keeps, and how it is written.
 use Rattle.std.specs.Prelude.{◌≡◌, ◌<◌, ℕ, List, ◌++◌, Ok, Some, flat_map, length, slice_get}
 use Rattle.plain_store.specs.{Setup, checked}
-use Rattle.record.specs.{Event, Past, Taken, history, past_of, processes}
+use Rattle.model.specs.{Event, Past, Taken, history, past_of, processes}
 use Rattle.calls.specs.world.{CoreState, with_history}
 use Rattle.calls.specs.world.Shows.{Shows}
 use Rattle.run_state.specs.declared.kept.ProcessKept.{ProcessKept}

@@ -2,10 +2,10 @@
 use Rattle.std.specs.Prelude.{◌≡◌, ◌-◌, ◌<◌, ◌≤◌, ◌^◌, ℕ, if◌then◌else◌, List, [], ◌∷◌, ◌++◌, codes, drop, length, Option, None, Some, option_map, Result, Ok, Err}
 use Rattle.std.specs.Str.{bytes_eq}
 use Rattle.plain_store.specs.{Setup}
-use Rattle.record.specs.{Access, Entry, Past}
+use Rattle.model.specs.{Access, Entry, Past}
 use Rattle.calls.specs.scenario.files.{FaultKind, LineFault, text_by}
 use Rattle.calls.specs.scenario.{Script, line_numbers, number_at, scenario_of}
-use Rattle.calls.specs.course.{Happening, IsMarked, Told, entry_made, happenings, past_after, run_at_start}
+use Rattle.calls.specs.scenario_run.{Happening, IsMarked, Told, entry_made, happenings, past_after, run_at_start}
 use Rattle.calls.specs.world.process.{left_at, process_after}
 use Rattle.run_state.specs.Processes.{count_line, newest_line}
 use Rattle.run_state.specs.Snapshots.{HasHeard, state_lines}

@@ -3,7 +3,7 @@ use Rattle.std.specs.Prelude.{ℕ, ◌==◌, Bool, not, List, [], ◌++◌, code
 use Rattle.std.specs.Fmt.{decimal}
 use Rattle.std.specs.List.{list_any, range_with_len}
 use Rattle.plain_store.specs.{Contents, Setup, callers_of, number_of, store_words}
-use Rattle.record.specs.{Taken, store_after}
+use Rattle.model.specs.{Taken, store_after}
 
 -- the numbers of the first `callers` callers
 abbrev pub numbers_of : ℕ → List ℕ → List ℕ

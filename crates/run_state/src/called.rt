@@ -7,7 +7,7 @@ ghost use Rattle.run_state.specs.Lines.{at_words, call_lines, call_words, line_i
 
 use calls::Called;
 use plain_store::{NestedTypes, Reply};
-use record::Taken;
+use model::Taken;
 use std::alloc::{AllocError, Global};
 
 /// Writes the start of a line of a process.

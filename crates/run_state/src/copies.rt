@@ -2,9 +2,9 @@
 ghost use Rattle.std.specs.Prelude.{◌≡◌, ◌↔◌, ◌<◌, ◌≤◌, ◌*◌, IfOk, IsTrue, Ok, codes, length, map};
 ghost use Rattle.std.specs.List.{list_any};
 ghost use Rattle.plain_store.specs.{checked};
-ghost use Rattle.record.specs.{Past, opening_bits, processes, width};
-ghost use Rattle.record.specs.declared.access.Field.TheVariants.{Image0};
-ghost use Rattle.record.specs.safe_number.{bits_in};
+ghost use Rattle.model.specs.{Past, opening_bits, processes, width};
+ghost use Rattle.model.specs.declared.access.Field.TheVariants.{Image0};
+ghost use Rattle.model.specs.safe_number.{bits_in};
 ghost use Rattle.run_state.specs.Knowing.{CoreShows};
 ghost use Rattle.run_state.specs.Copies.{are_other, bits_read, bits_text, texts_in};
 ghost use Rattle.calls.specs.world.{cells_held};
@@ -13,7 +13,7 @@ ghost use Rattle.calls.specs.world.process.registers.{copy_bytes, register_bytes
 use crate::register_text::shown;
 use calls::world::{Core, Image, RegisterName};
 use plain_store::{Setup, opened, pad};
-use record::Field;
+use model::Field;
 use std::alloc::{AllocError, Global};
 
 /// Returns the copies of a register as bytes, by reader; `None` while a write of one of a copy's bits is open.

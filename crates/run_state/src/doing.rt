@@ -10,7 +10,7 @@ use crate::kept::FinishedRead;
 use calls::world::{AccessProgress, BitSeen, Settling, TicketKnown};
 use calls::{Called, holds_up};
 use plain_store::NestedTypes;
-use record::{Access, Entry, Field, Move, Stage};
+use model::{Access, Entry, Field, Move, Stage};
 use std::alloc::{AllocError, Global};
 
 /// Returns when a process failed, while its unit settles.

@@ -2,12 +2,12 @@
 ghost use Rattle.std.specs.Prelude.{◌≡◌, ◌-◌, ◌<◌, ◌^◌, Ok, cond, None, Some};
 ghost use Rattle.std.specs.List.{list_any};
 ghost use Rattle.plain_store.specs.{checked};
-ghost use Rattle.record.specs.{is_failed};
+ghost use Rattle.model.specs.{is_failed};
 ghost use Rattle.run_state.specs.Keeping.{kept_marked, kept_stepped, nothing_kept, number_finished, opened};
 
 use calls::{CallStanding, Called, called_in, ends_number, number_after};
 use plain_store::{NestedTypes, Setup};
-use record::{Access, Mark};
+use model::{Access, Mark};
 
 /// The read of a whole register. Its number is worked out only where it is printed, because few of these reads are printed.
 #[derive(Clone, Copy)]

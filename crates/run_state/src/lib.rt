@@ -28,7 +28,7 @@ mod stating;
 mod stores;
 
 pub use calls::{list_record, run_calls};
-pub use fault_place::{FileKind, KeptFile, KeptInput, explanation};
+pub use diagnostics::{FileKind, KeptFile, KeptInput, explanation};
 pub use laws_of_lines::lines_make_events;
 pub use laws_of_records::records_have_states_of_runs;
 pub use record_stating::state_record;

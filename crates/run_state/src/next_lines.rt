@@ -5,7 +5,7 @@ ghost use Rattle.run_state.specs.Processes.{behind_process, lines_of_two, next_l
 
 use crate::called::push_head;
 use judge::print_entry;
-use record::Entry;
+use model::Entry;
 use std::alloc::{AllocError, Global};
 
 /// Writes what a step of a process adds with either flick: these entries.

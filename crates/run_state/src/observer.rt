@@ -2,19 +2,19 @@
 ghost use Rattle.std.specs.Prelude.{◌≡◌, ◌+◌, ◌-◌, ◌^◌, ◌<◌, ◌≤◌, ◌++◌, [], IfOk, Ok, OnOk, refl, false};
 ghost use Rattle.plain_store.specs.{checked};
 ghost use Rattle.calls.specs.scenario.files.declared.faults.Fault.TheVariants.{Memory};
-ghost use Rattle.calls.specs.course.{HearsUnmarked};
-ghost use Rattle.calls.specs.course.declared.told.Told.TheVariants.{Accepted as IsAccepted};
+ghost use Rattle.calls.specs.scenario_run.{HearsUnmarked};
+ghost use Rattle.calls.specs.scenario_run.declared.told.Told.TheVariants.{Accepted as IsAccepted};
 ghost use Rattle.calls.specs.world.Cores.{InEachCorePast};
 ghost use Rattle.run_state.specs.Processes.{newest_line};
 ghost use Rattle.run_state.specs.States.{HasSeen, Hears, HearsTold, entry_reported, head_lines, newest as newest_of, unmarked_entry};
 ghost use Rattle.calls.specs.Tables.{fewer};
 
 use crate::snapshot::Snapshot;
-use calls::course::{Accepted, Listener, Stepped, Told};
+use calls::scenario_run::{Accepted, Listener, Stepped, Told};
 use calls::scenario::Fault;
 use calls::world::Core;
 use plain_store::{NestedTypes, Setup};
-use record::{Access, Act, Entry, Move};
+use model::{Access, Act, Entry, Move};
 use smallvec::SmallVec;
 use std::alloc::{AllocError, Global};
 

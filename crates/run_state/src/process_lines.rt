@@ -1,7 +1,7 @@
 //! The lines of a process that runs, or whose memory unit settles.
 ghost use Rattle.std.specs.Prelude.{◌≡◌, ◌++◌, Bool, List, OnOk, false, length};
-ghost use Rattle.record.specs.{Past, entry_of, width};
-ghost use Rattle.record.specs.declared.Event.TheVariants.{Step};
+ghost use Rattle.model.specs.{Past, entry_of, width};
+ghost use Rattle.model.specs.declared.Event.TheVariants.{Step};
 ghost use Rattle.calls.specs.world.laws.{doing};
 ghost use Rattle.calls.specs.world.process.registers.{register_bytes};
 ghost use Rattle.calls.specs.world.process.{number_read, settling_of};
@@ -23,7 +23,7 @@ use crate::register_text::{bit_at, shown};
 use calls::world::laws::writes_leave_their_bits;
 use calls::world::{AccessProgress, Core, Settling, TicketKnown};
 use plain_store::{NestedTypes, Setup};
-use record::{Access, Entry, Stage, Taken};
+use model::{Access, Entry, Stage, Taken};
 use std::alloc::{AllocError, Global};
 
 /// Writes the lines of one process that runs, or whose memory unit settles.

@@ -4,7 +4,7 @@ ghost use Rattle.std.specs.Prelude.{◌≡◌, ◌≤◌};
 use crate::snapshot::Snapshot;
 use judge::ThisLockJudge;
 use plain_store::Setup;
-use record::{Entry, Taken};
+use model::{Entry, Taken};
 use std::alloc::Global;
 
 /// The newest good entry of a record.

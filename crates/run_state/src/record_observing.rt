@@ -2,9 +2,9 @@
 ghost use Rattle.std.specs.Prelude.{◌≡◌, ◌+◌, ◌-◌, ◌^◌, ◌<◌, ◌++◌, ◌∷◌, [], IfOk, List, OnOk, Some, ℕ};
 ghost use Rattle.plain_store.specs.{checked};
 ghost use Rattle.plain_store.specs.declared.setups.Setup.{Setup as Given};
-ghost use Rattle.record.specs.{Entry as Noted, Past, Taken as Placed, history, reply_taken};
+ghost use Rattle.model.specs.{Entry as Noted, Past, Taken as Placed, history, reply_taken};
 ghost use Rattle.calls.specs.world.Cores.{InEachCorePast};
-ghost use Rattle.judge.specs.read_law.{entry_by};
+ghost use Rattle.judge.specs.safe_monitor.{entry_by};
 ghost use Rattle.run_state.specs.Observing.{HasObserved, IsNext, StoresNext, newest_lines, taken_with};
 ghost use Rattle.run_state.specs.RecordStates.{TellsState, bad_line};
 ghost use Rattle.run_state.specs.Snapshots.{HasHeard};
@@ -17,7 +17,7 @@ use judge::{
     status_of, verdict_line,
 };
 use plain_store::{NestedTypes, Reply, Setup};
-use record::{Access, Entry, Mark, Taken};
+use model::{Access, Entry, Mark, Taken};
 use std::alloc::{AllocError, Global};
 
 impl Hearer for RecordObserver {

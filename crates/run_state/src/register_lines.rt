@@ -4,7 +4,7 @@ ghost use Rattle.std.specs.List.{range_with_len};
 ghost use Rattle.std.specs.Str.{bytes_eq};
 ghost use Rattle.std.specs.String.{string_bytes};
 ghost use Rattle.plain_store.specs.{checked};
-ghost use Rattle.record.specs.{Past, fields};
+ghost use Rattle.model.specs.{Past, fields};
 ghost use Rattle.run_state.specs.Knowing.{CoreShows};
 ghost use Rattle.run_state.specs.Copies.{are_all, copies_lines, is_among, line_of_first, lines_of_register, reader_if, register_lines, register_words, texts_in};
 ghost use Rattle.run_state.specs.Stores.{number_word};
@@ -12,7 +12,7 @@ ghost use Rattle.run_state.specs.Stores.{number_word};
 use crate::copies::{are_changed, copies_held, copy_texts, opening_bytes};
 use calls::world::{Core, RegisterName};
 use plain_store::Setup;
-use record::{FIELDS, field_numbered};
+use model::{FIELDS, field_numbered};
 use std::alloc::{AllocError, Global};
 
 /// Writes the lines of the registers of which a copy is not as it opened, or is being written.

@@ -2,8 +2,8 @@
 ghost use Rattle.std.specs.Prelude.{◌≡◌, ◌<◌, ◌≤◌, ◌*◌, ℕ, Bool, false, IfOk, List, Ok, codes, length, slice_index_or};
 ghost use Rattle.std.specs.Fmt.{decimal};
 ghost use Rattle.plain_store.specs.{checked};
-ghost use Rattle.record.specs.{Past, image_bytes, width};
-ghost use Rattle.record.specs.safe_number.{bit_in, bits_in, number_of_bits};
+ghost use Rattle.model.specs.{Past, image_bytes, width};
+ghost use Rattle.model.specs.safe_number.{bit_in, bits_in, number_of_bits};
 ghost use Rattle.calls.specs.world.laws.{IsThere};
 ghost use Rattle.run_state.specs.Knowing.{CoreShows};
 ghost use Rattle.run_state.specs.Copies.{bit_at, image_text, shown};
@@ -11,7 +11,7 @@ ghost use Rattle.run_state.specs.Copies.{bit_at, image_text, shown};
 use crate::stores::push_store;
 use calls::world::{BitCopy, BitSeen, Core, Image};
 use plain_store::Setup;
-use record::{Access, Field, image_bytes, width_of};
+use model::{Access, Field, image_bytes, width_of};
 use safe_number::number_of;
 use std::alloc::{AllocError, Global};
 

@@ -1,7 +1,7 @@
 //! The state of a run.
 ghost use Rattle.std.specs.Prelude.{◌≡◌, ◌+◌, ◌-◌, ◌^◌, ◌<◌, ◌++◌, ◌∷◌, [], IfOk, List, Ok, OnOk, Some, flat_map, is_some, ℕ};
 ghost use Rattle.plain_store.specs.{checked};
-ghost use Rattle.record.specs.{Entry as Noted, Past, processes};
+ghost use Rattle.model.specs.{Entry as Noted, Past, processes};
 ghost use Rattle.run_state.specs.Keeping.{Passes, TellsNumber, kept as kept_of};
 ghost use Rattle.run_state.specs.Processes.{count_line, is_resting as rests, newest_line, process_lines, rest_line};
 ghost use Rattle.run_state.specs.Snapshots.{HasHeard, Stands, state_lines};
@@ -15,7 +15,7 @@ use crate::stores::push_history;
 use calls::world::Core;
 use calls::{Accesses, CallStanding, Called, Marked};
 use plain_store::{NestedTypes, Setup};
-use record::{Access, Entry, Mark, Stage, Taken};
+use model::{Access, Entry, Mark, Stage, Taken};
 use std::alloc::{AllocError, Global};
 use std::marker::Model;
 

@@ -3,15 +3,15 @@ ghost use Rattle.std.specs.Prelude.{◌≡◌, ◌-◌, ◌^◌, ◌<◌, [], If
 ghost use Rattle.calls.specs.scenario.files.Engines.{Ran, streams};
 ghost use Rattle.calls.specs.scenario.files.{ReadsFront};
 ghost use Rattle.calls.specs.scenario.{script};
-ghost use Rattle.calls.specs.course.{Follows, run_at_start};
+ghost use Rattle.calls.specs.scenario_run.{Follows, run_at_start};
 ghost use Rattle.run_state.specs.Making.{WritesMade};
 ghost use Rattle.run_state.specs.States.{HasSeen, events_said as said_by, state_text, stated};
 
 use crate::observer::StateObserver;
-use calls::course::{Course, LineMade, Until};
+use calls::scenario_run::{Course, LineMade, Until};
 use calls::scenario::operands::number;
 use calls::scenario::{Fault, Scenario, Sink, Source, read_input, read_scenario, write_all};
-use fault_place::progress::Onlooker;
+use diagnostics::progress::Onlooker;
 use plain_store::NestedTypes;
 use std::alloc::{AllocError, Global};
 

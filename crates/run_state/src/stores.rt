@@ -2,12 +2,12 @@
 ghost use Rattle.std.specs.Prelude.{◌≡◌, ◌++◌, flat_map, IfOk, Ok, OnOk};
 ghost use Rattle.std.specs.List.{list_any};
 ghost use Rattle.plain_store.specs.{checked};
-ghost use Rattle.record.specs.{store_after};
+ghost use Rattle.model.specs.{store_after};
 ghost use Rattle.run_state.specs.Stores.{history_lines, is_some_call, number_word, numbers_of, store_text};
 
 use calls::world::Image;
 use plain_store::{Caller, NestedTypes, Setup, Store, opened, store_words};
-use record::Taken;
+use model::Taken;
 use std::alloc::{AllocError, Global};
 
 /// Writes the pairs of a store, or `empty`, and the numbers of its callers, unless all are 0.

@@ -8,8 +8,8 @@ use Rattle.plain_store.specs.{Command}
 use Rattle.plain_store.specs.declared.commands.Command.TheVariants as command
 use Rattle.files.specs.{FaultKind, counted, known, word, ◌>>=◌}
 use Rattle.files.specs.declared.faults.FaultKind.TheVariants.{Unknown}
-use Rattle.flicks.specs.{Flick}
-use Rattle.flicks.specs.declared.Flick.TheVariants as flick
+use Rattle.choices.specs.{Flick}
+use Rattle.choices.specs.declared.Flick.TheVariants as flick
 use Rattle.scenario.specs.{LineWord, Operand, Target, Verb, a_count, a_process, a_seed, are_operands, call_of, command_of, commands, fault_of, fits_form, flick_of, flick_ways, go_of, has_row, integer_at, is_operand, is_verb_of, line_of, name_at, number_at, operand_count, process_of, show_of, stages, step_of, target_of, targets, value_at, verb_of, verbs, wander_of}
 use Rattle.scenario.specs.declared.forms.Operand.TheVariants.{Integer, Name, Value}
 use Rattle.scenario.specs.declared.keywords.Verb.TheVariants as verb

@@ -12,7 +12,7 @@ use Rattle.scenario.specs.{Line, LineWord, Verb, call_of, command_of, command_wo
 use Rattle.files.specs.declared.faults.FaultKind.TheVariants.{Unknown}
 use Rattle.scenario.specs.declared.keywords.LineWord.TheVariants as opener
 use Rattle.scenario.specs.declared.keywords.Verb.TheVariants as verb
-use Rattle.flicks.specs.declared.Flick.TheVariants as flick
+use Rattle.choices.specs.declared.Flick.TheVariants as flick
 use Rattle.scenario.specs.declared.lines.Line.TheVariants as line
 use Rattle.scenario.proofs.OneSpelling.{number_spelled, integer_at_spelled, name_spelled, value_spelled, verb_word, verb_spelled, target_spelled}
 use Rattle.files.proofs.Passing.{passed, length_of}

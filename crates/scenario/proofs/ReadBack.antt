@@ -15,8 +15,8 @@ use Rattle.scenario.specs.declared.keywords.Heading.TheVariants.{Processes, Tick
 use Rattle.scenario.specs.declared.keywords.LineWord.TheVariants as name
 use Rattle.scenario.specs.declared.keywords.Opener.TheVariants as opener
 use Rattle.scenario.specs.declared.keywords.Verb.TheVariants as verb
-use Rattle.flicks.specs.{Flick}
-use Rattle.flicks.specs.declared.Flick.TheVariants as flick
+use Rattle.choices.specs.{Flick}
+use Rattle.choices.specs.declared.Flick.TheVariants as flick
 use Rattle.scenario.specs.declared.lines.Line.TheVariants as line
 use Rattle.scenario.specs.declared.lines.Target.TheVariants as target
 use Rattle.files.proofs.Said.{said_line}

@@ -12,7 +12,7 @@ use Rattle.plain_store.specs.declared.commands.Command.TheVariants as command
 use Rattle.scenario.specs.{Heading, IsScenario, Line, Script, Target, command_words, is_line, is_line_of, line_words, most_of, open_words, script_words, setup_words, target_word}
 use Rattle.files.specs.{begins_with}
 use Rattle.scenario.specs.declared.keywords.Heading.TheVariants.{Processes, Tickets, Stamps, Slots}
-use Rattle.flicks.specs.declared.Flick.TheVariants as flick
+use Rattle.choices.specs.declared.Flick.TheVariants as flick
 use Rattle.scenario.specs.declared.lines.Line.TheVariants as line
 use Rattle.scenario.specs.declared.lines.Target.TheVariants as target
 use Rattle.scenario.proofs.HeadingLists.{heading_in}

@@ -1,5 +1,5 @@
 pub use Rattle.files.specs as files
-pub use Rattle.flicks.specs as flicks
+pub use Rattle.choices.specs as choices
 pub mod BitFiles
 pub mod Forms
 pub mod Keywords

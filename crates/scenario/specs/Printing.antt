@@ -6,8 +6,8 @@ use Rattle.plain_store.specs.declared.commands.Command.TheVariants as command
 use Rattle.scenario.specs.Reading.{Script}
 use Rattle.scenario.specs.declared.keywords.Heading.{Heading}
 use Rattle.scenario.specs.declared.keywords.Heading.TheVariants.{Processes, Tickets, Stamps, Slots}
-use Rattle.flicks.specs.{Flick}
-use Rattle.flicks.specs.declared.Flick.TheVariants as flick
+use Rattle.choices.specs.{Flick}
+use Rattle.choices.specs.declared.Flick.TheVariants as flick
 use Rattle.scenario.specs.declared.lines.Line.{Line}
 use Rattle.scenario.specs.declared.lines.Line.TheVariants as line
 use Rattle.scenario.specs.declared.lines.Target.{Target}

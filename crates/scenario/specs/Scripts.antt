@@ -4,8 +4,8 @@ use Rattle.std.specs.List.{list_all}
 use Rattle.plain_store.specs.{checked, is_command, is_pair, names_differ}
 use Rattle.scenario.specs.Reading.{Script}
 use Rattle.scenario.specs.Statements.{is_line_of}
-use Rattle.flicks.specs.{Flick}
-use Rattle.flicks.specs.declared.Flick.TheVariants as flick
+use Rattle.choices.specs.{Flick}
+use Rattle.choices.specs.declared.Flick.TheVariants as flick
 use Rattle.scenario.specs.declared.lines.Line.{Line}
 use Rattle.scenario.specs.declared.lines.Line.TheVariants as line
 

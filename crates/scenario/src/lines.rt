@@ -1,5 +1,5 @@
 //! The lines of a scenario.
-use flicks::Flick;
+use choices::Flick;
 use plain_store::Command;
 
 /// The stage up to which a process goes.

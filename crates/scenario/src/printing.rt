@@ -10,7 +10,7 @@ ghost use Rattle.std.specs.List.{list_all};
 use crate::lines::{Line, Target};
 use crate::scenarios::Scenario;
 use crate::sound::sound_line;
-use flicks::Flick;
+use choices::Flick;
 use plain_store::{Name, NestedTypes, Opening, Setup, Value};
 use std::alloc::{AllocError, Global};
 use std::fmt;

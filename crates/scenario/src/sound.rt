@@ -3,7 +3,7 @@ ghost use Rattle.std.specs.Prelude.{◌≡◌, ◌^◌, true, nat_lt};
 ghost use Rattle.scenario.specs.Scripts.{is_line, is_flick};
 
 use crate::lines::Line;
-use flicks::Flick;
+use choices::Flick;
 use plain_store::NestedTypes;
 
 /// Its process has 8 bits, and its other operands are names, values and numbers.

@@ -7,7 +7,7 @@ use crate::keywords::{LineWord, Verb};
 use crate::lines::{Line, Target};
 use crate::operands::{count, integer, name, number, process, value};
 use files::FaultKind;
-use flicks::Flick;
+use choices::Flick;
 use plain_store::Command;
 
 impl Verb {

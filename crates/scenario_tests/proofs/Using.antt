@@ -2,13 +2,13 @@
 use Rattle.std.proofs.Common.{◌≡◌, ℕ, List, ◌∷◌, Option, None, Some, Result, Ok, Err, IfSome, OnOk, ap, subst, sym, ◌∙◌}
 use Rattle.std.specs.Io.KnownBytes.{Appends}
 use Rattle.plain_store.specs.{Setup}
-use Rattle.record.specs.{Act, Entry, Event, IsAlone, Past, past_of}
+use Rattle.model.specs.{Act, Entry, Event, IsAlone, Past, past_of}
 use Rattle.scenario.specs.files.Engines.{Streams, Ran}
 use Rattle.scenario.specs.{Script, scenario_of}
 use Rattle.scenario.specs.files.{Fault, ◌>>=◌}
 use Rattle.auditor.specs.world.{Adds, GoesOn, KeepsTheHeadline, entry_with}
 use Rattle.auditor.specs.world.Shows.{Shows, WorldState}
-use Rattle.engines.specs.course.{InputKeepsHeadline, RunKeepsHeadline, Summary, ended, replay_text, replayed}
+use Rattle.engines.specs.scenario_run.{InputKeepsHeadline, RunKeepsHeadline, Summary, ended, replay_text, replayed}
 use Rattle.scenario_tests.specs.{AreAlone, InputPrintsTrueReplies, PrintsTrueReplies}
 
 pub two_alone : (w mid : WorldState) (first : Event) (p : ℕ) (one : Act) (q : ℕ) (two : Act) → (events : List Event) × Shows w events →

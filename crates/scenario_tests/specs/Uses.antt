@@ -1,10 +1,10 @@
 -- The facts about a world and about a replay that callers have from the contracts alone.
 use Rattle.std.specs.Prelude.{◌≡◌, ℕ, List, ◌∷◌, ◌++◌, Option, IfSome, Ok}
 use Rattle.std.specs.Io.KnownBytes.{Appends}
-use Rattle.record.specs.{Act, Entry, IsAlone, Past, StandsInHistory}
+use Rattle.model.specs.{Act, Entry, IsAlone, Past, StandsInHistory}
 use Rattle.scenario.specs.{Script, scenario_of}
 use Rattle.auditor.specs.world.{entry_with}
-use Rattle.engines.specs.course.{happenings, past_after, replayed}
+use Rattle.engines.specs.scenario_run.{happenings, past_after, replayed}
 
 -- after some past, two processes do these acts, one after the other, and with each act no two processes are inside together
 pub record AreAlone (p : ℕ) (first : Act) (q : ℕ) (second : Act) : Type 0 where

@@ -6,7 +6,7 @@ use crate::scenarios::{LONE_WRITE, TICKETS_FULL, TIE_OF_TICKETS};
 use auditor::{Law, Record, Verdict, audit};
 use engines::{events_of, record_of, status_of};
 use plain_store::{Answer, NestedTypes, Reply, Setup};
-use record::{Access, Act, Mark, Move};
+use model::{Access, Act, Mark, Move};
 use scenario::{Scenario, read_scenario};
 use std::alloc::{AllocError, Global};
 use std::process::Abort;

@@ -3,7 +3,7 @@
 use crate::worlds::{a, make};
 use auditor::World;
 use plain_store::{Command, Setup, Store, Value};
-use record::{Event, Refusal, Stage};
+use model::{Event, Refusal, Stage};
 use std::alloc::{AllocError, Global};
 use std::process::Abort;
 use std::test::Fail;

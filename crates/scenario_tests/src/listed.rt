@@ -9,7 +9,7 @@ use auditor::World;
 use bstr::ByteSlice;
 use engines::events_of;
 use plain_store::Setup;
-use record::{Act, Event};
+use model::{Act, Event};
 use scenario::{FromRead, IntoWrite, Scenario, read_scenario};
 use std::alloc::{AllocError, Global};
 use std::test::Fail;

@@ -1,5 +1,5 @@
 //! Entries as lines: each line is read, and its entry is printed as that line again.
-use record::Entry;
+use model::Entry;
 use record_file::{StepLine, print_entry, read_entry, read_step};
 use scenario::FaultKind::{self, Words};
 use std::alloc::{AllocError, Global};

@@ -7,7 +7,7 @@ use crate::scenarios::{COMMENTS_AND_SPACES, FAILURE_COMMIT_SETTLED_NEW, LONE_WRI
 use auditor::{Record, Verdict, audit};
 use engines::{events_of, record_of};
 use plain_store::Setup;
-use record::Event;
+use model::Event;
 use scenario::{Scenario, read_scenario};
 use std::alloc::AllocError;
 use std::process::Abort;

@@ -1,13 +1,13 @@
 //! Facts that callers have from the contracts of a world and of a replay alone: no law is called here, and no proof of
 //! the crates below is cited.
 ghost use Rattle.std.specs.Prelude.{◌-◌, ◌^◌, ◌<◌, IfOk, OnOk};
-ghost use Rattle.record.specs.{process_of};
+ghost use Rattle.model.specs.{process_of};
 ghost use Rattle.scenario_tests.specs.Uses.{AreAlone, InputPrintsTrueReplies};
 
 use auditor::World;
 use engines::progress::Nobody;
 use engines::{Summary, replay};
-use record::{Act, Event, Refusal};
+use model::{Act, Event, Refusal};
 use scenario::{Fault, Sink, Source};
 use std::alloc::Global;
 

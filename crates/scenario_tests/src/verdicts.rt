@@ -8,7 +8,7 @@ use crate::worlds::a;
 use auditor::{Auditor, Record, audit, parts};
 use engines::{Law, Swept, Verdict, events_of, record_of, sweep};
 use plain_store::{Command, Setup, Value};
-use record::{Entry, Event, Mark};
+use model::{Entry, Event, Mark};
 use scenario::read_scenario;
 use std::alloc::{AllocError, Global};
 use std::process::Abort;

@@ -2,7 +2,7 @@
 use crate::uses::two_events;
 use auditor::World;
 use plain_store::{Command, Name, Setup};
-use record::{Act, Event, Mark, Refusal, Stage};
+use model::{Act, Event, Mark, Refusal, Stage};
 use std::alloc::Global;
 use std::process::Abort;
 use std::test::Fail;

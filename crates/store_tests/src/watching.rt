@@ -1,7 +1,7 @@
 //! The monitor of the law `safe`, move by move on one bit, and on several bits.
 use plain_store::Setup;
-use read_law::Watch;
-use record::{Access, Field, Move};
+use safe_monitor::Watch;
+use model::{Access, Field, Move};
 use std::alloc::{AllocError, Global};
 use std::test::Fail;
 

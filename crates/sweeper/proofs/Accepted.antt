@@ -4,7 +4,7 @@ use Rattle.std.specs.Prelude.{is_none}
 use Rattle.std.proofs.lemmas.Bool.{and_from}
 use Rattle.std.specs.List.{list_all}
 use Rattle.plain_store.specs.{Setup}
-use Rattle.record.specs.{Entry, Event, Past, Refusal, added, entry_of, is_event, past_of, refused}
+use Rattle.model.specs.{Entry, Event, Past, Refusal, added, entry_of, is_event, past_of, refused}
 use Rattle.world.specs.Shows.{Shows, WorldState, world_of}
 use Rattle.sweeper.specs.{is_accepted}
 

@@ -5,8 +5,8 @@ use Rattle.std.proofs.lemmas.List.{length-append, length_push, reverse-append, t
 use Rattle.std.proofs.lemmas.List.Elements.{All-push, filter-append}
 use Rattle.std.proofs.lemmas.List.Filters.{length-filter_both}
 use Rattle.plain_store.specs.{Command, Setup}
-use Rattle.record.specs.{Event, KeepsHeadlineThroughout, past_of, process_of}
-use Rattle.record.specs.declared.events.Event.TheVariants.{Fail}
+use Rattle.model.specs.{Event, KeepsHeadlineThroughout, past_of, process_of}
+use Rattle.model.specs.declared.events.Event.TheVariants.{Fail}
 use Rattle.auditor.specs.{AllKeep}
 use Rattle.world.proofs.history_laws_proofs.Headlines.{throughout}
 use Rattle.auditor.proofs.Whole.{good_of}

@@ -4,7 +4,7 @@ use Rattle.std.proofs.lemmas.List.{length-map, length_push}
 use Rattle.std.proofs.lemmas.List.FromFn.{length-range_with_len}
 use Rattle.plain_store.proofs.GoodSetups.{few-processes}
 use Rattle.plain_store.specs.{Reply, Setup}
-use Rattle.record.specs.{Entry, Event, Past, Taken, entry_of, history, is_call, past_of, processes, reply_taken}
+use Rattle.model.specs.{Entry, Event, Past, Taken, entry_of, history, is_call, past_of, processes, reply_taken}
 use Rattle.world.specs.process.{Effect}
 use Rattle.world.specs.{CoreState, Seat, pending_in, seat_of, taking, with_history}
 use Rattle.world.specs.Shows.{Shows, WorldState}

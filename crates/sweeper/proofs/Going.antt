@@ -6,8 +6,8 @@ use Rattle.std.proofs.lemmas.List.FromFn.{get_or-range_with_len, length-range_wi
 use Rattle.std.proofs.lemmas.List.Sums.{fold-append}
 use Rattle.std.specs.List.{list_any, range_with_len}
 use Rattle.plain_store.specs.{Setup}
-use Rattle.record.specs.{Event}
-use Rattle.record.specs.declared.events.Event.TheVariants.{Step}
+use Rattle.model.specs.{Event}
+use Rattle.model.specs.declared.events.Event.TheVariants.{Step}
 use Rattle.sweeper.specs.{Follows, OfRun, RunnerState, RunsBy, as_long_as}
 
 -- some of the loop is done: the rest leads from the present run to the run to which the whole loop leads from the first one

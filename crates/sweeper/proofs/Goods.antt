@@ -4,9 +4,9 @@ use Rattle.std.proofs.lemmas.List.{reverse-reverse}
 use Rattle.std.proofs.lemmas.List.Elements.{All-head, All-tail}
 use Rattle.std.specs.List.{All, AllZip}
 use Rattle.plain_store.specs.{Setup, checked}
-use Rattle.record.specs.{AreGiven, past_of}
+use Rattle.model.specs.{AreGiven, past_of}
 use Rattle.auditor.specs.{AllKeep, IsVerdict, Law, Verdict}
-use Rattle.auditor.specs.read_law.declared.verdicts.Verdict.TheVariants.{Good, Bad}
+use Rattle.auditor.specs.safe_monitor.declared.verdicts.Verdict.TheVariants.{Good, Bad}
 use Rattle.auditor.proofs.Unique.{not_bad}
 use Rattle.auditor.proofs.Whole.{good_of}
 use Rattle.sweeper.specs.{AreAllGood, Counts, Cut, IsFound, Swept, SweptRunsAreGood, all_good, cuts, first_bad_of, is_good, record_of_cut}

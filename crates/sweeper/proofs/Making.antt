@@ -1,7 +1,7 @@
 -- A runner makes an event, and its auditor observes the entry, which keeps all laws.
 use Rattle.std.proofs.Common.{◌≡◌, ℕ, ◌+◌, Bool, true, false, List, ◌∷◌, length, map, Option, None, Some, refl, ap, sym, subst, ◌∙◌}
 use Rattle.std.specs.Prelude.{is_none, is_some, not}
-use Rattle.record.specs.{Access, AreGiven, Entry, Event, Mark, Past, Refusal, Taken, entry_of, history, is_event, past_of, placed, process_of, refused, reply_taken}
+use Rattle.model.specs.{Access, AreGiven, Entry, Event, Mark, Past, Refusal, Taken, entry_of, history, is_event, past_of, placed, process_of, refused, reply_taken}
 use Rattle.plain_store.specs.{Setup}
 use Rattle.world.specs.process.{Effect, act_of, marks_of}
 use Rattle.world.specs.{Adds, CoreMakes, CoreRefuses, CoreState, call_in, entry_with, taking, with_history, with_taken}
@@ -9,7 +9,7 @@ use Rattle.world.specs.Shows.{Shows, WorldState}
 use Rattle.world.proofs.CoreKeeps.{taken_length}
 use Rattle.world.proofs.WorldShows.{past-after}
 use Rattle.auditor.specs.{AuditorState, HasHeard, IsHeard, KeepsAll, Law}
-use Rattle.auditor.specs.read_law.{entry_by}
+use Rattle.auditor.specs.safe_monitor.{entry_by}
 use Rattle.auditor.proofs.Obeys.{obeys}
 use Rattle.sweeper.specs.{Accepts, Follows, RunnerState, RunsOn, is_accepted}
 use Rattle.sweeper.proofs.Accepted.{adds_accepted, past_kept, refused_not, shows_refused}

@@ -1,10 +1,10 @@
 -- The processes whose steps and whose failures are accepted.
 use Rattle.std.proofs.Common.{◌≡◌, ℕ, ◌&&◌, nat_lt, Bool, true, false, cond, Option, None, Some, refl}
 use Rattle.std.specs.Prelude.{is_none}
-use Rattle.record.specs.declared.events.Event.TheVariants.{Step, Fail}
-use Rattle.record.specs.{Refusal, Stage, past_of, refused_at, stage}
-use Rattle.record.specs.declared.refusals.Refusal.TheVariants.{CallsFull, NoProcess}
-use Rattle.record.specs.declared.stages.Stage.TheVariants as stages
+use Rattle.model.specs.declared.events.Event.TheVariants.{Step, Fail}
+use Rattle.model.specs.{Refusal, Stage, past_of, refused_at, stage}
+use Rattle.model.specs.declared.refusals.Refusal.TheVariants.{CallsFull, NoProcess}
+use Rattle.model.specs.declared.stages.Stage.TheVariants as stages
 use Rattle.sweeper.specs.{FailsAreOfWhomStands, StepsAreOfWhomMoves, moves, stands}
 
 -- an event that is not a call is refused by the stage of its process alone

@@ -4,8 +4,8 @@ use Rattle.std.proofs.Math.Bool.{or-false}
 use Rattle.std.proofs.lemmas.List.{take_more}
 use Rattle.std.proofs.lemmas.List.Sums.{fold-append}
 use Rattle.plain_store.specs.{Command, Setup}
-use Rattle.record.specs.{Event}
-use Rattle.record.specs.declared.events.Event.TheVariants.{Call, Step, Fail, Restart}
+use Rattle.model.specs.{Event}
+use Rattle.model.specs.declared.events.Event.TheVariants.{Call, Step, Fail, Restart}
 use Rattle.sweeper.specs.{Follows, IsRun, Run, RunnerState, RunsOn, cut_off, goes, is_accepted, most, on_from, rounds, steps_of, with_call, with_calls}
 
 -- a call that is refused

@@ -4,8 +4,8 @@ use Rattle.std.proofs.lemmas.Bool.{and_from, and_parts, cond_both}
 use Rattle.std.proofs.lemmas.List.Elements.{All-append, All-cons, All-nil}
 use Rattle.std.specs.List.{All, list_all}
 use Rattle.plain_store.specs.{Command, Setup, is_command}
-use Rattle.record.specs.{AreGiven, Event, is_event, process_of, processes}
-use Rattle.record.specs.declared.events.Event.TheVariants.{Call, Step, Fail, Restart}
+use Rattle.model.specs.{AreGiven, Event, is_event, process_of, processes}
+use Rattle.model.specs.declared.events.Event.TheVariants.{Call, Step, Fail, Restart}
 use Rattle.sweeper.specs.{Cut, Run, as_long_as, cut, cut_off, cuts, goes, is_accepted, is_cut, most, on_from, round, rounds, steps_of, with_call, with_calls}
 
 -- each call of the list has a command in range

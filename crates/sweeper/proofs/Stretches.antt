@@ -1,18 +1,18 @@
 -- A runner makes a stretch of steps within a register access, and its auditor observes them as one.
 use Rattle.std.proofs.Common.{◌≡◌, ℕ, zero, suc, ◌+◌, ◌-◌, ◌<◌, ◌≤◌, true, cond, List, [], ◌∷◌, length, Option, None, Some, refl, ap, sym, subst, ◌∙◌, arith}
 use Rattle.plain_store.specs.{Setup}
-use Rattle.record.specs.{Access, AreGiven, Entry, Event, Taken, entry_of, history, past_of}
-use Rattle.record.specs.declared.events.Event.TheVariants.{Step}
-use Rattle.world.specs.flicks.{FlickState, Mode, after_flick, flick_of, flicks_after, is_constant}
-use Rattle.world.specs.flicks.Flicks.{after_flick_by, is_constant_by}
-use Rattle.world.specs.flicks.declared.Mode.TheVariants.{Constant, Generator}
+use Rattle.model.specs.{Access, AreGiven, Entry, Event, Taken, entry_of, history, past_of}
+use Rattle.model.specs.declared.events.Event.TheVariants.{Step}
+use Rattle.world.specs.choices.{FlickState, Mode, after_flick, flick_of, flicks_after, is_constant}
+use Rattle.world.specs.choices.Flicks.{after_flick_by, is_constant_by}
+use Rattle.world.specs.choices.declared.Mode.TheVariants.{Constant, Generator}
 use Rattle.world.specs.{CoreState, CoreWalks, left_in, with_history}
 use Rattle.world.specs.Shows.{Shows, WorldState}
 use Rattle.world.specs.Walks.{Walks}
 use Rattle.world.proofs.WorldOpen.{core-shown, core_of, history-shown}
 use Rattle.world.proofs.WorldShows.{past-after}
 use Rattle.auditor.specs.{AuditorState, HasHeard, HearsRun, IsHeard, KeepsAll, Law, steps_on}
-use Rattle.auditor.specs.read_law.{entry_by}
+use Rattle.auditor.specs.safe_monitor.{entry_by}
 use Rattle.auditor.proofs.Obeys.{obeys}
 use Rattle.auditor.proofs.Stretches.{walks-flicks, walks-setup, walks-shown}
 use Rattle.sweeper.specs.{Follows, RunnerState, is_accepted, steps_of}

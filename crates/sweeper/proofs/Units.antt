@@ -3,10 +3,10 @@ use Rattle.std.proofs.Common.{◌≡◌, ℕ, zero, suc, ◌+◌, ◌≤◌, ◌
 use Rattle.std.specs.Prelude.{is_none}
 use Rattle.std.proofs.lemmas.Bool.{and_parts}
 use Rattle.plain_store.specs.{Setup, checked}
-use Rattle.record.specs.{Entry, Event, Past, Refusal, Stage, added, is_failed, own, past_of, process_of, refused, since, stage}
-use Rattle.record.specs.declared.events.Event.TheVariants.{Step, Fail}
-use Rattle.record.specs.declared.marks.Mark.TheVariants.{Failed}
-use Rattle.record.specs.declared.stages.Stage.TheVariants as stages
+use Rattle.model.specs.{Entry, Event, Past, Refusal, Stage, added, is_failed, own, past_of, process_of, refused, since, stage}
+use Rattle.model.specs.declared.events.Event.TheVariants.{Step, Fail}
+use Rattle.model.specs.declared.marks.Mark.TheVariants.{Failed}
+use Rattle.model.specs.declared.stages.Stage.TheVariants as stages
 use Rattle.auditor.proofs.laws.UnitSteps.{GoesOn, few_accesses, unit_goes_on}
 use Rattle.sweeper.specs.{AreDownInTime, UnitsAreDownInTime, is_accepted, most, moves, stands, steps_of}
 use Rattle.sweeper.proofs.Going.{ended}

@@ -1,7 +1,7 @@
 -- A run that is audited while it is made.
 use Rattle.std.specs.Prelude.{◌≡◌, ℕ, ◌+◌, ◌||◌, Bool, List, length, Option, None}
 use Rattle.plain_store.specs.{Command, Setup}
-use Rattle.record.specs.{Event, history, past_of}
+use Rattle.model.specs.{Event, history, past_of}
 use Rattle.world.specs.{CoreState, pending_in, with_history}
 use Rattle.world.specs.Shows.{Shows}
 use Rattle.auditor.specs.{AuditorState, HasHeard}

@@ -1,7 +1,7 @@
 -- The printed form of the result of a sweep.
 use Rattle.std.specs.Prelude.{ℕ, List, [], ◌++◌, cond, codes, Option, None, Some}
 use Rattle.std.specs.Fmt.{decimal}
-use Rattle.auditor.specs.read_law.{law_text}
+use Rattle.auditor.specs.safe_monitor.{law_text}
 use Rattle.sweeper.specs.declared.swept.BadRun.{BadRun}
 use Rattle.sweeper.specs.declared.swept.Swept.{Swept}
 

@@ -2,11 +2,11 @@
 use Rattle.std.specs.Prelude.{◌≡◌, ℕ, zero, suc, Bool, true, false, ◌&&◌, ◌||◌, List, [], ◌∷◌, ◌++◌, length, map, filter, fold, reverse, Option, None, Some, Ok, is_none, nat_lt, cond}
 use Rattle.std.specs.List.{All, list_all, list_any, AllZip}
 use Rattle.plain_store.specs.{Command, Setup, checked, is_command}
-use Rattle.record.specs.{AreGiven, Entry, Event, KeepsHeadlineThroughout, Stage, past_of, process_of, processes, refused, stage}
-use Rattle.record.specs.declared.events.Event.TheVariants.{Call, Step, Fail, Restart}
-use Rattle.record.specs.declared.stages.Stage.TheVariants.{Idle, Settling, Down}
+use Rattle.model.specs.{AreGiven, Entry, Event, KeepsHeadlineThroughout, Stage, past_of, process_of, processes, refused, stage}
+use Rattle.model.specs.declared.events.Event.TheVariants.{Call, Step, Fail, Restart}
+use Rattle.model.specs.declared.stages.Stage.TheVariants.{Idle, Settling, Down}
 use Rattle.auditor.specs.{IsVerdict, Law, Verdict}
-use Rattle.auditor.specs.read_law.declared.verdicts.Verdict.TheVariants.{Good, Bad}
+use Rattle.auditor.specs.safe_monitor.declared.verdicts.Verdict.TheVariants.{Good, Bad}
 use Rattle.sweeper.specs.declared.swept.BadRun.{BadRun}
 use Rattle.sweeper.specs.declared.swept.Swept.{Swept}
 

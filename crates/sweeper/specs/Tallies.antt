@@ -3,7 +3,7 @@ use Rattle.std.specs.Prelude.{◌≡◌, ℕ, ◌+◌, ◌*◌, ◌^◌, ◌<◌
 use Rattle.std.specs.List.{All}
 use Rattle.std.proofs.Common.{arith}
 use Rattle.plain_store.specs.{Command, Setup}
-use Rattle.record.specs.{Event, past_of, process_of}
+use Rattle.model.specs.{Event, past_of, process_of}
 use Rattle.auditor.specs.{AllKeep}
 use Rattle.sweeper.specs.declared.runner.BadEntry.{BadEntry}
 use Rattle.sweeper.specs.declared.swept.BadRun.{BadRun}

@@ -1,9 +1,9 @@
 //! A run that is audited while it is made.
 ghost use Rattle.std.specs.Prelude.{◌≡◌, ◌+◌, ◌^◌, ◌<◌, ◌≤◌, ◌∷◌, [], true, false, cond, IfOk, None, Ok};
 ghost use Rattle.plain_store.specs.{checked};
-ghost use Rattle.record.specs.declared.Event.TheVariants.{Step};
-ghost use Rattle.record.specs.{is_call, is_event};
-ghost use Rattle.world.specs.flicks.{flick_of, is_constant};
+ghost use Rattle.model.specs.declared.Event.TheVariants.{Step};
+ghost use Rattle.model.specs.{is_call, is_event};
+ghost use Rattle.world.specs.choices.{flick_of, is_constant};
 ghost use Rattle.world.specs.{left_in, taking};
 ghost use Rattle.auditor.specs.{Hears, step_told};
 ghost use Rattle.sweeper.specs.Runners.{Accepts, Follows, RunsBy, RunsOn, due};
@@ -11,7 +11,7 @@ ghost use Rattle.sweeper.specs.Sweeps.{steps_of};
 
 use auditor::{Auditor, Law};
 use plain_store::{NestedTypes, Setup};
-use record::{Access, Event};
+use model::{Access, Event};
 use std::alloc::{AllocError, Global};
 use std::marker::Model;
 use world::{Core, Effect, Flicks, StepTold, event_marks, step_marks};

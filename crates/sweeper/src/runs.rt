@@ -5,7 +5,7 @@ ghost use Rattle.sweeper.specs.Sweeps.{cut_off, goes, most as most_of, round, ro
 
 use crate::runner::Runner;
 use plain_store::Command;
-use record::Event;
+use model::Event;
 use world::Flicks;
 
 /// The most rounds of a run, and the most steps of each of its calls.

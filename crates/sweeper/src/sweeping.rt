@@ -7,7 +7,7 @@ ghost use Rattle.sweeper.specs.Tallies.{CanRun, CanSweep, CountsRun, OfSweep, Ro
 use crate::runner::Runner;
 use crate::swept::Swept;
 use plain_store::{Command, Setup};
-use record::Event;
+use model::Event;
 use std::alloc::{AllocError, Global};
 
 /// More events or calls than any memory holds. Up to this number no count wraps.

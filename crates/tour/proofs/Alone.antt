@@ -2,11 +2,11 @@
 use Rattle.std.proofs.Common.{◌≡◌, ℕ, Bool, true, false, List, Some, Ok, refl, sym, ◌∙◌}
 use Rattle.std.specs.Prelude.{IsTrue, nat_lt, cond, Option}
 use Rattle.plain_store.specs.{Setup, checked}
-use Rattle.record.specs.{Asks, AsksCommit, AsksImage, AsksStamp, Clears, Event, MutualExclusion, Over, Part, Raises, Refuses, Stage, TakesTicket, Waits, WritesCommit, WritesImage, WritesStamp, inside, is_fresh, past_of, stage, stage_of}
-use Rattle.record.specs.declared.stages.Stage.TheVariants as stages
-use Rattle.record.specs.Closings.{Withdraws, Settles, Frees, Lowers, Quit, Ended}
-use Rattle.record.specs.Parts as part
-use Rattle.record.proofs.Width.{is_good}
+use Rattle.model.specs.{Asks, AsksCommit, AsksImage, AsksStamp, Clears, Event, MutualExclusion, Over, Part, Raises, Refuses, Stage, TakesTicket, Waits, WritesCommit, WritesImage, WritesStamp, inside, is_fresh, past_of, stage, stage_of}
+use Rattle.model.specs.declared.stages.Stage.TheVariants as stages
+use Rattle.model.specs.Closings.{Withdraws, Settles, Frees, Lowers, Quit, Ended}
+use Rattle.model.specs.Parts as part
+use Rattle.model.proofs.Width.{is_good}
 use Rattle.world.specs.laws.{Doing, Rests, Lies, Runs, Closes, doing, is_inside, is_inside_at}
 use Rattle.board.proofs.laws.Doings as doings
 use Rattle.board.proofs.laws.FrameInside.{inside-is, stage-is}

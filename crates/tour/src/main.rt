@@ -5,16 +5,16 @@
 ghost use Rattle.std.specs.Prelude.{◌≡◌, ℕ, IfOk, IsTrue, List, Ok, OnOk, Some};
 ghost use Rattle.board.specs.{AreFirstPortsOf, IsOf, SamePort};
 ghost use Rattle.plain_store.specs.{checked};
-ghost use Rattle.record.specs.declared.Event.{Event as Happening};
-ghost use Rattle.record.specs.declared.Stage.TheVariants.{Inside};
-ghost use Rattle.record.specs.{inside, past_of, process_of};
+ghost use Rattle.model.specs.declared.Event.{Event as Happening};
+ghost use Rattle.model.specs.declared.Stage.TheVariants.{Inside};
+ghost use Rattle.model.specs.{inside, past_of, process_of};
 ghost use Rattle.world.specs.{KeepsTheHeadline, stage_in};
 ghost use Rattle.world.specs.Shows.{Shows};
 
 use anyhow::{Result, bail};
 use board::{Board, Driven, Image, Port};
 use plain_store::{Command, Name, Setup, Value, show_line};
-use record::Field;
+use model::Field;
 use safe_bit::Move;
 use std::sync::Wait;
 use std::thread::{self, Threads};

@@ -2,12 +2,12 @@
 use Rattle.std.specs.Prelude.{ℕ, zero, suc, ◌==◌, nat_lt, Bool, true, false, not, ◌&&◌, ◌||◌, List, [], ◌∷◌, ◌++◌, cond, length, map, option_map, replicate, Option, None, Some, is_some, option_and_then}
 use Rattle.std.specs.Fmt.{decimal}
 use Rattle.std.specs.Option.{option_map_or}
-use Rattle.columns.specs.{GivenAccess, GivenChange}
+use Rattle.picture_layout.specs.{GivenAccess, GivenChange}
 use Rattle.trace.specs.{CellAccess, CellMove, TraceEntry, TracePast, TraceRegister, TraceSetup, cell_text, ends}
 use Rattle.trace_memory.specs.{CellState, MadeAccess, cell_after, has_cell, number_of, opened, same_cell}
-use Rattle.columns.specs.declared.limits.WaveCount.{WaveCount}
-use Rattle.columns.specs.declared.limits.WaveCount.TheVariants.{Sixteen, All}
-use Rattle.columns.specs.declared.limits.WaveLimit.{WaveLimit}
+use Rattle.picture_layout.specs.declared.limits.WaveCount.{WaveCount}
+use Rattle.picture_layout.specs.declared.limits.WaveCount.TheVariants.{Sixteen, All}
+use Rattle.picture_layout.specs.declared.limits.WaveLimit.{WaveLimit}
 use Rattle.trace_accesses.specs.declared.watched.RowChange.{RowChange}
 use Rattle.trace_accesses.specs.declared.watched.WatchedAccess.{WatchedAccess}
 use Rattle.trace_accesses.specs.Moves.{alters, kind_of, step_of, writes}

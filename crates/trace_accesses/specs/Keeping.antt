@@ -3,7 +3,7 @@ use Rattle.std.specs.Prelude.{◌≡◌, ℕ, ◌+◌, ◌*◌, ◌≤◌, Bool,
 use Rattle.std.specs.Option.{option_map_or}
 use Rattle.trace.specs.{Cell, CellAccess, TracePast, TraceSetup, is_trace_setup}
 use Rattle.trace_memory.specs.{HasMade, MemoryState, OpenAccess, has_cell, place_of, same_cell}
-use Rattle.columns.specs.declared.limits.WaveLimit.{WaveLimit}
+use Rattle.picture_layout.specs.declared.limits.WaveLimit.{WaveLimit}
 use Rattle.trace_accesses.specs.Accesses.{possible_past}
 use Rattle.trace_accesses.specs.Moves.{writes}
 use Rattle.trace_accesses.specs.Rows.{row_in, waves_since}

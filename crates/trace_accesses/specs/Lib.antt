@@ -1,4 +1,4 @@
-pub use Rattle.columns.specs as columns
+pub use Rattle.picture_layout.specs as picture_layout
 pub mod Accesses
 pub mod Keeping
 pub mod Moves
@@ -9,6 +9,6 @@ pub use Keeping.{HasRows, HasTaken, HasWatched, IsRows, IsWatch, OfTaken, RowsSt
 pub use Moves.{alters, kind_of, step_of, writes}
 pub use Rows.{counts_from, row_below, row_in, rows_after, rows_with, waves_after, waves_since, waves_with, with_last, written_rows}
 pub use Words.{arrow, begin_words, other_than, unlike, value_words, words_of}
-pub use Rattle.columns.specs.{WaveCount, WaveLimit}
+pub use Rattle.picture_layout.specs.{WaveCount, WaveLimit}
 pub use declared.watched.RowChange.{RowChange}
 pub use declared.watched.WatchedAccess.{WatchedAccess}

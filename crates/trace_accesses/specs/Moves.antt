@@ -1,8 +1,8 @@
 -- How a picture shows a move.
 use Rattle.std.specs.Prelude.{Bool, true, false}
-use Rattle.columns.specs.{AccessKind, AccessStep}
-use Rattle.columns.specs.declared.accesses.AccessKind.TheVariants as kind
-use Rattle.columns.specs.declared.accesses.AccessStep.TheVariants as step
+use Rattle.picture_layout.specs.{AccessKind, AccessStep}
+use Rattle.picture_layout.specs.declared.accesses.AccessKind.TheVariants as kind
+use Rattle.picture_layout.specs.declared.accesses.AccessStep.TheVariants as step
 use Rattle.trace.specs.{CellMove}
 use Rattle.trace.specs.declared.accesses.CellMove.TheVariants.{Write, End, Read, Value, Set, Get, Swap, Add, Cas}
 

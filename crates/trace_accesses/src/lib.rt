@@ -35,7 +35,7 @@ mod watch;
 mod watched;
 mod words;
 
-pub use columns::{WaveCount, WaveLimit};
+pub use picture_layout::{WaveCount, WaveLimit};
 pub use rows::written_cells_have_waves;
 pub use watch::AccessWatch;
 

@@ -2,7 +2,7 @@
 ghost use Rattle.std.specs.Prelude.{◌≡◌};
 ghost use Rattle.trace_accesses.specs.Accesses.{is_within};
 
-use columns::WaveCount;
+use picture_layout::WaveCount;
 
 /// Returns whether the wave in a row is shown.
 pub(crate) fn has_row(count: WaveCount, row: u16) -> bool

@@ -10,7 +10,7 @@ ghost use Rattle.trace_accesses.specs.Rows.{counts_from, waves_since};
 use crate::overlaps::{begin, overlaps};
 use crate::rows::{WaveRows, counts};
 use crate::watched::{WatchedAccess, change};
-use columns::WaveLimit;
+use picture_layout::WaveLimit;
 use trace::CellAccess;
 use trace_memory::CellMemory;
 

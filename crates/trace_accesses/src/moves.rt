@@ -2,7 +2,7 @@
 ghost use Rattle.std.specs.Prelude.{◌≡◌};
 ghost use Rattle.trace_accesses.specs.Moves.{alters as is_altering, kind_of, step_of, writes as is_writing};
 
-use columns::{AccessKind, AccessStep};
+use picture_layout::{AccessKind, AccessStep};
 use trace::CellMove;
 
 /// Returns the kind of the access of a move.

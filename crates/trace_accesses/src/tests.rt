@@ -3,7 +3,7 @@ ghost use Rattle.std.specs.Prelude.{◌≡◌, ◌<◌, ◌≤◌, true, IfOk};
 ghost use Rattle.trace.specs.{is_trace_setup};
 
 use crate::{AccessWatch, WaveCount, WaveLimit};
-use columns::{AccessKind, AccessStep, ShownAccess, WaveChange};
+use picture_layout::{AccessKind, AccessStep, ShownAccess, WaveChange};
 use smallvec::SmallVec;
 use std::alloc::{AllocError, Global};
 use std::test::Fail;

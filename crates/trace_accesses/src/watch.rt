@@ -1,16 +1,16 @@
 //! The watch of the accesses of a trace.
 ghost use Rattle.std.specs.Prelude.{◌≡◌, ◌<◌, ◌+◌, ◌-◌, ◌^◌, ◌∷◌, [], IfOk, List, option_map, true};
-ghost use Rattle.columns.specs.{given_access};
+ghost use Rattle.picture_layout.specs.{given_access};
 ghost use Rattle.trace.specs.{LockMark as Mark, TracePast as Past, TraceSetup as Setup, is_trace_setup, trace_entry};
 ghost use Rattle.trace_accesses.specs.Accesses.{possible_access, shown_access, shown_as, watched_access};
 ghost use Rattle.trace_accesses.specs.Keeping.{HasTaken, HasWatched, OfTaken};
-ghost use Rattle.columns.specs.declared.limits.WaveLimit.{WaveLimit as Limit};
+ghost use Rattle.picture_layout.specs.declared.limits.WaveLimit.{WaveLimit as Limit};
 
 use crate::making::make;
 use crate::possible::possible;
 use crate::rows::WaveRows;
 use crate::watched::WatchedAccess;
-use columns::{ShownAccess, WaveLimit};
+use picture_layout::{ShownAccess, WaveLimit};
 use std::alloc::{AllocError, Global};
 use std::marker::Model;
 use trace::{CellAccess, TraceEntry, TraceSetup};

@@ -4,7 +4,7 @@ ghost use Rattle.trace_accesses.specs.Accesses.{change_in_row, change_of};
 
 use crate::limits::has_row;
 use crate::moves::alters;
-use columns::WaveCount;
+use picture_layout::WaveCount;
 use trace::{CellAccess, CellMove};
 use trace_memory::CellState;
 

@@ -1,14 +1,14 @@
 //! An access of a trace, in words.
 ghost use Rattle.std.specs.Prelude.{◌≡◌, ◌++◌, codes, IfOk, OnOk, Some, option_map};
 ghost use Rattle.std.specs.Fmt.{decimal};
-ghost use Rattle.columns.specs.{given_access, given_change};
+ghost use Rattle.picture_layout.specs.{given_access, given_change};
 ghost use Rattle.trace.specs.{cell_text, register_name as name_of_register};
 ghost use Rattle.trace_accesses.specs.Accesses.{shown_as, shown_change};
 ghost use Rattle.trace_accesses.specs.Words.{begin_words, unlike, value_words, words_of};
 
 use crate::moves::{kind, step};
 use crate::watched::{RowChange, WatchedAccess};
-use columns::{ShownAccess, WaveChange};
+use picture_layout::{ShownAccess, WaveChange};
 use std::alloc::{AllocError, Global};
 use std::fmt;
 use trace::{Cell, CellMove, TraceRegister};

@@ -6,7 +6,7 @@ use Rattle.draw.proofs.Giving.{shown_append}
 use Rattle.draw.proofs.Ending.{shown_of_end}
 use Rattle.picture.proofs.Windowing.{all_entry}
 use Rattle.picture.specs.{Window, all_entries, lines_if, shows_entry}
-use Rattle.picture.specs.columns.{GivenAccess, lock_marked_text}
+use Rattle.picture.specs.picture_layout.{GivenAccess, lock_marked_text}
 use Rattle.picture.specs.declared.reads.PictureOptions.{PictureOptions}
 use Rattle.picture.specs.declared.reads.Reads.{Reads}
 use Rattle.picture.specs.declared.reads.Reads.TheVariants as reads

@@ -1,7 +1,7 @@
 -- A canvas that shows no reads: its lines do not depend on a setup, nor on entries of a record.
 use Rattle.std.proofs.Common.{◌≡◌, ℕ, List, [], ◌∷◌, Option, Some, None, map, refl, subst}
 use Rattle.draw.specs.{Canvas, DrawsLast, DrawsLines, DrawsOn, DrawsRest, GivesLine, OverlapsHeard, Overhears, Says, end_given, kept, lines_given, waiting}
-use Rattle.picture.specs.columns.{OverlappedRead}
+use Rattle.picture.specs.picture_layout.{OverlappedRead}
 use Rattle.picture.specs.declared.reads.Reads.TheVariants.{Hidden}
 use Rattle.trace.specs.plain_store.{Setup}
 

@@ -3,8 +3,8 @@ use Rattle.std.proofs.Common.{◌≡◌, ◌≤◌, ◌<◌, ◌+◌, ◌||◌, 
 use Rattle.std.proofs.lemmas.Bool.{le-leb, lt-leb}
 use Rattle.std.proofs.lemmas.List.{length-map}
 use Rattle.draw.specs.{GivesAccess}
-use Rattle.picture.specs.columns.{GivenAccess, given_access}
-use Rattle.picture.specs.columns.declared.accesses.ShownAccess.{ShownAccess}
+use Rattle.picture.specs.picture_layout.{GivenAccess, given_access}
+use Rattle.picture.specs.picture_layout.declared.accesses.ShownAccess.{ShownAccess}
 use Rattle.picture.specs.declared.reads.PictureOptions.{PictureOptions}
 use Rattle.picture.specs.declared.reads.Reads.{Reads}
 use Rattle.picture.specs.declared.reads.Reads.TheVariants as reads

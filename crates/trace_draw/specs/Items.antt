@@ -2,7 +2,7 @@
 use Rattle.std.specs.Prelude.{ℕ, ◌+◌, Bool, true, false, List, [], ◌∷◌, ◌++◌, length, map, reverse, take, Option, None, Some}
 use Rattle.draw.specs.{Gives, GivesAccess, GivesLine, Says, SaysLockEnd, SaysLockMark, end_given}
 use Rattle.picture.specs.{Window, lines_if, shows_end, shows_entry}
-use Rattle.picture.specs.columns.{GivenAccess, lock_ended_text, lock_marked_text}
+use Rattle.picture.specs.picture_layout.{GivenAccess, lock_ended_text, lock_marked_text}
 use Rattle.picture.specs.shown_verdict.{judged_text, report_lines}
 use Rattle.picture.specs.declared.reads.PictureOptions.{PictureOptions}
 use Rattle.picture.specs.declared.reads.Reads.{Reads}

@@ -1,6 +1,6 @@
 //! The time that a step of a register of 1728 bits and with 16 readers takes.
 ghost use Rattle.std.specs.Prelude.{ℕ, Bool, ◌≤◌, IfOk};
-ghost use Rattle.record.specs.reader_copies.{IsRow, IsWritten};
+ghost use Rattle.model.specs.reader_copies.{IsRow, IsWritten};
 ghost use Rattle.register_drive.specs.{IsIdle};
 
 use crate::timing::tell;

@@ -1,8 +1,8 @@
 //! The time that the check of sequential consistency (weighing) takes for the largest lists of finished calls.
 ghost use Rattle.std.specs.Prelude.{◌≡◌, ◌≤◌, All, IsTrue, List, Ok, length};
 ghost use Rattle.plain_store.specs.{checked};
-ghost use Rattle.record.specs.declared.calls.Placed.{Placed as Finished};
-ghost use Rattle.record.specs.{lists_of};
+ghost use Rattle.model.specs.declared.calls.Placed.{Placed as Finished};
+ghost use Rattle.model.specs.{lists_of};
 
 mod histories;
 
@@ -12,7 +12,7 @@ use anyhow::{Result, bail};
 use call_check::{Image, weigh};
 use histories::{History, called_in_turn};
 use plain_store::Setup;
-use record::Placed;
+use model::Placed;
 use std::rt::Clock;
 use std::time::Instant;
 

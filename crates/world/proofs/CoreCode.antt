@@ -3,14 +3,14 @@ use Rattle.std.proofs.Common.{◌≡◌, ◌++◌, ℕ, ◌<◌, ◌≤◌, Bool
 use Rattle.std.proofs.lemmas.List.{length-set}
 use Rattle.std.proofs.lemmas.Option.{slice_get_within}
 use Rattle.std.specs.Prelude.{slice_get, slice_index_or, slice_set}
-use Rattle.record.specs.safe_bit.Cell.{Cell}
-use Rattle.record.specs.{Access, Event, is_call, process_of}
-use Rattle.record.specs.declared.events.Event.TheVariants as event
+use Rattle.model.specs.safe_bit.Cell.{Cell}
+use Rattle.model.specs.{Access, Event, is_call, process_of}
+use Rattle.model.specs.declared.events.Event.TheVariants as event
 use Rattle.process.specs.{Effect, ProcessState, left_at, marks_of, newest_of, overlapped_steps, refusal_of, steps_of}
 use Rattle.world.specs.{CoreGoes, CoreState, KeepOthers, KeepsCore, Seat, access_made, core_after, is_waiting, left_in, marks_made, registers_made, seat_after, seat_made, seat_with, told, waiting_in}
 use Rattle.world.proofs.CoreKeeps.{IsNext, next-goes, next-keeps}
 use Rattle.world.proofs.CoreRefused.{refused-told}
-use Rattle.flicks.specs.{FlickState}
+use Rattle.choices.specs.{FlickState}
 use Rattle.world.proofs.CoreWalks.{HasRun, has-run, left-begun, next-others}
 use Rattle.world.proofs.WorldOpen.{IsSeated, is-seated, seat-indexed, seat-left, seat-there}
 use Rattle.world.proofs.WorldTelling.{told-back}

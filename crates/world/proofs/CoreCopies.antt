@@ -1,7 +1,7 @@
 -- The registers and the seats of two cores of one setup are of one shape.
 use Rattle.std.proofs.Common.{◌≡◌, ℕ, List, [], ◌∷◌, map, refl, sym, ap, subst, ◌∙◌}
 use Rattle.plain_store.specs.{Setup}
-use Rattle.record.specs.{Past, past_of, processes}
+use Rattle.model.specs.{Past, past_of, processes}
 use Rattle.process.specs.registers.{AreOf}
 use Rattle.world.specs.{CoreState, KeepsCore, WorldState, seat_of, setups_in}
 use Rattle.world.proofs.WorldRegisters.{are_of}

@@ -3,14 +3,14 @@ use Rattle.std.proofs.Common.{◌≡◌, ℕ, suc, ◌+◌, ◌==◌, Bool, true
 use Rattle.std.specs.Prelude.{fold, nat_lt, slice_set, unwrap_or}
 use Rattle.std.specs.List.{range_with_len}
 use Rattle.plain_store.specs.{Setup, checked}
-use Rattle.record.specs.{Access, Entry, Event, Past, Raises, added, call_number, calls_in, enter, entry_of, has, history, is_called, is_waiting_stage, last_command, own, past_of, placed, process_of, processes, refused, stage, stage_after, value_of, valued}
-use Rattle.record.specs.declared.access.Field.TheVariants.{Choosing}
-use Rattle.record.specs.declared.events.Event.TheVariants as event
-use Rattle.record.specs.safe_bit.declared.moves.Move.TheVariants.{BeginRead}
-use Rattle.record.proofs.Accepted.{accepted_adds}
-use Rattle.record.proofs.Staging.{no_called}
-use Rattle.record.proofs.Width.{IsGood, is_good}
-use Rattle.record.proofs.World.{refused-idle}
+use Rattle.model.specs.{Access, Entry, Event, Past, Raises, added, call_number, calls_in, enter, entry_of, has, history, is_called, is_waiting_stage, last_command, own, past_of, placed, process_of, processes, refused, stage, stage_after, value_of, valued}
+use Rattle.model.specs.declared.access.Field.TheVariants.{Choosing}
+use Rattle.model.specs.declared.events.Event.TheVariants as event
+use Rattle.model.specs.safe_bit.declared.moves.Move.TheVariants.{BeginRead}
+use Rattle.model.proofs.Accepted.{accepted_adds}
+use Rattle.model.proofs.Staging.{no_called}
+use Rattle.model.proofs.Width.{IsGood, is_good}
+use Rattle.model.proofs.World.{refused-idle}
 use Rattle.laws.specs.{IsThere, Runs, call, does_then, doing, marks_with, next_of}
 use Rattle.laws.proofs.Cuts.{cut_is}
 use Rattle.laws.proofs.Doings.{stage_of}

@@ -4,8 +4,8 @@ use Rattle.std.proofs.Common.{◌≡◌, ℕ, zero, suc, ◌+◌, ◌<◌, ◌�
 use Rattle.std.specs.Prelude.{slice_get, slice_index_or, slice_set}
 use Rattle.std.proofs.lemmas.List.{length-map, length-set, length_push}
 use Rattle.plain_store.specs.{Command, Reply, Setup}
-use Rattle.record.specs.{Access, Entry, Event, Past, Taken, call_number, entry_of, history, is_call, is_event, last_command, own, past_of, placed, process_of, refused, reply_taken, value_of}
-use Rattle.record.specs.declared.events.Event.TheVariants as event
+use Rattle.model.specs.{Access, Entry, Event, Past, Taken, call_number, entry_of, history, is_call, is_event, last_command, own, past_of, placed, process_of, refused, reply_taken, value_of}
+use Rattle.model.specs.declared.events.Event.TheVariants as event
 use Rattle.process.specs.{Effect, answered_at, marks_of}
 use Rattle.world.specs.{CoreGoes, CoreRefuses, CoreState, KeepsCore, Seat, access_made, call_in, core_after, history_with, is_pending, is_waiting, marks_made, pending, pending_in, seat_after, seat_of, told, with_history, with_taken}
 use Rattle.world.specs.Shows.{Shows}

@@ -3,11 +3,11 @@ use Rattle.std.proofs.Common.{◌≡◌, ◌<◌, ℕ, Bool, false, cond, List, 
 use Rattle.std.specs.Prelude.{slice_get}
 use Rattle.plain_store.specs.{Command, Setup}
 use Rattle.plain_store.specs.declared.Command.TheVariants.{Ask}
-use Rattle.record.specs.safe_bit.{Move, read_value}
-use Rattle.record.specs.safe_bit.declared.Move.TheVariants.{BeginWrite, EndWrite, BeginRead, EndRead, Settle}
-use Rattle.record.specs.{Access, Call, Entry, Event, Past, Place, access_at, ended, ended_with, entry_of, enter, is_over, moves_of, opening_bit, part_after, past-induction, past_of, place_after, run_after, value_of, valued}
-use Rattle.record.specs.Places.{bits_with}
-use Rattle.record.proofs.Width.{IsGood, is_good}
+use Rattle.model.specs.safe_bit.{Move, read_value}
+use Rattle.model.specs.safe_bit.declared.Move.TheVariants.{BeginWrite, EndWrite, BeginRead, EndRead, Settle}
+use Rattle.model.specs.{Access, Call, Entry, Event, Past, Place, access_at, ended, ended_with, entry_of, enter, is_over, moves_of, opening_bit, part_after, past-induction, past_of, place_after, run_after, value_of, valued}
+use Rattle.model.specs.Places.{bits_with}
+use Rattle.model.proofs.Width.{IsGood, is_good}
 use Rattle.laws.specs.{Doing, Rests, Runs, call, doing, runs}
 use Rattle.laws.proofs.Frame.{Happens, a_call, a_withdrawal, a_failure, a_restart, a_step, a_closing}
 use Rattle.laws.proofs.FrameEvents.{accepted}

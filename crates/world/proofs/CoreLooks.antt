@@ -1,8 +1,8 @@
 -- Facts that are read from a core: a process, and a bit.
 use Rattle.std.proofs.Common.{◌≡◌, ◌<◌, ℕ, None, ap, refl, ◌∙◌}
 use Rattle.std.specs.Prelude.{slice_get, Some}
-use Rattle.record.specs.{Access, past_of}
-use Rattle.record.proofs.Width.{is_good}
+use Rattle.model.specs.{Access, past_of}
+use Rattle.model.proofs.Width.{is_good}
 use Rattle.laws.specs.{IsThere, Rests, cell_held, doing}
 use Rattle.laws.proofs.FrameSteps.{doing-above}
 use Rattle.process.specs.registers.{RegisterName, cell_at, lane_number, lane_of, lane_of_access}

@@ -1,8 +1,8 @@
 -- A new core shows no events.
 use Rattle.std.proofs.Common.{◌≡◌, true, List, [], Ok, map, refl}
 use Rattle.plain_store.specs.{Setup, are_pairs, checked}
-use Rattle.record.specs.safe_bit.Cell.{Cell}
-use Rattle.record.specs.{processes}
+use Rattle.model.specs.safe_bit.Cell.{Cell}
+use Rattle.model.specs.{processes}
 use Rattle.process.specs.{cells_opening, memory_with}
 use Rattle.world.specs.{CoreState, Seat, seat_of, with_history}
 use Rattle.world.specs.Shows.{Shows}

@@ -2,9 +2,9 @@
 use Rattle.std.proofs.Common.{◌≡◌, ◌<◌, ℕ, Bool, true, cond, List, [], Option, None, Some, length, map, refl, sym, ap, subst, ◌∙◌}
 use Rattle.std.specs.Prelude.{slice_get}
 use Rattle.plain_store.specs.{Setup}
-use Rattle.record.specs.declared.events.Event.TheVariants.{Step}
-use Rattle.record.specs.declared.refusals.Refusal.TheVariants.{NotRunning}
-use Rattle.record.specs.{Access, Entry, Mark, Past, Refusal, added, history, past_of, placed, refused, value_of}
+use Rattle.model.specs.declared.events.Event.TheVariants.{Step}
+use Rattle.model.specs.declared.refusals.Refusal.TheVariants.{NotRunning}
+use Rattle.model.specs.{Access, Entry, Mark, Past, Refusal, added, history, past_of, placed, refused, value_of}
 use Rattle.process.specs.{StepTold, answered_at, left_at, marks_on, marks_told, may_step}
 use Rattle.process.proofs.Left.{left-quiet}
 use Rattle.world.specs.{CoreAddsQuietly, CoreAddsStep, CoreRefuses, CoreState, IsStepEntry, Seat, with_history}

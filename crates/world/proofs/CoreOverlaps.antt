@@ -1,11 +1,11 @@
 -- Whether a step ends a read that a write overlapped: the registers of a core agree with the past.
 use Rattle.std.proofs.Common.{◌≡◌, ℕ, Bool, List, Some, refl, ap, ◌∙◌}
 use Rattle.plain_store.specs.{Setup}
-use Rattle.record.specs.safe_bit.{Move}
-use Rattle.record.specs.safe_bit.declared.Move.TheVariants.{BeginWrite, EndWrite, BeginRead, EndRead, Settle}
-use Rattle.record.specs.{Access, Event, moves_of, past_of}
-use Rattle.record.specs.declared.events.Event.TheVariants.{Step}
-use Rattle.record.proofs.Width.{IsGood, is_good}
+use Rattle.model.specs.safe_bit.{Move}
+use Rattle.model.specs.safe_bit.declared.Move.TheVariants.{BeginWrite, EndWrite, BeginRead, EndRead, Settle}
+use Rattle.model.specs.{Access, Event, moves_of, past_of}
+use Rattle.model.specs.declared.events.Event.TheVariants.{Step}
+use Rattle.model.proofs.Width.{IsGood, is_good}
 use Rattle.laws.specs.{IsThere, cell_held}
 use Rattle.laws.proofs.HeldCells.{held_shows}
 use Rattle.laws.proofs.HeldThere.{access_there}

@@ -4,10 +4,10 @@ use Rattle.std.proofs.Common.{◌≡◌, ℕ, ◌<◌, ◌≤◌, ◌==◌, ◌&
 use Rattle.std.proofs.lemmas.Bool.Decides.{nat_tests}
 use Rattle.std.specs.Prelude.{nat_le, nat_lt, slice_get}
 use Rattle.plain_store.specs.{Setup}
-use Rattle.record.specs.{Event, Past, Refusal, Taken, calls_full, calls_in, is_call, own, past_of, process_of, refused, refused_at, stage}
-use Rattle.record.specs.declared.events.Event.TheVariants.{Step}
-use Rattle.record.specs.declared.refusals.Refusal.TheVariants.{NoProcess, NotRunning, CallsFull}
-use Rattle.record.proofs.Width.{is_good}
+use Rattle.model.specs.{Event, Past, Refusal, Taken, calls_full, calls_in, is_call, own, past_of, process_of, refused, refused_at, stage}
+use Rattle.model.specs.declared.events.Event.TheVariants.{Step}
+use Rattle.model.specs.declared.refusals.Refusal.TheVariants.{NoProcess, NotRunning, CallsFull}
+use Rattle.model.proofs.Width.{is_good}
 use Rattle.process.specs.{is_full, left_at, may_step, refusal_of, stage_doing}
 use Rattle.world.specs.{CoreRefuses, CoreState, Seat, seat_of, with_history}
 use Rattle.world.specs.Shows.{Shows}

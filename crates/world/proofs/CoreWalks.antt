@@ -3,13 +3,13 @@ use Rattle.std.proofs.Common.{◌≡◌, ℕ, zero, suc, ◌+◌, ◌<◌, ◌�
 use Rattle.std.specs.Prelude.{is_some, slice_get, slice_set}
 use Rattle.std.proofs.lemmas.List.{get_or-set_same, length-set, set-get_or, set-set}
 use Rattle.std.proofs.lemmas.Option.{get_or_from_slice_get, slice_get-get_or, slice_get_within}
-use Rattle.record.specs.safe_bit.Cell.{Cell}
-use Rattle.record.specs.{Access, Event, Part, Past, Raises, Taken, doorway_begin, is_fresh, is_over, past_of, process_of, value_of}
-use Rattle.record.proofs.Width.{is_good}
+use Rattle.model.specs.safe_bit.Cell.{Cell}
+use Rattle.model.specs.{Access, Event, Part, Past, Raises, Taken, doorway_begin, is_fresh, is_over, past_of, process_of, value_of}
+use Rattle.model.proofs.Width.{is_good}
 use Rattle.laws.specs.{Closes, Doing, Lies, Rests, Runs, doing}
 use Rattle.laws.proofs.DoorwayParts.{has_begun}
-use Rattle.record.specs.declared.events.Event.TheVariants.{Step}
-use Rattle.flicks.specs.{FlickState, flick_of}
+use Rattle.model.specs.declared.events.Event.TheVariants.{Step}
+use Rattle.choices.specs.{FlickState, flick_of}
 use Rattle.process.specs.declared.told.Effect.TheVariants.{Steps}
 use Rattle.process.specs.declared.told.StepTold.TheVariants.{Nothing}
 use Rattle.process.specs.{ProcessState, answered_at, answered_next, left_at, newest_of, overlapped_steps, is_told, overlaps_step, process_after, step_by, steps_of}

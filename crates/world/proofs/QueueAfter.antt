@@ -3,12 +3,12 @@ use Rattle.std.proofs.Common.{◌≡◌, ◌≢◌, ℕ, suc, ◌<◌, ◌==◌,
 use Rattle.std.proofs.lemmas.Bool.{eqb-false}
 use Rattle.std.proofs.lemmas.Bool.Decides.{nat_tests}
 use Rattle.std.specs.List.{list_any, range_with_len}
-use Rattle.record.specs.{Access, Entry, Event, Mark, Past, Place, Stage, begins_doorway, doorway_begin, doorway_end, entry_of, first_of, has, is_ahead, is_before, is_called, is_fresh, is_waiting, is_waiting_stage, number_in_call, past_of, stage, stage_after}
+use Rattle.model.specs.{Access, Entry, Event, Mark, Past, Place, Stage, begins_doorway, doorway_begin, doorway_end, entry_of, first_of, has, is_ahead, is_before, is_called, is_fresh, is_waiting, is_waiting_stage, number_in_call, past_of, stage, stage_after}
 use Rattle.plain_store.specs.{Command, Setup}
-use Rattle.record.specs.declared.marks.Mark.TheVariants.{Called, Waiting, Entered, Taken, Left, Answered, Failed, Settled, Down, Withdrew, Restarted}
-use Rattle.record.specs.declared.stages.Stage.TheVariants as stages
-use Rattle.record.specs.Parts.{Part, Lowers}
-use Rattle.record.proofs.Width.{IsGood}
+use Rattle.model.specs.declared.marks.Mark.TheVariants.{Called, Waiting, Entered, Taken, Left, Answered, Failed, Settled, Down, Withdrew, Restarted}
+use Rattle.model.specs.declared.stages.Stage.TheVariants as stages
+use Rattle.model.specs.Parts.{Part, Lowers}
+use Rattle.model.proofs.Width.{IsGood}
 use Rattle.laws.specs.{Doing, Rests, Lies, Runs, Closes, doing}
 use Rattle.laws.proofs.AtPlaces.{AtPlace}
 use Rattle.laws.proofs.DoorwayParts.{has_begun, has_finished, both}

@@ -1,14 +1,14 @@
 -- Whether the doorway of a process's last call has begun, before and after an entry.
 use Rattle.std.proofs.Common.{◌≡◌, ◌≢◌, ℕ, ◌==◌, ◌&&◌, ◌||◌, Bool, true, false, cond, not, List, [], ◌∷◌, Option, Some, None, is_some, length, refl, sym, ap, subst, ◌∙◌, true≢false, eqb-true, eq-eqb, ne_eqb}
-use Rattle.record.specs.safe_bit.{Move}
-use Rattle.record.specs.{Access, Asks, AsksCommit, AsksImage, AsksStamp, Call, Clears, Closing, Ended, Entry, Event, Field, Frees, Over, Part, Past, Place, Quit, Raises, Refuses, Settles, TakesTicket, Waits, Withdraws, WritesCommit, WritesImage, WritesStamp, begins_doorway, closing_after, doorway_begin, entry_of, first_of, freeing, has, is_called, is_fresh, is_last_settled, is_last_written, is_over, is_queued, no_ticket, number_in_call, past-induction, past_of, place_after, raises, value_of, write_moved}
-use Rattle.record.specs.declared.access.Field.TheVariants.{Choosing, Ticket, Commit, Stamp0, Stamp1, Image0, Image1}
-use Rattle.record.specs.safe_number.{new_write}
+use Rattle.model.specs.safe_bit.{Move}
+use Rattle.model.specs.{Access, Asks, AsksCommit, AsksImage, AsksStamp, Call, Clears, Closing, Ended, Entry, Event, Field, Frees, Over, Part, Past, Place, Quit, Raises, Refuses, Settles, TakesTicket, Waits, Withdraws, WritesCommit, WritesImage, WritesStamp, begins_doorway, closing_after, doorway_begin, entry_of, first_of, freeing, has, is_called, is_fresh, is_last_settled, is_last_written, is_over, is_queued, no_ticket, number_in_call, past-induction, past_of, place_after, raises, value_of, write_moved}
+use Rattle.model.specs.declared.access.Field.TheVariants.{Choosing, Ticket, Commit, Stamp0, Stamp1, Image0, Image1}
+use Rattle.model.specs.safe_number.{new_write}
 use Rattle.plain_store.specs.{Command, Setup}
-use Rattle.record.specs.Closings as closing
-use Rattle.record.specs.Parts as part
-use Rattle.record.proofs.Width.{IsGood}
-use Rattle.record.specs.reader_copies.Runs as copies
+use Rattle.model.specs.Closings as closing
+use Rattle.model.specs.Parts as part
+use Rattle.model.proofs.Width.{IsGood}
+use Rattle.model.specs.reader_copies.Runs as copies
 use Rattle.laws.specs.{Doing, Rests, Runs, Closes, call, runs, closes, doing, is_inside_at}
 use Rattle.laws.proofs.AtPlaces.{AtPlace}
 use Rattle.laws.proofs.Doings.{IsCut, Step, at_rest, between, within, leaving, clearing, calls, withdraws, fails, restarts, steps, closes_on}

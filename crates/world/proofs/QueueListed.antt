@@ -2,8 +2,8 @@
 use Rattle.std.proofs.Common.{◌≡◌, ℕ, ◌≤◌, ◌&&◌, true, false, List, [], Ok, sym, ap, ◌∙◌, arith}
 use Rattle.plain_store.specs.{Setup, checked}
 use Rattle.plain_store.proofs.GoodSetups.{few-processes}
-use Rattle.record.specs.{Event, Past, ahead, doorway_begin, doorway_end, is_ahead, is_before, is_queued, is_waiting_stage, past_of, stage}
-use Rattle.record.proofs.Width.{IsGood, is_good}
+use Rattle.model.specs.{Event, Past, ahead, doorway_begin, doorway_end, is_ahead, is_before, is_queued, is_waiting_stage, past_of, stage}
+use Rattle.model.proofs.Width.{IsGood, is_good}
 use Rattle.laws.proofs.Doings.{stage_of}
 use Rattle.laws.proofs.FrameInside.{stage-is}
 use Rattle.laws.proofs.FrameSteps.{doing-above}

@@ -1,9 +1,9 @@
 -- The stage of a process that is within a register access.
 use Rattle.std.proofs.Common.{◌≡◌, ℕ, ◌<◌, Bool, true, false, List, refl, ap, ◌∙◌, arith}
-use Rattle.record.specs.{Event, is_fresh, past_of, stage}
-use Rattle.record.specs.declared.stages.Stage.TheVariants as stages
-use Rattle.record.specs.Parts.{Part, Raises, Asks, TakesTicket, Lowers, Refuses, Waits, AsksCommit, AsksStamp, AsksImage, WritesImage, WritesStamp, WritesCommit, Clears, Over, stage_of}
-use Rattle.record.proofs.Width.{is_good}
+use Rattle.model.specs.{Event, is_fresh, past_of, stage}
+use Rattle.model.specs.declared.stages.Stage.TheVariants as stages
+use Rattle.model.specs.Parts.{Part, Raises, Asks, TakesTicket, Lowers, Refuses, Waits, AsksCommit, AsksStamp, AsksImage, WritesImage, WritesStamp, WritesCommit, Clears, Over, stage_of}
+use Rattle.model.proofs.Width.{is_good}
 use Rattle.laws.specs.{Doing, Rests, Lies, Runs, Closes}
 use Rattle.process.specs.{ProcessState, left_at, stage_doing}
 use Rattle.world.specs.{Seat, left_in}

@@ -2,9 +2,9 @@
 use Rattle.std.proofs.Common.{◌≡◌, ℕ, Bool, true, false, cond, List, [], Some, None, sym, ap, ◌∙◌}
 use Rattle.std.specs.Prelude.{slice_get}
 use Rattle.plain_store.specs.{Setup}
-use Rattle.record.specs.declared.events.Event.TheVariants as event
-use Rattle.record.specs.{ahead, is_queued, past_of, stage}
-use Rattle.record.proofs.Width.{is_good}
+use Rattle.model.specs.declared.events.Event.TheVariants as event
+use Rattle.model.specs.{ahead, is_queued, past_of, stage}
+use Rattle.model.proofs.Width.{is_good}
 use Rattle.laws.proofs.AheadLists.{queued-only}
 use Rattle.laws.proofs.Doings.{stage_of}
 use Rattle.laws.proofs.FrameInside.{stage-is}

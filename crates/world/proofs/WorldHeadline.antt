@@ -1,7 +1,7 @@
 -- The entry that an event adds keeps the main theorem, in each record that the world showed.
 use Rattle.std.proofs.Common.{◌≡◌, ℕ, ◌∷◌, subst}
 use Rattle.plain_store.specs.{Setup}
-use Rattle.record.specs.{Act, AreGiven, Event}
+use Rattle.model.specs.{Act, AreGiven, Event}
 use Rattle.history_laws.proofs.Headlines.{the_headline}
 use Rattle.world.specs.{Adds, GoesOn, KeepsTheHeadline, WorldState, entry_with}
 

@@ -2,12 +2,12 @@
 use Rattle.std.proofs.Common.{◌≡◌, ℕ, zero, suc, ◌+◌, ◌≤◌, Bool, true, false, List, [], ◌∷◌, length, map, refl, sym, ap, subst, ◌∙◌, arith}
 use Rattle.std.specs.List.{range_with_len}
 use Rattle.plain_store.specs.{Setup}
-use Rattle.record.specs.{Access, Event, Taken, is_call, process_of, reply_taken}
-use Rattle.record.specs.declared.events.Event.TheVariants.{Step}
+use Rattle.model.specs.{Access, Event, Taken, is_call, process_of, reply_taken}
+use Rattle.model.specs.declared.events.Event.TheVariants.{Step}
 use Rattle.process.specs.{Effect, StepTold, marks_of, marks_told}
 use Rattle.process.specs.declared.told.Effect.TheVariants.{Steps}
 use Rattle.world.specs.{CoreMakes, CoreState, CoreSteps, CoreWalks, KeepsWorld, call_in, pending_in, seat_of, taking, with_history, with_taken}
-use Rattle.flicks.specs.{FlickState, flick_of}
+use Rattle.choices.specs.{FlickState, flick_of}
 use Rattle.world.specs.Shows.{Shows, WorldState}
 use Rattle.world.specs.Walks.{Walks}
 use Rattle.world.proofs.CoreKeeps.{taken_length}

@@ -4,9 +4,9 @@ use Rattle.std.specs.Prelude.{Ok}
 use Rattle.std.specs.List.{list_any}
 use Rattle.plain_store.specs.declared.Command.TheVariants.{Ask}
 use Rattle.plain_store.specs.{Contents, Setup, callers_of, checked}
-use Rattle.record.specs.store_image.{image_of, store_in}
-use Rattle.record.specs.{AreGiven, Event, Past, history, inside, is_somebody_inside, newest, past_of, processes, store_after}
-use Rattle.record.proofs.Width.{is_good}
+use Rattle.model.specs.store_image.{image_of, store_in}
+use Rattle.model.specs.{AreGiven, Event, Past, history, inside, is_somebody_inside, newest, past_of, processes, store_after}
+use Rattle.model.proofs.Width.{is_good}
 use Rattle.laws.specs.{call, is_inside}
 use Rattle.laws.proofs.FrameInside.{inside-is}
 use Rattle.history_laws.proofs.Codec.{bytes_read, store_is_read}

@@ -5,8 +5,8 @@ use Rattle.std.specs.Prelude.{nat_lt, slice_get, slice_index_or}
 use Rattle.std.proofs.lemmas.List.FromFn.{length-map-range_with_len}
 use Rattle.plain_store.specs.{Setup}
 use Rattle.plain_store.proofs.GoodSetups.{few-processes}
-use Rattle.record.specs.{Event, Past, Refusal, Taken, calls_full, history, past_of, process_of, processes, refused, refused_at, stage}
-use Rattle.record.specs.declared.refusals.Refusal.TheVariants.{NoProcess, CallsFull}
+use Rattle.model.specs.{Event, Past, Refusal, Taken, calls_full, history, past_of, process_of, processes, refused, refused_at, stage}
+use Rattle.model.specs.declared.refusals.Refusal.TheVariants.{NoProcess, CallsFull}
 use Rattle.laws.proofs.Theorems.{less}
 use Rattle.process.specs.{left_at}
 use Rattle.process.specs.registers.{AreOf}

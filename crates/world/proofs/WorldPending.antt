@@ -1,14 +1,14 @@
 -- The calls that may still be taken. A call that is taken was pending before and is not pending after. Only a call event makes another one pending.
 use Rattle.std.proofs.Common.{◌≡◌, ℕ, zero, suc, ◌+◌, ◌≤◌, ◌==◌, ◌&&◌, Bool, true, false, cond, List, [], ◌∷◌, ◌++◌, Option, Some, None, length, map, refl, sym, ap, ◌∙◌, arith}
 use Rattle.std.specs.Prelude.{is_some, slice_get, slice_set}
-use Rattle.record.specs.{Call, Change, Field, Mark, Part, Place, TornBit, begun_at, begun_closing, bits_with, cut, enter, entered_if_none, first_marks, is_commit, is_fresh, is_last, is_over, last_marks, lets_by, max_of, newest_stamp, part_after, pending_at, place_after, reply, reply_taken, run_after, store_read, taken_with, torn_at, torn_closing, waits_of, write_moved}
+use Rattle.model.specs.{Call, Change, Field, Mark, Part, Place, TornBit, begun_at, begun_closing, bits_with, cut, enter, entered_if_none, first_marks, is_commit, is_fresh, is_last, is_over, last_marks, lets_by, max_of, newest_stamp, part_after, pending_at, place_after, reply, reply_taken, run_after, store_read, taken_with, torn_at, torn_closing, waits_of, write_moved}
 use Rattle.plain_store.specs.declared.Answer.TheVariants as answer
 use Rattle.plain_store.specs.{Command, Reply, Setup, changes}
-use Rattle.record.specs.declared.marks.Mark.TheVariants.{Taken, Left, Answered, Settled, Down}
-use Rattle.record.specs.Closings.{Closing, Withdraws, Settles, Frees, Lowers, Quit, Ended, no_ticket, is_unwritten, is_last_written, is_last_settled, settled_marks, freeing, closing_after}
-use Rattle.record.specs.Parts as part
-use Rattle.record.specs.reader_copies.Runs as copies
-use Rattle.record.specs.safe_number.{new_write}
+use Rattle.model.specs.declared.marks.Mark.TheVariants.{Taken, Left, Answered, Settled, Down}
+use Rattle.model.specs.Closings.{Closing, Withdraws, Settles, Frees, Lowers, Quit, Ended, no_ticket, is_unwritten, is_last_written, is_last_settled, settled_marks, freeing, closing_after}
+use Rattle.model.specs.Parts as part
+use Rattle.model.specs.reader_copies.Runs as copies
+use Rattle.model.specs.safe_number.{new_write}
 use Rattle.laws.specs.{Closes, Doing, Lies, Rests, Runs, call, closes, cut_of, does_then, is_inside, marks_with, runs}
 use Rattle.world.specs.{Seat, is_open_part, is_pending, pending, pending_in, told}
 use Rattle.history_laws.proofs.Outside.{entered-none}

@@ -1,11 +1,11 @@
 -- The registers after a past. Each access may be made on them, with the values of the safe rule, and an entry changes them to the registers after the entry.
 use Rattle.std.proofs.Common.{◌≡◌, ◌≢◌, ℕ, ◌<◌, ◌==◌, ◌&&◌, Bool, true, false, cond, List, ◌∷◌, Option, Some, None, Ok, refl, sym, ap, ◌∙◌, eqb-true, eq-eqb, ne_eqb}
 use Rattle.std.proofs.lemmas.Bool.{eqb-false}
-use Rattle.record.specs.safe_bit.Cell.{Cell, read_answer}
-use Rattle.record.specs.safe_bit.Cell as cell
-use Rattle.record.specs.{Access, Call, Entry, Event, Field, Part, Past, Reading, Run, Writing, access_at, ended_with, entry_of, field_number, own, past_of, read_at, valued}
+use Rattle.model.specs.safe_bit.Cell.{Cell, read_answer}
+use Rattle.model.specs.safe_bit.Cell as cell
+use Rattle.model.specs.{Access, Call, Entry, Event, Field, Part, Past, Reading, Run, Writing, access_at, ended_with, entry_of, field_number, own, past_of, read_at, valued}
 use Rattle.plain_store.specs.{Command, Setup, checked}
-use Rattle.record.proofs.Width.{IsGood, is_good}
+use Rattle.model.proofs.Width.{IsGood, is_good}
 use Rattle.laws.specs.{Closes, Doing, IsThere, Lies, Rests, Runs, call, cell_held, doing, drops, reads_of}
 use Rattle.laws.proofs.AtPlaces.{AtPlace}
 use Rattle.laws.proofs.FrameCells.{OnCopy, on-copy}

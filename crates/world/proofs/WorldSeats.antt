@@ -5,9 +5,9 @@ use Rattle.std.proofs.lemmas.List.{get_or-set_same}
 use Rattle.std.proofs.lemmas.List.FromFn.{length-map-range_with_len, get_or-map-range_with_len}
 use Rattle.std.specs.List.{list_any}
 use Rattle.plain_store.specs.{Command, Setup, checked}
-use Rattle.record.specs.{Entry, Event, Mark, Past, call_number, called_in, calls_in, doorway_begin, entry_of, has, is_ahead, is_called, is_queued, is_waiting_stage, last_command, own, past_of, processes, stage}
-use Rattle.record.specs.declared.marks.Mark.TheVariants.{Called}
-use Rattle.record.proofs.Width.{IsGood, is_good}
+use Rattle.model.specs.{Entry, Event, Mark, Past, call_number, called_in, calls_in, doorway_begin, entry_of, has, is_ahead, is_called, is_queued, is_waiting_stage, last_command, own, past_of, processes, stage}
+use Rattle.model.specs.declared.marks.Mark.TheVariants.{Called}
+use Rattle.model.proofs.Width.{IsGood, is_good}
 use Rattle.laws.specs.{Doing, doing}
 use Rattle.laws.proofs.Frame.{own-other, own-own, doing-other}
 use Rattle.laws.proofs.FrameEvents.{accepted}

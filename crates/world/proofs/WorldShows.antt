@@ -2,8 +2,8 @@
 use Rattle.std.proofs.Common.{◌≡◌, ℕ, ◌&&◌, true, List, [], ◌∷◌, ◌++◌, Option, Some, None, map, refl, sym, ap, subst}
 use Rattle.std.specs.Prelude.{Ok}
 use Rattle.plain_store.specs.{Reply, Setup, checked}
-use Rattle.record.specs.{AreGiven, Entry, Event, Mark, Past, Taken, call_number, entry_of, history, is_event, last_call, last_command, own, past_of, placed, reply_taken}
-use Rattle.record.specs.declared.marks.Mark.TheVariants as mark
+use Rattle.model.specs.{AreGiven, Entry, Event, Mark, Past, Taken, call_number, entry_of, history, is_event, last_call, last_command, own, past_of, placed, reply_taken}
+use Rattle.model.specs.declared.marks.Mark.TheVariants as mark
 use Rattle.world.specs.{with_taken}
 use Rattle.world.specs.Shows.{Shows, WorldState, world_of}
 

@@ -1,11 +1,11 @@
 -- The work of a process determines its stage, and whether it may step or fail.
 use Rattle.std.proofs.Common.{◌≡◌, ℕ, ◌<◌, Bool, true, false, cond, List, None, Some, refl, sym, ap, ◌∙◌, arith}
 use Rattle.plain_store.specs.{Setup}
-use Rattle.record.specs.{Event, Past, Stage, is_running, own, past_of, refused_at, stage}
-use Rattle.record.specs.declared.events.Event.TheVariants as event
-use Rattle.record.specs.declared.Refusal.TheVariants.{NotRunning}
-use Rattle.record.specs.declared.stages.Stage.TheVariants as stages
-use Rattle.record.proofs.Width.{IsGood}
+use Rattle.model.specs.{Event, Past, Stage, is_running, own, past_of, refused_at, stage}
+use Rattle.model.specs.declared.events.Event.TheVariants as event
+use Rattle.model.specs.declared.Refusal.TheVariants.{NotRunning}
+use Rattle.model.specs.declared.stages.Stage.TheVariants as stages
+use Rattle.model.proofs.Width.{IsGood}
 use Rattle.laws.specs.{Doing, Rests, Lies, Runs, Closes, doing}
 use Rattle.laws.proofs.Doings.{stage_of}
 use Rattle.laws.proofs.Frame.{Does, at_rest, lying, running, leaving, settling}

@@ -2,13 +2,13 @@
 use Rattle.std.proofs.Common.{◌≡◌, ℕ, ◌+◌, ◌*◌, ◌%◌, ◌<◌, ◌==◌, Bool, true, false, if◌then◌else◌, List, ◌∷◌, None, Some, refl, ap, sym, subst, ◌∙◌, arith, eq-eqb, ne_eqb}
 use Rattle.std.proofs.lemmas.Bool.{eqb-false, eqb-true}
 use Rattle.plain_store.specs.{Setup}
-use Rattle.record.specs.reader_copies.Runs as copies
-use Rattle.record.specs.safe_bit.{Move}
-use Rattle.record.specs.safe_bit.declared.Move.TheVariants.{BeginWrite, EndWrite, BeginRead, EndRead}
-use Rattle.record.specs.safe_number.{NumberWrite}
-use Rattle.record.specs.{Access, Call, Entry, Event, Part, Past, Place, Reading, Run, Writing, access_at, bit_written, ended, entry_of, is_over, past_of, run_after, value_of, valued, written_at}
-use Rattle.record.specs.declared.events.Event.TheVariants.{Step}
-use Rattle.record.proofs.Width.{IsGood}
+use Rattle.model.specs.reader_copies.Runs as copies
+use Rattle.model.specs.safe_bit.{Move}
+use Rattle.model.specs.safe_bit.declared.Move.TheVariants.{BeginWrite, EndWrite, BeginRead, EndRead}
+use Rattle.model.specs.safe_number.{NumberWrite}
+use Rattle.model.specs.{Access, Call, Entry, Event, Part, Past, Place, Reading, Run, Writing, access_at, bit_written, ended, entry_of, is_over, past_of, run_after, value_of, valued, written_at}
+use Rattle.model.specs.declared.events.Event.TheVariants.{Step}
+use Rattle.model.proofs.Width.{IsGood}
 use Rattle.laws.specs.{Closes, Doing, Lies, Rests, Runs, call, does_then, doing, next_of}
 use Rattle.laws.proofs.Steps.{StepIs, step_is}
 use Rattle.process.specs.{ProcessState, left_at, left_of, process_after}

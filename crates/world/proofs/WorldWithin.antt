@@ -1,13 +1,13 @@
 -- A process within a register access of its call: the number of accesses left, one step alone, and that none of these accesses ends the read of a number.
 use Rattle.std.specs.Prelude.{nat_lt}
-use Rattle.flicks.specs.{FlickState, flick_of}
+use Rattle.choices.specs.{FlickState, flick_of}
 use Rattle.std.proofs.Common.{cond, ◌≡◌, ℕ, ◌+◌, ◌<◌, Bool, true, false, if◌then◌else◌, List, Some, refl, ap, sym, subst, ◌∙◌, arith}
 use Rattle.plain_store.specs.{Setup}
-use Rattle.record.specs.safe_bit.{Move}
-use Rattle.record.specs.safe_bit.declared.Move.TheVariants.{BeginWrite, EndWrite, BeginRead, EndRead, Settle}
-use Rattle.record.specs.{Access, Call, Entry, Event, Part, Past, Reading, Run, Writing, access_at, ended, entry_of, is_over, past_of, valued, width}
-use Rattle.record.specs.declared.events.Event.TheVariants.{Step}
-use Rattle.record.proofs.Width.{IsGood}
+use Rattle.model.specs.safe_bit.{Move}
+use Rattle.model.specs.safe_bit.declared.Move.TheVariants.{BeginWrite, EndWrite, BeginRead, EndRead, Settle}
+use Rattle.model.specs.{Access, Call, Entry, Event, Part, Past, Reading, Run, Writing, access_at, ended, entry_of, is_over, past_of, valued, width}
+use Rattle.model.specs.declared.events.Event.TheVariants.{Step}
+use Rattle.model.proofs.Width.{IsGood}
 use Rattle.laws.specs.{Closes, Doing, Lies, Rests, Runs, call, doing, next_of}
 use Rattle.laws.proofs.Steps.{StepIs, step_is}
 use Rattle.process.specs.{ProcessState, left_at, left_of, process_after, rest_of}

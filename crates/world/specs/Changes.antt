@@ -2,7 +2,7 @@
 use Rattle.std.specs.Prelude.{ℕ, ◌+◌, [], ◌∷◌, ◌++◌, Bool, true, false, not, cond, List, map, Option, None, Some, is_some, slice_get, slice_set}
 use Rattle.std.specs.List.{range_with_len}
 use Rattle.plain_store.specs.{Command, Reply}
-use Rattle.record.specs.{Clears, Over, Part, Settles, Taken}
+use Rattle.model.specs.{Clears, Over, Part, Settles, Taken}
 use Rattle.laws.specs.{Doing, Runs, Closes}
 use Rattle.world.specs.Seats.{Seat, is_waiting}
 

@@ -4,14 +4,14 @@ use Rattle.std.specs.Global.{Vec}
 use Rattle.std.specs.Vec.{vec_capacity, vec_len}
 use Rattle.plain_store.specs.{Command, Reply, Setup}
 use Rattle.plain_store.specs.declared.Command.TheVariants.{Ask}
-use Rattle.record.specs.{Access, Event, Past, Refusal, Taken, is_call, process_of, reply_taken}
-use Rattle.record.specs.declared.events.Event.TheVariants.{Step}
+use Rattle.model.specs.{Access, Event, Past, Refusal, Taken, is_call, process_of, reply_taken}
+use Rattle.model.specs.declared.events.Event.TheVariants.{Step}
 use Rattle.process.specs.{Effect, StepTold, marks_of}
 use Rattle.process.specs.declared.told.Effect.TheVariants.{Steps}
-use Rattle.record.specs.safe_bit.Cell.{Cell}
+use Rattle.model.specs.safe_bit.Cell.{Cell}
 use Rattle.world.specs.Changes.{pending_in, with_taken}
 use Rattle.world.specs.Events.{AddsEvent, GoesOn, InEachPast, IsRefused, IsTurnedAway, UnlessRefused}
-use Rattle.flicks.specs.{FlickState}
+use Rattle.choices.specs.{FlickState}
 use Rattle.world.specs.Seats.{Seat}
 use Rattle.world.specs.Shows.{Shows, WorldState}
 use Rattle.world.specs.Walks.{AddsQuietly, TellsOverlapped, Walks}

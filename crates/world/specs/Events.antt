@@ -1,8 +1,8 @@
 -- The effect of an accepted event on a world, in every record that the world shows.
 use Rattle.std.specs.Prelude.{◌≡◌, ◌⊎◌, ℕ, ◌+◌, ◌≤◌, Bool, true, cond, nat_lt, List, ◌∷◌, length, Option, None, Some}
-use Rattle.record.specs.{Access, Act, Entry, Event, KeepsHeadline, Past, Refusal, Stage, entry_of, is_call, past_of, process_of, refused, stage}
-use Rattle.record.specs.declared.events.Event.TheVariants.{Step}
-use Rattle.record.specs.declared.refusals.Refusal.TheVariants.{Memory}
+use Rattle.model.specs.{Access, Act, Entry, Event, KeepsHeadline, Past, Refusal, Stage, entry_of, is_call, past_of, process_of, refused, stage}
+use Rattle.model.specs.declared.events.Event.TheVariants.{Step}
+use Rattle.model.specs.declared.refusals.Refusal.TheVariants.{Memory}
 use Rattle.process.specs.{Effect, StepTold, act_of}
 use Rattle.process.specs.declared.told.Effect.TheVariants.{Steps}
 use Rattle.plain_store.specs.{Setup}

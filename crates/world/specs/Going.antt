@@ -1,9 +1,9 @@
 -- A core after an event, computed from the seat of the process whose event it is.
 use Rattle.std.specs.Prelude.{◌≡◌, ℕ, ◌≤◌, Bool, List, [], ◌∷◌, Option, None, Some, length, map, slice_set}
-use Rattle.record.specs.safe_bit.Cell.{Cell}
-use Rattle.record.specs.{Access, Event, Mark, process_of, value_of}
-use Rattle.record.specs.declared.events.Event.TheVariants.{Call, Step, Fail, Withdraw, Restart}
-use Rattle.record.specs.declared.marks.Mark.TheVariants.{Called, Failed, Withdrew, Restarted}
+use Rattle.model.specs.safe_bit.Cell.{Cell}
+use Rattle.model.specs.{Access, Event, Mark, process_of, value_of}
+use Rattle.model.specs.declared.events.Event.TheVariants.{Call, Step, Fail, Withdraw, Restart}
+use Rattle.model.specs.declared.marks.Mark.TheVariants.{Called, Failed, Withdrew, Restarted}
 use Rattle.process.specs.{Effect, answered_at, dropped, failed, marks_on, next_number, restarted, step_by, withdrawn}
 use Rattle.world.specs.Changes.{told, waiting_in}
 use Rattle.world.specs.Cores.{CoreAdds, CoreMakes, CoreState, PendedUnlessCall, pending_with}

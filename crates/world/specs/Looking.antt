@@ -2,9 +2,9 @@
 use Rattle.std.specs.Prelude.{◌≡◌, ◌<◌, ℕ, Bool, List, [], ◌∷◌, Option, Some, length, map}
 use Rattle.std.specs.List.{range_with_len}
 use Rattle.plain_store.specs.{Setup}
-use Rattle.record.specs.safe_bit.Cell.{Cell}
-use Rattle.record.specs.{Access, Entry, Event, Past, Taken, copy, entry_of, past_of, width}
-use Rattle.record.specs.declared.events.Event.TheVariants.{Step}
+use Rattle.model.specs.safe_bit.Cell.{Cell}
+use Rattle.model.specs.{Access, Entry, Event, Past, Taken, copy, entry_of, past_of, width}
+use Rattle.model.specs.declared.events.Event.TheVariants.{Step}
 use Rattle.laws.specs.{cell_held}
 use Rattle.process.specs.registers.{BitCopy, RegisterName, copy_bytes}
 use Rattle.process.specs.{left_at, process_after}

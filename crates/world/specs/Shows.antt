@@ -1,8 +1,8 @@
 -- The state of a world, and the records that it shows.
 use Rattle.std.specs.Prelude.{◌≡◌, List, map, Ok}
-use Rattle.record.specs.safe_bit.Cell.{Cell}
+use Rattle.model.specs.safe_bit.Cell.{Cell}
 use Rattle.plain_store.specs.{Setup, checked}
-use Rattle.record.specs.{AreGiven, Event, Past, Taken, history, past_of, processes}
+use Rattle.model.specs.{AreGiven, Event, Past, Taken, history, past_of, processes}
 use Rattle.laws.specs.{cell_held}
 use Rattle.process.specs.{memory_with}
 use Rattle.world.specs.Seats.{Seat, seat_of}

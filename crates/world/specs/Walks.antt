@@ -1,11 +1,11 @@
 -- Steps of a process without a mark, one after another.
 use Rattle.std.specs.Prelude.{◌≡◌, ◌<◌, ℕ, zero, suc, ◌+◌, Bool, false, if◌then◌else◌, List, [], None, Some, slice_get}
-use Rattle.record.specs.safe_bit.{Move, is_overlapped}
-use Rattle.record.specs.safe_bit.declared.Move.TheVariants.{EndRead}
-use Rattle.record.specs.{Access, Entry, Past, moves_of}
-use Rattle.record.specs.declared.events.Event.TheVariants.{Step}
+use Rattle.model.specs.safe_bit.{Move, is_overlapped}
+use Rattle.model.specs.safe_bit.declared.Move.TheVariants.{EndRead}
+use Rattle.model.specs.{Access, Entry, Past, moves_of}
+use Rattle.model.specs.declared.events.Event.TheVariants.{Step}
 use Rattle.world.specs.Events.{Adds, GoesOn, InEachPast, KeepsTheHeadline}
-use Rattle.flicks.specs.{FlickState, after_flick, flick_of}
+use Rattle.choices.specs.{FlickState, after_flick, flick_of}
 use Rattle.world.specs.Seats.{Seat}
 use Rattle.world.specs.Shows.{WorldState}
 use Rattle.process.specs.{left_at}

@@ -1,9 +1,9 @@
 //! N processes over one set of registers, without a history.
 ghost use Rattle.std.specs.Prelude.{◌≡◌, ◌<◌, ◌≤◌, ◌+◌, Bool, length, true, None, Some, IfOk, IfErr, IfSome, IsOk, OnErr, OnOk, Ok, [], option_map, slice_get};
 ghost use Rattle.plain_store.specs.{checked, is_command};
-ghost use Rattle.record.specs.store_image.{image_of};
-ghost use Rattle.record.specs.declared.Event.TheVariants.{Call, Step, Fail, Withdraw, Restart};
-ghost use Rattle.record.specs.{ahead, newest};
+ghost use Rattle.model.specs.store_image.{image_of};
+ghost use Rattle.model.specs.declared.Event.TheVariants.{Call, Step, Fail, Withdraw, Restart};
+ghost use Rattle.model.specs.{ahead, newest};
 ghost use Rattle.process.specs.declared.told.Effect.TheVariants.{Calls, Fails, Restarts, Steps, Withdraws};
 ghost use Rattle.process.specs.{WantsNoMemory};
 ghost use Rattle.world.specs.Cores.{CoreAdds, CoreAddsStep, CoreMakes, CoreRefuses, CoreRefusesStep, CoreSteps, CoreTellsOverlapped, CoreWalks, InEachCorePast, PendedBefore, PendedUnlessCall, UnlessCoreRefuses, pending_with, taken_by, with_history};
@@ -17,12 +17,12 @@ mod looking;
 
 use crate::queue::listed;
 use crate::seats::{Seat, is_occupied, tell, waiting};
-use flicks::Flicks;
+use choices::Flicks;
 use plain_store::{Command, NestedTypes, Reply, Setup};
 use process::{
     AccessMade, AccessesMade, BitMemory, Effect, Image, Process, StepTold, newest, open_memory,
 };
-use record::{Access, Event, Refusal, Stage, Taken};
+use model::{Access, Event, Refusal, Stage, Taken};
 use smallvec::SmallVec;
 use std::alloc::{AllocError, Global};
 use std::marker::Model;

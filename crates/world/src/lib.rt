@@ -25,7 +25,7 @@ mod seats;
 mod world;
 
 pub use cores::Core;
-pub use flicks::{Divisor, Flick, Flicks};
+pub use choices::{Divisor, Flick, Flicks};
 pub use history_laws;
 pub use laws;
 pub use marks::{event_marks, step_marks};
@@ -33,5 +33,5 @@ pub use process::{
     AccessMade, AccessProgress, AccessesMade, BitCopy, BitSeen, Effect, EventMade, Image, Process,
     RegisterName, Settling, StepTold, TicketKnown,
 };
-pub use record::{Act, Event, Mark, Refusal, Stage, Taken};
+pub use model::{Act, Event, Mark, Refusal, Stage, Taken};
 pub use world::World;

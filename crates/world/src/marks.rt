@@ -1,10 +1,10 @@
 //! The marks of a step and of an event, as an act contains them. They do not allocate.
 ghost use Rattle.std.specs.Prelude.{◌≡◌, [], ◌∷◌, map};
-ghost use Rattle.record.specs.{placed};
+ghost use Rattle.model.specs.{placed};
 ghost use Rattle.process.specs.{act_of, marks_of, marks_told};
 
 use process::{Effect, EventMade, StepTold};
-use record::{Act, Mark};
+use model::{Act, Mark};
 use smallvec::SmallVec;
 use std::alloc::Global;
 

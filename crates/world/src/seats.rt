@@ -4,13 +4,13 @@ ghost use Rattle.std.specs.List.{list_any};
 ghost use Rattle.laws.specs.{is_inside};
 ghost use Rattle.process.specs.registers.{AreOf, applied, ends_overlapped};
 ghost use Rattle.process.specs.{answered_at, marks_of, marks_on, marks_told, may_step, refusal_of, stepped};
-ghost use Rattle.record.specs.{is_call, value_of};
+ghost use Rattle.model.specs.{is_call, value_of};
 ghost use Rattle.world.specs.Changes.{told, waiting_in, waits_in};
 ghost use Rattle.world.specs.Going.{access_made, marks_made, registers_made, seat_made};
 ghost use Rattle.world.specs.Seats.{seat_stepped};
 
 use process::{AccessMade, BitMemory, Effect, Process, StepTold};
-use record::{Access, Event};
+use model::{Access, Event};
 
 /// The state of one process in a world.
 #[derive(Drop)]

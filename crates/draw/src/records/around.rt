@@ -1,6 +1,6 @@
 //! The start of the picture of a record.
 ghost use Rattle.std.specs.Prelude.{◌≡◌, ◌+◌, ◌-◌, ◌^◌, ◌<◌, [], IfErr, IfOk, Ok, OnOk, Some};
-ghost use Rattle.record.specs.plain_store.{checked};
+ghost use Rattle.model.specs.plain_store.{checked};
 ghost use Rattle.picture.specs.{page_front, page_names};
 ghost use Rattle.picture.specs.declared.subjects.Subject.TheVariants as subject;
 ghost use Rattle.picture.specs.markup.{lines_in, opens_in};

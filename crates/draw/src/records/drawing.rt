@@ -1,8 +1,8 @@
 //! The record of a file as it is drawn.
 ghost use Rattle.std.specs.Prelude.{◌≡◌, ◌+◌, ◌-◌, ◌^◌, ◌<◌, [], ◌∷◌, ◌++◌, is_some, not, IfErr, IfOk, List, None, Ok, OnOk, Option};
-ghost use Rattle.record.specs.plain_store.{checked};
-ghost use Rattle.record.specs.plain_store.declared.setups.Setup.{Setup as Given};
-ghost use Rattle.record.specs.{Entry as Noted};
+ghost use Rattle.model.specs.plain_store.{checked};
+ghost use Rattle.model.specs.plain_store.declared.setups.Setup.{Setup as Given};
+ghost use Rattle.model.specs.{Entry as Noted};
 ghost use Rattle.judge.specs.record_file.{step_entry};
 ghost use Rattle.draw.specs.Canvases.{DrawsLast, kept, kept_at_first, plan_of};
 ghost use Rattle.draw.specs.Items.{Part, SaysEnd, entries_among};
@@ -17,7 +17,7 @@ use crate::drawing::{Drawing, lines_of_setup};
 use crate::read_watch::ReadWatch;
 use crate::views::AccessView;
 use picture::{Form, Saying};
-use record::{Access, Entry};
+use model::{Access, Entry};
 use record_accesses::plain_store::{NestedTypes, Setup};
 use scenario::{Fault, Sink};
 use std::alloc::{AllocError, Global};

@@ -1,6 +1,6 @@
 //! The commands `draw` and `draw-svg` for records.
 ghost use Rattle.std.specs.Prelude.{◌≡◌, ◌+◌, ◌-◌, ◌^◌, ◌<◌, ℕ, [], false, IfErr, IfOk, IfSome, List, None, Ok, OnOk, Option, Some};
-ghost use Rattle.record.specs.plain_store.{checked};
+ghost use Rattle.model.specs.plain_store.{checked};
 ghost use Rattle.std.specs.Io.KnownBytes.{IsAtEnd};
 ghost use Rattle.scenario.specs.files.{failed_reading, streams};
 ghost use Rattle.picture.specs.declared.page.Form.TheVariants as form_variants;
@@ -8,7 +8,7 @@ ghost use Rattle.judge.specs.{IsOfRecord};
 ghost use Rattle.judge.specs.Trials.{Stands as HearerStands};
 ghost use Rattle.picture.specs.declared.reads.PictureOptions.{PictureOptions as Options};
 ghost use Rattle.draw.specs.Writing.{IsWriteFault, failed_write};
-ghost use Rattle.record.specs.{Entry as Noted};
+ghost use Rattle.model.specs.{Entry as Noted};
 ghost use Rattle.judge.specs.record_file.{Progress, Said};
 ghost use Rattle.draw.specs.Judges.{DrewJudgedBy};
 ghost use Rattle.draw.specs.Judgings.{HasRead, TellsOfLines};

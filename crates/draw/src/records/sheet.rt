@@ -1,7 +1,7 @@
 //! A record file that is read and drawn line by line.
 ghost use Rattle.std.specs.Prelude.{◌≡◌, ◌+◌, ◌-◌, ◌^◌, ◌<◌, ◌≤◌, ◌∷◌, ℕ, [], None, Some, true, false, Err, IfErr, IfOk, IfSome, IsSome, List, Ok, OnOk, Option, length};
-ghost use Rattle.record.specs.plain_store.{checked};
-ghost use Rattle.record.specs.{Past};
+ghost use Rattle.model.specs.plain_store.{checked};
+ghost use Rattle.model.specs.{Past};
 ghost use Rattle.judge.specs.record_file.{Progress, line_read};
 ghost use Rattle.draw.specs.Writing.{IsWriteFault, failed_write};
 ghost use Rattle.draw.specs.Sheets.{EndsAsked, GoesOn, LineStops, Stands, entries_of};

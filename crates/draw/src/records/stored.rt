@@ -1,7 +1,7 @@
 //! The entries of a record, which are stored until it is decided whether their accesses are shown.
 ghost use Rattle.std.specs.Prelude.{◌≡◌, ◌+◌, ◌-◌, ◌^◌, ◌<◌, ◌∷◌, ◌++◌, [], ℕ, IfErr, IfOk, List, None, Ok, OnOk, Option, reverse};
-ghost use Rattle.record.specs.plain_store.{checked};
-ghost use Rattle.record.specs.{Past};
+ghost use Rattle.model.specs.plain_store.{checked};
+ghost use Rattle.model.specs.{Past};
 ghost use Rattle.draw.specs.Canvases.{DrawsLast};
 ghost use Rattle.draw.specs.Drawings.{HasOpening};
 ghost use Rattle.draw.specs.Items.{SaysEnd};
@@ -15,7 +15,7 @@ use crate::records::drawing::RecordDrawing;
 use crate::views::{AccessView, is_short};
 use judge::{entry_of_parts, parts};
 use picture::{PictureOptions, Reads};
-use record::Entry;
+use model::Entry;
 use record_accesses::plain_store::{NestedTypes, Setup};
 use scenario::{Fault, Sink};
 use std::alloc::{AllocError, Global};

@@ -1,12 +1,12 @@
 //! The run of a scenario as it is drawn.
 ghost use Rattle.std.specs.Prelude.{◌≡◌, ◌+◌, ◌-◌, ◌^◌, ◌<◌, [], ◌∷◌, length, IfErr, IfOk, Ok, OnOk};
-ghost use Rattle.record.specs.plain_store.{checked};
+ghost use Rattle.model.specs.plain_store.{checked};
 ghost use Rattle.picture.specs.{WindowPlan};
 ghost use Rattle.draw.specs.Canvases.{DrawsBands, DrawsLast, kept, kept_at_first, plan_of};
 ghost use Rattle.draw.specs.Drawings.{HasOpening, Recalls};
 ghost use Rattle.draw.specs.Writing.{IsWriteFault, failed_write};
 ghost use Rattle.scenario.specs.{script};
-ghost use Rattle.course.specs.{Follows, counted, happenings, run_at_start, summary_of};
+ghost use Rattle.scenario_run.specs.{Follows, counted, happenings, run_at_start, summary_of};
 ghost use Rattle.draw.specs.RunDrawings.{DrawsTold, tally};
 ghost use Rattle.draw.specs.RunItems.{run_given, says_end};
 ghost use Rattle.draw.specs.Pictures.{opening_of};
@@ -17,7 +17,7 @@ mod listening;
 
 use crate::drawing::{Drawing, lines_of_setup};
 use crate::views::AccessView;
-use course::{Course, Summary, Told, newest_words};
+use scenario_run::{Course, Summary, Told, newest_words};
 use listening::draw_line;
 use picture::{Form, PictureOptions, Saying};
 use record_accesses::plain_store::{NestedTypes, Setup};

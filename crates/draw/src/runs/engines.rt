@@ -1,12 +1,12 @@
 //! The commands `draw` and `draw-svg` for scenarios.
 ghost use Rattle.std.specs.Prelude.{◌≡◌, ◌+◌, ◌-◌, ◌^◌, ◌<◌, [], IfErr, IfOk, Ok, OnOk, Some};
-ghost use Rattle.record.specs.plain_store.{checked, opening_store};
+ghost use Rattle.model.specs.plain_store.{checked, opening_store};
 ghost use Rattle.draw.specs.Writing.{IsWriteFault, failed_write};
 ghost use Rattle.picture.specs.{page_back, page_names};
 ghost use Rattle.picture.specs.markup.{lines_in, opens_in};
 ghost use Rattle.scenario.specs.files.{ReadsFront, streams};
 ghost use Rattle.scenario.specs.{script};
-ghost use Rattle.course.specs.{IsSummaryOf, ended, happenings, summary_of};
+ghost use Rattle.scenario_run.specs.{IsSummaryOf, ended, happenings, summary_of};
 ghost use Rattle.picture.specs.declared.page.Form.TheVariants as form_variants;
 ghost use Rattle.draw.specs.RunDrawings.{DrawsAll, DrawsFramed, DrawsPage, DrewRun};
 
@@ -14,7 +14,7 @@ use crate::runs::drawing::draw_bands;
 use crate::runs::nowhere::Nowhere;
 use crate::surroundings::{around_picture, write_page_end};
 use crate::writing::write_markup;
-use course::Summary;
+use scenario_run::Summary;
 use picture::{FIRST_BAND, Form, Markup, PictureOptions, Subject, page_head};
 use scenario::progress::{Again, Onlooker};
 use scenario::{Fault, Scenario, Sink, Source, read_input, read_scenario};

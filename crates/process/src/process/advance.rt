@@ -1,7 +1,7 @@
 //! The next access of a process, and the state of the process after it.
 ghost use Rattle.std.specs.Prelude.{◌≡◌, ◌&&◌, ◌∷◌, [], ℕ, Bool, IfSome, None, Some, cond, true};
-ghost use Rattle.record.specs.declared.marks.Mark.TheVariants.{Left};
-ghost use Rattle.record.specs.{settled_marks};
+ghost use Rattle.model.specs.declared.marks.Mark.TheVariants.{Left};
+ghost use Rattle.model.specs.{settled_marks};
 ghost use Rattle.laws.specs.{IsThere};
 ghost use Rattle.process.specs.Alone.{IsOfRegister};
 ghost use Rattle.process.specs.Places.{changes_at, changes_read, marks_on, may_step, stepped};
@@ -15,7 +15,7 @@ use crate::entering::{clear, enter, part_over};
 use crate::told::StepTold;
 use crate::work::ProcessWork;
 use plain_store::{Answer, Reply};
-use record::{Access, Field};
+use model::{Access, Field};
 use registers::{Cursor, NumberRun};
 
 impl Process {

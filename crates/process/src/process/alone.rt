@@ -1,6 +1,6 @@
 //! Parts of a process's work that run without a whole call, and the facts that their drivers need.
 ghost use Rattle.std.specs.Prelude.{◌≡◌, IfSome};
-ghost use Rattle.record.specs.{IsTornOf};
+ghost use Rattle.model.specs.{IsTornOf};
 ghost use Rattle.process.specs.Alone.{answer_of, called_inside, change_of, full_of, settles, settling_with, ticket_of, torn_of};
 ghost use Rattle.process.specs.Places.{changes_read, withdrawn};
 
@@ -8,7 +8,7 @@ use super::Process;
 use crate::entering::{clear, enter};
 use crate::work::ProcessWork;
 use plain_store::{Answer, Command, Reply};
-use record::{Field, TornBit};
+use model::{Field, TornBit};
 
 impl Process {
     /// Returns the ticket with which it ends its doorway, or waits.

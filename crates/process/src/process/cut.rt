@@ -1,6 +1,6 @@
 //! Withdrawals and failures of a process.
 ghost use Rattle.std.specs.Prelude.{◌≡◌, IfSome, true};
-ghost use Rattle.record.specs.declared.Stage.TheVariants.{Waiting};
+ghost use Rattle.model.specs.declared.Stage.TheVariants.{Waiting};
 ghost use Rattle.process.specs.Places.{failed, may_fail, stage_doing, withdrawn};
 ghost use Rattle.process.specs.Working.{IsOfCommit, is_torn_at, reply_taken, taken_at};
 
@@ -9,7 +9,7 @@ use crate::call_part::CallPart;
 use crate::entering::clear;
 use crate::work::ProcessWork;
 use plain_store::Reply;
-use record::Field;
+use model::Field;
 use registers::Cursor;
 
 impl Process {

@@ -1,7 +1,7 @@
 //! Functions that read the state of a process and leave it unchanged.
 ghost use Rattle.std.specs.Prelude.{◌≡◌, ◌<◌, ◌≤◌, Bool, None, Option, Some, cond, length, true};
 ghost use Rattle.plain_store.specs.declared.Reply.{Reply as Replied};
-ghost use Rattle.record.specs.{read_at, width};
+ghost use Rattle.model.specs.{read_at, width};
 ghost use Rattle.registers.specs.{IsAtPart, is_writing, place_at, register_bytes};
 ghost use Rattle.process.specs.Looks.{bytes_written, number_at, number_read, reads_number, settling_in, settling_of, ticket_known};
 ghost use Rattle.process.specs.RegisterProgress.{last_access, progress};
@@ -12,7 +12,7 @@ use crate::asked::Asked;
 use crate::call_part::CallPart;
 use crate::looks::{AccessProgress, Settling, TicketKnown};
 use crate::work::ProcessWork;
-use record::{Access, Move, bit_of};
+use model::{Access, Move, bit_of};
 use registers::{Cursor, NumberRun};
 
 impl Process {

@@ -1,11 +1,11 @@
 //! The refusals of an event that depend on its process alone.
 ghost use Rattle.std.specs.Prelude.{◌≡◌, ◌<◌, IfSome};
-ghost use Rattle.record.specs.{refused_at};
+ghost use Rattle.model.specs.{refused_at};
 ghost use Rattle.process.specs.Places.{WantsNoMemory, is_full, next_number, refusal_of};
 
 use super::Process;
 use plain_store::Setup;
-use record::{Event, Refusal, Stage};
+use model::{Event, Refusal, Stage};
 
 impl Process {
     /// Returns the reason for which an event of this process is refused, if it is: its stage, or one call too many. It does

@@ -1,7 +1,7 @@
 //! A process with its memory.
 ghost use Rattle.std.specs.Prelude.{◌≡◌, ◌<◌, ◌≤◌, IfSome, true};
-ghost use Rattle.record.specs.{value_of};
-ghost use Rattle.record.specs.declared.stages.Stage.TheVariants.{Waiting};
+ghost use Rattle.model.specs.{value_of};
+ghost use Rattle.model.specs.declared.stages.Stage.TheVariants.{Waiting};
 ghost use Rattle.registers.specs.{AreOf, applied, ends_overlapped};
 ghost use Rattle.process.specs.Places.{changes_read, failed, left_at, marks_on, may_fail, may_step, stage_doing, stepped, withdrawn};
 ghost use Rattle.process.specs.Serving.{answered_at, dropped, newest_of, overlapped_steps, steps_of};
@@ -11,8 +11,8 @@ use super::Process;
 use super::advance::go_on;
 use crate::told::StepTold;
 use crate::work::ProcessWork;
-use flicks::Flicks;
-use record::Access;
+use choices::Flicks;
+use model::Access;
 use registers::{AccessMade, AccessesMade, BitMemory, given};
 
 impl Process {

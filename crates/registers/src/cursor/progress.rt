@@ -4,7 +4,7 @@ ghost use Rattle.registers.specs.Progress.{accesses_in_all, accesses_made, last_
 
 use super::{Cursor, NumberRun, word_at};
 use reader_copies::has_flag;
-use record::{Access, Move};
+use model::{Access, Move};
 
 impl Cursor {
     /// Returns how many accesses of its register access it has made.

@@ -8,7 +8,7 @@ ghost use Rattle.registers.specs.Wordwise.{AreAhead, more_bits};
 use super::{Cursor, NumberRun, word_at};
 use crate::access_made::AccessMade;
 use reader_copies::{all_flags, choose, has_flag, mask, one_flag};
-use record::{Access, Move};
+use model::{Access, Move};
 
 impl Cursor {
     /// Returns the next move of a read; its end returns `value`.

@@ -1,7 +1,7 @@
 //! The value of a register, by reader 0's copies. It is read from them without an access.
 ghost use Rattle.std.specs.Prelude.{◌≡◌, ℕ, ◌<◌, ◌≤◌, Ok, false, slice_index_or};
 ghost use Rattle.plain_store.specs.{checked};
-ghost use Rattle.record.specs.{width};
+ghost use Rattle.model.specs.{width};
 ghost use Rattle.safe_number.specs.{bit_in, number_of_bits};
 ghost use Rattle.registers.specs.Openings.{AreOf};
 ghost use Rattle.registers.specs.Rows.{values_held};
@@ -12,7 +12,7 @@ use crate::cursor::{lane_number, low_bits};
 use crate::fields::RegisterName;
 use crate::word_bytes::bytes_of;
 use plain_store::Setup;
-use record::width_of;
+use model::width_of;
 
 impl BitMemory {
     /// Returns the number that a register of at most 32 bits holds.

@@ -1,7 +1,7 @@
 //! The state of a copy of a bit. It is read without an access.
 ghost use Rattle.std.specs.Prelude.{◌≡◌, ◌<◌, ◌≤◌, IfNone, IfSome, Ok, OnSome, false, length, true};
 ghost use Rattle.plain_store.specs.{checked};
-ghost use Rattle.record.specs.{width};
+ghost use Rattle.model.specs.{width};
 ghost use Rattle.registers.specs.Accesses.{next_answered};
 ghost use Rattle.registers.specs.BitCopies.{cell_of_copy};
 ghost use Rattle.registers.specs.CopyBytes.{copies_in, copy_bytes, has_open_write, values_in};
@@ -15,7 +15,7 @@ use crate::fields::{BitCopy, RegisterName};
 use crate::word_bytes::register_bytes;
 use plain_store::Setup;
 use reader_copies::{BitSeen, Copies};
-use record::{Access, width_of};
+use model::{Access, width_of};
 
 impl BitMemory {
     /// Returns the state of a copy of a bit.

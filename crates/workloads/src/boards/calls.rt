@@ -2,9 +2,9 @@
 ghost use Rattle.board_runs.specs.board.{IsOf, SamePort};
 
 use board_runs::{Board, Driven, Port};
-use flicks::Flicks;
+use choices::Flicks;
 use plain_store::Command;
-use record::Refusal;
+use model::Refusal;
 
 /// An upper bound on the word steps of a call that waits for no process.
 const STEPS: u64 = 65_536;

@@ -5,7 +5,7 @@ ghost use Rattle.plain_store.specs.{checked};
 use crate::counters::counter;
 use call_check::Image;
 use plain_store::{Answer, Caller, Command, NestedTypes, Reply, Setup, Store, Value, opened};
-use record::Placed;
+use model::Placed;
 use std::alloc::{AllocError, Global};
 
 /// The commands that the processes of a setup call in turn. The counter opens at 0 in version 2; in version 1 it is absent, and

@@ -1,6 +1,6 @@
 //! Functions that read the state of a process or a bit from a core and leave the core unchanged.
 ghost use Rattle.std.specs.Prelude.{◌≡◌, ◌<◌, IfErr, IfOk};
-ghost use Rattle.record.specs.{width};
+ghost use Rattle.model.specs.{width};
 ghost use Rattle.laws.specs.{doing};
 ghost use Rattle.process.specs.{number_read, process_after};
 ghost use Rattle.process.specs.registers.reader_copies.{bit_seen};
@@ -11,7 +11,7 @@ ghost use Rattle.world.specs.Walks.{left_in};
 use super::Core;
 use crate::marks::step_marks;
 use process::{BitCopy, BitSeen, Process, RegisterName, StepTold};
-use record::{Access, Act, Entry, Move, Refusal};
+use model::{Access, Act, Entry, Move, Refusal};
 use std::alloc::Global;
 
 impl Core {

@@ -1,6 +1,6 @@
 use Rattle.std.proofs.Common.{◌+◌, List, [], ◌∷◌, ◌++◌, take, sym, ap, subst, ◌∙◌}
 use Rattle.std.proofs.lemmas.List.{take_all, take_more}
-use Rattle.record.specs.{Entry}
+use Rattle.model.specs.{Entry}
 use Rattle.any_lock.specs.{HasJudged}
 use Rattle.any_lock.proofs.judging.judge_all.Goals as goal
 

@@ -1,7 +1,7 @@
 use Rattle.std.proofs.Common.{◌≡◌, ◌∷◌, ◌+◌, List, None, refl, reverse, take, sym, subst, ◌∙◌}
 use Rattle.std.proofs.lemmas.List.{take_all}
 use Rattle.plain_store.specs.{Setup}
-use Rattle.record.specs.{Entry, Past}
+use Rattle.model.specs.{Entry, Past}
 use Rattle.auditor.specs.{AllKeep, BreaksNext, HasHeard, IsHeard, KeepsAll}
 use Rattle.auditor.proofs.Entries.{entries_more}
 use Rattle.auditor.proofs.Firsts.{is_bad_at}

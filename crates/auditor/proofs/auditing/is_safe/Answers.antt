@@ -1,9 +1,9 @@
 use Rattle.std.proofs.Common.{◌≡◌, ◌∷◌, ◌+◌, List, reverse, take, sym, ap, subst, ◌∙◌}
 use Rattle.std.proofs.lemmas.List.{take_all}
 use Rattle.plain_store.specs.{Setup}
-use Rattle.record.specs.{Entry, Past}
-use Rattle.read_law.specs.{HasHeard}
-use Rattle.read_law.specs.Watching.{IfAllThere}
+use Rattle.model.specs.{Entry, Past}
+use Rattle.safe_monitor.specs.{HasHeard}
+use Rattle.safe_monitor.specs.Watching.{IfAllThere}
 use Rattle.auditor.proofs.Entries.{entries_more}
 use Rattle.auditor.proofs.Whole.{there_of}
 use Rattle.auditor.proofs.auditing.is_safe.Goals as goal

@@ -1,5 +1,5 @@
 use Rattle.std.proofs.Common.{◌≡◌, reverse, take}
-use Rattle.read_law.specs.{HasHeard}
+use Rattle.safe_monitor.specs.{HasHeard}
 use Rattle.auditor.proofs.auditing.is_safe.Given as goal
 
 -- the entries before the present one were observed

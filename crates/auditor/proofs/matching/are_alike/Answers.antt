@@ -1,5 +1,5 @@
 use Rattle.std.proofs.Common.{sym, ◌∙◌, arith, true≢false, refl}
-use Rattle.record.specs.{placed}
+use Rattle.model.specs.{placed}
 use Rattle.auditor.proofs.Alike.{same_from, same-here, same-more}
 use Rattle.auditor.proofs.matching.are_alike.Goals as goal
 

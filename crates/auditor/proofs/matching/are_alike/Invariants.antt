@@ -1,5 +1,5 @@
 use Rattle.std.proofs.Common.{◌≡◌, ℕ, ◌<◌, slice_index_or}
-use Rattle.record.specs.{Mark, placed}
+use Rattle.model.specs.{Mark, placed}
 use Rattle.auditor.proofs.matching.are_alike.Given as goal
 
 -- the marks before the present one are equal, except for positions

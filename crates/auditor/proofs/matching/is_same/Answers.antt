@@ -1,7 +1,7 @@
 use Rattle.std.proofs.Common.{◌≡◌, Bool, true, false, ◌&&◌, nat_eq, sym, ap, subst, ◌∙◌, true≢false, refl, rules, tests}
-use Rattle.record.specs.{Mark}
-use Rattle.record.specs.declared.marks.Mark.TheVariants as mark
-use Rattle.record.specs.contracts.marks.MarkPartialEq.TheImpl as impl
+use Rattle.model.specs.{Mark}
+use Rattle.model.specs.declared.marks.Mark.TheVariants as mark
+use Rattle.model.specs.contracts.marks.MarkPartialEq.TheImpl as impl
 use Rattle.plain_store.specs.{Answer, Command, Reply, Value}
 use Rattle.plain_store.specs.declared.names.Name.{Name}
 use Rattle.plain_store.specs.declared.commands.Command.TheVariants as command

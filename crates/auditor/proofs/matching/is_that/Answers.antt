@@ -1,6 +1,6 @@
 use Rattle.std.proofs.Common.{◌≡◌, sym, subst, ◌∙◌, true, rules, tests}
-use Rattle.record.specs.{Access}
-use Rattle.record.specs.contracts.access.AccessPartialEq.TheImpl as impl
+use Rattle.model.specs.{Access}
+use Rattle.model.specs.contracts.access.AccessPartialEq.TheImpl as impl
 use Rattle.auditor.proofs.matching.is_that.Goals as goal
 
 -- accesses that compare as equal are equal

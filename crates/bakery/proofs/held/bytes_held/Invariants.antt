@@ -1,5 +1,5 @@
 use Rattle.std.proofs.Common.{◌≡◌, length, take}
-use Rattle.record.specs.{bytes_of_bits}
+use Rattle.model.specs.{bytes_of_bits}
 use Rattle.bakery.specs.{values_of}
 use Rattle.bakery.proofs.held.bytes_held.Given as goal
 

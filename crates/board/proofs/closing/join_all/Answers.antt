@@ -6,7 +6,7 @@ use mathlib.Core.Logic.{dite}
 use native.Mathlib.Decide.{ℕ_discrete}
 use Rattle.plain_store.specs.{Setup}
 use Rattle.board.specs.{IsIn, IsStill, OwnView, PortState, StandsInRecord, ViewState, done_calls, with_joined}
-use Rattle.record.specs.{Placed, lists_of}
+use Rattle.model.specs.{Placed, lists_of}
 use Rattle.board.proofs.Closings.{joins_still}
 use Rattle.board.proofs.PortLists.{all_push, first_and_rest, item_at, rest_of}
 use Rattle.board.proofs.closing.join_all.Goals as goal

@@ -1,6 +1,6 @@
 use Rattle.std.proofs.Common.{◌≡◌, ◌+◌, ◌<◌, ◌≤◌, ◌++◌, ℕ, vec_capacity, vec_len}
 use Rattle.board.specs.{AreOthers, AreQuiet, EachStandsInRecord, IsIn, done_calls}
-use Rattle.record.specs.{lists_of}
+use Rattle.model.specs.{lists_of}
 use Rattle.board.proofs.closing.join_all.Given as goal
 
 abbrev pub invariant-loop-others : goal.invariant-loop-others

@@ -1,11 +1,11 @@
 use Rattle.std.proofs.Common.{◌≡◌, ◌<◌, ◌≤◌, false, sym, ap, ◌∙◌, subst}
 use Rattle.std.specs.Prelude.{slice_index_or}
-use Rattle.record.specs.safe_number.{bit_in}
-use Rattle.record.specs.declared.access.Field.TheVariants.{Image0}
-use Rattle.record.proofs.safe_number.Numbers.{get-bits}
+use Rattle.model.specs.safe_number.{bit_in}
+use Rattle.model.specs.declared.access.Field.TheVariants.{Image0}
+use Rattle.model.proofs.safe_number.Numbers.{get-bits}
 use Rattle.plain_store.specs.{opening_store}
 use Rattle.store_image.specs.{image_of}
-use Rattle.record.specs.{opening_bit, opening_bits, width}
+use Rattle.model.specs.{opening_bit, opening_bits, width}
 use Rattle.process.specs.registers.{BitCopy}
 use Rattle.board.proofs.Seats.{some_processes}
 use Rattle.board.specs.{access_to, closed_word, copy_of}

@@ -1,6 +1,6 @@
 use Rattle.std.proofs.Common.{◌==◌, sym, ap, ◌∙◌, arith}
 use Rattle.std.specs.Prelude.{slice_index}
-use Rattle.record.specs.{copy}
+use Rattle.model.specs.{copy}
 use Rattle.board.proofs.ShownBits.{bit-at, word_at}
 use Rattle.board.proofs.WordNumbers.{word_below}
 use Rattle.board.proofs.shown_image.bit_shown.Goals as goal

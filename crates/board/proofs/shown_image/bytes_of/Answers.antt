@@ -1,6 +1,6 @@
 use Rattle.std.proofs.Common.{ℕ, ◌+◌, ◌*◌, ◌++◌, ◌∷◌, [], take, drop, set, sym, ap, ◌∙◌, arith}
 use Rattle.std.proofs.lemmas.List.{take_more_set, length-set}
-use Rattle.record.specs.{bytes_of_bits}
+use Rattle.model.specs.{bytes_of_bits}
 use Rattle.board.specs.{bits_shown}
 use Rattle.board.proofs.ShownBits.{bytes-more, number-below}
 use Rattle.board.proofs.shown_image.bytes_of.Goals as goal

@@ -1,5 +1,5 @@
 use Rattle.std.proofs.Common.{◌≡◌, length, take}
-use Rattle.record.specs.{bytes_of_bits}
+use Rattle.model.specs.{bytes_of_bits}
 use Rattle.board.specs.{bits_shown}
 use Rattle.board.proofs.shown_image.bytes_of.Given as goal
 

@@ -1,7 +1,7 @@
 use Rattle.std.proofs.Common.{◌≡◌, ◌<◌, ◌*◌, ℕ, List, map, take, sym, ap, ◌∙◌, subst, arith}
 use Rattle.std.specs.List.{range_with_len}
 use Rattle.plain_store.specs.{Setup, callers_of}
-use Rattle.record.specs.{Version, image_bytes, image_field, width}
+use Rattle.model.specs.{Version, image_bytes, image_field, width}
 use Rattle.store_image.specs.{store_in}
 use Rattle.process.specs.{IsNewestWith, newest_version}
 use Rattle.process.specs.registers.{RegisterName}

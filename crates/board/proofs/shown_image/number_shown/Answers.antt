@@ -1,5 +1,5 @@
 use Rattle.std.proofs.Common.{◌≡◌, ℕ, ◌+◌, ◌-◌, Bool, List, take, drop, if◌then◌else◌, ap, ◌∙◌, pow_mono, arith}
-use Rattle.record.specs.safe_number.{number_of_bits}
+use Rattle.model.specs.safe_number.{number_of_bits}
 use Rattle.board.specs.{bits_shown}
 use Rattle.board.proofs.ShownBits.{byte-is, byte-small, length-bits, number-below, number-more}
 use Rattle.board.proofs.shown_image.number_shown.Goals as goal

@@ -1,5 +1,5 @@
 use Rattle.std.proofs.Common.{◌≡◌, ◌+◌, ◌-◌, take, drop}
-use Rattle.record.specs.safe_number.{number_of_bits}
+use Rattle.model.specs.safe_number.{number_of_bits}
 use Rattle.board.specs.{bits_shown}
 use Rattle.board.proofs.shown_image.number_shown.Given as goal
 

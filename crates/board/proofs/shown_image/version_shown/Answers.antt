@@ -1,6 +1,6 @@
 use Rattle.std.proofs.Common.{◌≡◌, ℕ, Bool, sym, ap, ◌∙◌}
 use Rattle.process.proofs.Outcomes.{width-stamp}
-use Rattle.record.specs.{Field, stamp_field}
+use Rattle.model.specs.{Field, stamp_field}
 use Rattle.board.specs.Closings.{number_shown}
 use Rattle.board.proofs.ShownBits.{version_is}
 use Rattle.board.proofs.shown_image.version_shown.Goals as goal

@@ -1,5 +1,5 @@
 use Rattle.std.proofs.Common.{◌≡◌, ◌-◌, ◌/◌, ◌%◌, sym, ◌∙◌, arith}
-use Rattle.record.specs.{fields}
+use Rattle.model.specs.{fields}
 use Rattle.board.specs.{bit_in_row, copy_of, row_bits}
 use Rattle.board.proofs.Seats.{some_processes}
 use Rattle.board.proofs.WordNumbers.{at_place, bit_there}

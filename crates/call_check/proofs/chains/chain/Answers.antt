@@ -2,7 +2,7 @@ use Rattle.std.proofs.Common.{ℕ, List, [], ◌++◌, length, take, sym, subst}
 use Rattle.std.specs.Global.{Vec}
 use Rattle.std.proofs.lemmas.List.{take_all}
 use Rattle.call_check.specs.{AreChains, Call, Link, all_calls, calls_from}
-use Rattle.record.specs.{Placed, lists_of}
+use Rattle.model.specs.{Placed, lists_of}
 use Rattle.call_check.proofs.AllCalls.{all_more}
 use Rattle.call_check.proofs.Linking.{chains_none}
 use Rattle.call_check.proofs.chains.chain.Goals as goal

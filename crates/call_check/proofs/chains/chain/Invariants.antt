@@ -1,6 +1,6 @@
 use Rattle.std.proofs.Common.{length, take}
 use Rattle.call_check.specs.{AreChains, all_calls}
-use Rattle.record.specs.{lists_of}
+use Rattle.model.specs.{lists_of}
 use Rattle.call_check.proofs.chains.chain.Given as goal
 
 -- the calls of the lists before the present one are chained

@@ -2,7 +2,7 @@ use Rattle.std.proofs.Common.{ℕ, ◌≡◌, ◌+◌, ◌++◌, List, length, t
 use Rattle.std.specs.Global.{Vec}
 use Rattle.std.proofs.lemmas.List.{take_all}
 use Rattle.call_check.specs.{Call, all_calls, calls_from}
-use Rattle.record.specs.{Placed, lists_of}
+use Rattle.model.specs.{Placed, lists_of}
 use Rattle.call_check.proofs.AllCalls.{all_more, length-calls_from}
 use Rattle.call_check.proofs.chains.nothing.Goals as goal
 

@@ -1,6 +1,6 @@
 use Rattle.std.proofs.Common.{◌≡◌, length, take}
 use Rattle.call_check.specs.{AreNothing, all_calls}
-use Rattle.record.specs.{lists_of}
+use Rattle.model.specs.{lists_of}
 use Rattle.call_check.proofs.chains.nothing.Given as goal
 
 -- there is a place for each call of the lists before the present one

@@ -2,7 +2,7 @@ use Rattle.std.proofs.Common.{◌≡◌, ◌<◌, ℕ, List, Some, get_or, lengt
 use Rattle.std.specs.Global.{Vec}
 use Rattle.std.proofs.lemmas.Option.{get_or_from_slice_get, slice_get_within}
 use Rattle.std.specs.List.{slice_get}
-use Rattle.record.specs.{Placed}
+use Rattle.model.specs.{Placed}
 use Rattle.call_check.specs.{Call, IsOf, Link}
 use Rattle.call_check.proofs.notes.call_of.Goals as goal
 

@@ -2,7 +2,7 @@ use Rattle.std.proofs.Common.{◌≡◌, ℕ, suc, ◌-◌, ◌<◌, List, Some,
 use Rattle.std.proofs.lemmas.Option.{slice_get_read}
 use Rattle.std.specs.List.{slice_get}
 use Rattle.call_check.specs.{AreNotedFrom, Call, IsFew, IsLast, IsNoteBy, all_calls, changes_of}
-use Rattle.record.specs.{lists_of}
+use Rattle.model.specs.{lists_of}
 use Rattle.call_check.proofs.Walking.{changes_from, few_there, found_more, found_none, linked, noted_all, noted_more, noted_none}
 use Rattle.call_check.proofs.notes.note_place.Goals as goal
 

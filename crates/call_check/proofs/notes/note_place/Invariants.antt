@@ -2,7 +2,7 @@ use Rattle.std.proofs.Common.{◌≡◌, ℕ, suc, ◌≤◌, Some, drop, filter
 use Rattle.std.specs.List.{slice_get}
 use Rattle.plain_store.specs.{callers_of, changes}
 use Rattle.call_check.specs.{AreFew, AreNotedFrom, Call, all_calls, calls_at, changes_of}
-use Rattle.record.specs.{lists_of}
+use Rattle.model.specs.{lists_of}
 use Rattle.call_check.proofs.notes.note_place.Given as goal
 
 -- the calls with the place are noted from the present one on

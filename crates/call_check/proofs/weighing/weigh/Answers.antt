@@ -1,6 +1,6 @@
 use Rattle.std.proofs.Common.{◌<◌, ◌≤◌, ◌+◌, ℕ, List, length, sym, subst, ◌∙◌, arith, true≢false}
 use Rattle.call_check.specs.{ArePart, Call, IsBadIn, all_calls}
-use Rattle.record.specs.{Placed, lists_of}
+use Rattle.model.specs.{Placed, lists_of}
 use Rattle.call_check.specs.declared.verdicts.Weighed.TheVariants.{Good, Bad, BadEnd}
 use Rattle.call_check.proofs.AllCalls.{before_more, before_within, part_there}
 use Rattle.call_check.proofs.Finding.{few_all, lowest_bad, none_at_all, none_more, weighed}

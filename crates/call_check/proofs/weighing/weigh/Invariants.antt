@@ -1,5 +1,5 @@
 use Rattle.std.proofs.Common.{◌≡◌, ℕ, ◌<◌, length, take}
-use Rattle.record.specs.{lists_of}
+use Rattle.model.specs.{lists_of}
 use Rattle.call_check.specs.{IsBadAt, all_calls}
 use Rattle.call_check.proofs.weighing.weigh.Given as goal
 

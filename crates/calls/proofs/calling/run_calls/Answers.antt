@@ -3,8 +3,8 @@ use Rattle.scenario.proofs.files.EngineEnds.{kept, ran_to_line}
 use Rattle.scenario.specs.{scenario_of, script}
 use Rattle.scenario.specs.files.declared.faults.Fault.TheVariants.{Line}
 use Rattle.std.proofs.Common.{◌≡◌}
-use Rattle.course.specs.{ended}
-use Rattle.course.proofs.ReplayEnds.{ended_err, engine_ran}
+use Rattle.scenario_run.specs.{ended}
+use Rattle.scenario_run.proofs.ReplayEnds.{ended_err, engine_ran}
 use Rattle.calls.specs.{tabled}
 use Rattle.calls.proofs.calling.run_calls.Goals as goal
 

@@ -2,9 +2,9 @@ use Rattle.std.proofs.Common.{◌≡◌, ◌∙◌, ap, arith, refl, subst, sym}
 use Rattle.scenario.specs.{Script, script}
 use Rattle.scenario.specs.files.{WritesFront}
 use Rattle.calls.specs.{TableState, tabled}
-use Rattle.course.specs.{IsWriteFault, run_at_start}
-use Rattle.course.proofs.Played.{on_fault}
-use Rattle.course.proofs.Written.{failed_same, ok_then}
+use Rattle.scenario_run.specs.{IsWriteFault, run_at_start}
+use Rattle.scenario_run.proofs.Played.{on_fault}
+use Rattle.scenario_run.proofs.Written.{failed_same, ok_then}
 use Rattle.calls.proofs.Tabling.{all_tabled, head_cut, nothing_tabled, open_cut, table_cut, table_written}
 use Rattle.calls.proofs.calling.table_scenario.Goals as goal
 

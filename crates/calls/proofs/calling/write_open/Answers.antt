@@ -4,7 +4,7 @@ use Rattle.std.specs.List.{range_with_len}
 use Rattle.plain_store.specs.{Setup}
 use Rattle.scenario.specs.files.{WritesFront}
 use Rattle.calls.specs.{line_of, open_call, open_lines}
-use Rattle.course.proofs.Written.{appends_both, appends_none, failed_same, front_after, front_all, front_longer}
+use Rattle.scenario_run.proofs.Written.{appends_both, appends_none, failed_same, front_after, front_all, front_longer}
 use Rattle.calls.proofs.Ranges.{lines_front, lines_more}
 use Rattle.calls.proofs.calling.write_open.Goals as goal
 

@@ -1,7 +1,7 @@
 use Rattle.std.proofs.Common.{◌≡◌, ◌-◌, flat_map, length}
 use Rattle.std.specs.Io.KnownBytes.{Appends}
 use Rattle.std.specs.List.{range_with_len}
-use Rattle.record.specs.{Past}
+use Rattle.model.specs.{Past}
 use Rattle.calls.specs.{HasHeard, line_of, open_call}
 use Rattle.calls.proofs.calling.write_open.Given as goal
 

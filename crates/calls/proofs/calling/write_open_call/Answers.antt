@@ -2,7 +2,7 @@ use Rattle.std.proofs.Common.{◌≡◌, ◌-◌, length, subst, ap, ◌∙◌}
 use Rattle.std.specs.Io.KnownBytes.{Appends}
 use Rattle.scenario.specs.files.{WritesFront}
 use Rattle.calls.specs.{line_of, open_call}
-use Rattle.course.proofs.Written.{ok_then}
+use Rattle.scenario_run.proofs.Written.{ok_then}
 use Rattle.calls.proofs.calling.write_open_call.Goals as goal
 
 pub returns-clause-ok : goal.returns-clause-ok

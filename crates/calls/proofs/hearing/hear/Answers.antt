@@ -2,7 +2,7 @@ use Rattle.std.proofs.Common.{subst, ◌∙◌}
 use Rattle.std.specs.Io.KnownBytes.{Appends}
 use Rattle.scenario.specs.files.{WritesFront}
 use Rattle.calls.specs.{line_of}
-use Rattle.course.proofs.Written.{ok_then}
+use Rattle.scenario_run.proofs.Written.{ok_then}
 use Rattle.calls.proofs.hearing.hear.Goals as goal
 
 pub returns-clause-ok : goal.returns-clause-ok

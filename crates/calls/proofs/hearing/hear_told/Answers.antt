@@ -1,7 +1,7 @@
 use Rattle.std.proofs.Common.{refl, sym, subst, ◌∙◌}
-use Rattle.record.specs.{Entry}
-use Rattle.course.specs.{Told, entry_made}
-use Rattle.course.proofs.Written.{appends_none, ok_then, on_err}
+use Rattle.model.specs.{Entry}
+use Rattle.scenario_run.specs.{Told, entry_made}
+use Rattle.scenario_run.proofs.Written.{appends_none, ok_then, on_err}
 use Rattle.calls.specs.{CutsTold, Tells}
 use Rattle.calls.proofs.hearing.hear_told.Goals as goal
 

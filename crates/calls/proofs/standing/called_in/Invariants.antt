@@ -1,5 +1,5 @@
 use Rattle.std.proofs.Common.{◌≡◌, drop}
-use Rattle.record.specs.{called_in}
+use Rattle.model.specs.{called_in}
 use Rattle.calls.proofs.standing.called_in.Given as goal
 
 -- the marks so far begin no call

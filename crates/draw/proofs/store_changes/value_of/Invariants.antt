@@ -1,5 +1,5 @@
 use Rattle.std.proofs.Common.{◌≡◌, drop}
-use Rattle.record.specs.plain_store.{value_at}
+use Rattle.model.specs.plain_store.{value_at}
 use Rattle.draw.proofs.store_changes.value_of.Given as goal
 
 -- the name has among the pairs to come what it has among all

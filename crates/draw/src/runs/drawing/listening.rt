@@ -2,13 +2,13 @@
 ghost use Rattle.std.specs.Prelude.{◌≡◌, ◌+◌, ◌-◌, ◌^◌, ◌<◌, ℕ, Err, IfErr, OnOk, refl};
 ghost use Rattle.std.proofs.Common.{add-zero, ap, sym, ◌∙◌};
 ghost use Rattle.draw.specs.Writing.{IsWriteFault, failed_write};
-ghost use Rattle.course.specs.{CanCount, can_count_less};
+ghost use Rattle.scenario_run.specs.{CanCount, can_count_less};
 ghost use Rattle.draw.specs.Drawings.{observes};
 ghost use Rattle.draw.specs.RunDrawings.{DrawsLine, GoesOnDrawing, tally};
 
 use super::RunDrawing;
-use course::{Course, Listener, Stepped, Told};
-use record::Move;
+use scenario_run::{Course, Listener, Stepped, Told};
+use model::Move;
 use scenario::{Fault, Line, Sink};
 
 /// Makes the turns of a line, and draws each turn before the next one is made.

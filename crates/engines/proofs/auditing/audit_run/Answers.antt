@@ -1,10 +1,10 @@
 use Rattle.std.proofs.Common.{◌≡◌, ◌∙◌, [], length, subst, sym, refl}
 use Rattle.plain_store.specs.{Setup}
 use Rattle.scenario.specs.{Script, script}
-use Rattle.course.specs.{Audits, run_at_start, run_record}
+use Rattle.scenario_run.specs.{Audits, run_at_start, run_record}
 use Rattle.judge.specs.auditor.{Law, Verdict}
-use Rattle.course.proofs.Listeners.{run_is_good, run_length}
-use Rattle.course.proofs.Played.{played_good}
+use Rattle.scenario_run.proofs.Listeners.{run_is_good, run_length}
+use Rattle.scenario_run.proofs.Played.{played_good}
 use Rattle.engines.specs.{IsRunVerdict}
 use Rattle.engines.proofs.Replayings.{counts_none}
 use Rattle.engines.proofs.auditing.audit_run.Goals as goal

@@ -1,9 +1,9 @@
 use Rattle.std.proofs.Common.{◌≡◌, ap}
 use Rattle.std.specs.String.{string_bytes}
 use Rattle.scenario.specs.{script}
-use Rattle.judge.specs.read_law.{law_text}
+use Rattle.judge.specs.safe_monitor.{law_text}
 use Rattle.judge.specs.{verdict_line}
-use Rattle.course.proofs.Written.{front_all, line_front, line_whole, ok_along}
+use Rattle.scenario_run.proofs.Written.{front_all, line_front, line_whole, ok_along}
 use Rattle.engines.specs.{audited, run_length}
 use Rattle.engines.proofs.auditing.audit_scenario.Goals as goal
 

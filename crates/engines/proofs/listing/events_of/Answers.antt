@@ -1,6 +1,6 @@
 use Rattle.std.proofs.Common.{◌≡◌, subst, refl}
 use Rattle.scenario.specs.{Script, script}
-use Rattle.course.specs.{accepted_events, run_at_start}
+use Rattle.scenario_run.specs.{accepted_events, run_at_start}
 use Rattle.engines.proofs.listing.events_of.Goals as goal
 
 pub returns : goal.returns

@@ -1,7 +1,7 @@
 use Rattle.std.proofs.Common.{arith, refl}
 use Rattle.std.proofs.lemmas.Grind.{common_steps}
 use Rattle.engines.proofs.Recorded.{records_refused}
-use Rattle.course.proofs.Written.{ok_then}
+use Rattle.scenario_run.proofs.Written.{ok_then}
 use Rattle.engines.proofs.listing.record_event.Goals as goal
 
 pub returns-in-Err : goal.returns-in-Err

@@ -1,9 +1,9 @@
 use Rattle.std.proofs.Common.{◌≡◌, ◌∷◌, ◌+◌, ℕ, List, reverse, take, ap, sym, subst, ◌∙◌, arith}
 use Rattle.std.proofs.lemmas.List.{reverse-reverse}
 use Rattle.plain_store.specs.{Setup}
-use Rattle.course.specs.«record».{Event, KeepsHeadlineThroughout, past_of}
-use Rattle.course.proofs.history_laws.Headlines.{throughout}
-use Rattle.course.specs.world.Shows.{Shows}
+use Rattle.scenario_run.specs.model.{Event, KeepsHeadlineThroughout, past_of}
+use Rattle.scenario_run.proofs.history_laws.Headlines.{throughout}
+use Rattle.scenario_run.specs.world.Shows.{Shows}
 use Rattle.engines.specs.{Records}
 use Rattle.engines.proofs.FitRecords.{given_again}
 use Rattle.engines.proofs.Recorded.{all_recorded, events_more}

@@ -1,6 +1,6 @@
 use Rattle.std.proofs.Common.{◌≡◌, reverse, take}
-use Rattle.course.specs.«record».{past_of}
-use Rattle.course.specs.world.Shows.{Shows}
+use Rattle.scenario_run.specs.model.{past_of}
+use Rattle.scenario_run.specs.world.Shows.{Shows}
 use Rattle.engines.proofs.listing.record_of.Given as goal
 
 -- the world shows the events before the present one, and the entries are their record

@@ -2,9 +2,9 @@ use Rattle.std.proofs.Common.{◌≡◌, ◌+◌, ◌∙◌, [], Err, add-zero, 
 use Rattle.std.specs.Io.KnownBytes.{Appends}
 use Rattle.scenario.specs.{Script, script}
 use Rattle.scenario.specs.files.{WritesFront}
-use Rattle.course.proofs.Written.{failed_same, front_all, line_front, line_whole}
-use Rattle.course.proofs.Played.{on_fault}
-use Rattle.course.specs.{IsWriteFault, Writes, WritesPart, failed_write, happenings, run_at_start}
+use Rattle.scenario_run.proofs.Written.{failed_same, front_all, line_front, line_whole}
+use Rattle.scenario_run.proofs.Played.{on_fault}
+use Rattle.scenario_run.specs.{IsWriteFault, Writes, WritesPart, failed_write, happenings, run_at_start}
 use Rattle.engines.specs.{entries_text, recorded}
 use Rattle.engines.proofs.Recordings.{head_cut, head_text, record_cut, record_written}
 use Rattle.engines.proofs.recording.record_scenario.Goals as goal

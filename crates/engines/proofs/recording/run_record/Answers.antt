@@ -4,8 +4,8 @@ use Rattle.scenario.proofs.files.EngineEnds.{kept, ran_to_line}
 use Rattle.scenario.specs.{scenario_of, script}
 use Rattle.scenario.specs.files.declared.faults.Fault.TheVariants.{Line}
 use Rattle.engines.specs.{WritesRecord, recorded}
-use Rattle.course.specs.{ended}
-use Rattle.course.proofs.ReplayEnds.{ended_err, engine_ran, input_answer}
+use Rattle.scenario_run.specs.{ended}
+use Rattle.scenario_run.proofs.ReplayEnds.{ended_err, engine_ran, input_answer}
 use Rattle.engines.proofs.FitRecords.{records_again, records_fit}
 use Rattle.engines.proofs.RunsAgain.{run_again, written_again}
 use Rattle.engines.proofs.recording.run_record.Goals as goal

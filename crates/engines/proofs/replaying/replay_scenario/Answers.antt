@@ -2,10 +2,10 @@ use Rattle.std.proofs.Common.{◌≡◌, ◌+◌, ◌∙◌, [], ap, arith, subs
 use Rattle.scenario.specs.files.{WritesFront}
 use Rattle.scenario.specs.{Script, script}
 use Rattle.std.specs.Io.KnownBytes.{Appends}
-use Rattle.course.specs.{IsWriteFault, RunKeepsHeadline, Summary, Writes, WritesPart, happenings, replayed, run_at_start, runs, summary_of, text_of}
-use Rattle.course.proofs.Onwards.{run_headline, run_numbers}
-use Rattle.course.proofs.Played.{on_fault}
-use Rattle.course.proofs.Written.{failed_same, front_all}
+use Rattle.scenario_run.specs.{IsWriteFault, RunKeepsHeadline, Summary, Writes, WritesPart, happenings, replayed, run_at_start, runs, summary_of, text_of}
+use Rattle.scenario_run.proofs.Onwards.{run_headline, run_numbers}
+use Rattle.scenario_run.proofs.Played.{on_fault}
+use Rattle.scenario_run.proofs.Written.{failed_same, front_all}
 use Rattle.engines.proofs.Replayings.{counts_none, replay_cut, replay_end_cut, replay_written}
 use Rattle.engines.proofs.replaying.replay_scenario.Goals as goal
 

@@ -3,7 +3,7 @@ use Rattle.plain_store.specs.{Setup}
 use Rattle.scenario.specs.{script}
 use Rattle.sweeper.proofs.Goods.{found_is}
 use Rattle.sweeper.specs.{cuts}
-use Rattle.course.specs.{accepted_events, happenings, run_at_start, runs}
+use Rattle.scenario_run.specs.{accepted_events, happenings, run_at_start, runs}
 use Rattle.engines.specs.{SweepsRun, accepted_calls}
 use Rattle.engines.proofs.sweeping.sweep_lines.Given.{Over}
 use Rattle.engines.proofs.sweeping.sweep_lines.Goals.{After-found}

@@ -2,7 +2,7 @@ use Rattle.std.proofs.Common.{ap}
 use Rattle.std.specs.String.{string_bytes}
 use Rattle.scenario.specs.{script}
 use Rattle.engines.specs.{swept, swept_lines}
-use Rattle.course.proofs.Written.{front_all, line_front, line_whole, ok_along}
+use Rattle.scenario_run.proofs.Written.{front_all, line_front, line_whole, ok_along}
 use Rattle.engines.proofs.sweeping.sweep_scenario.Goals as goal
 
 pub returns-in_err-write_line-clause-front : goal.returns-in_err-write_line-clause-front

@@ -2,8 +2,8 @@ use Rattle.std.proofs.Common.{ℕ, ◌+◌, ◌++◌, flat_map, take, drop, arit
 use Rattle.std.proofs.lemmas.List.{take_all}
 use Rattle.std.specs.Io.KnownBytes.{Appends}
 use Rattle.scenario.specs.files.{WritesFront}
-use Rattle.course.specs.{mark_line}
-use Rattle.course.proofs.Written.{appends_both, appends_none, failed_same, front_after, front_all, front_longer, items_more, items_split}
+use Rattle.scenario_run.specs.{mark_line}
+use Rattle.scenario_run.proofs.Written.{appends_both, appends_none, failed_same, front_after, front_all, front_longer, items_more, items_split}
 use Rattle.engines.proofs.writing.write_marks.Goals as goal
 
 pub loop-mark-init : goal.loop-mark-init

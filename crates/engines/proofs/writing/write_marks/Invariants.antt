@@ -1,6 +1,6 @@
 use Rattle.std.proofs.Common.{◌≡◌, flat_map, take}
 use Rattle.std.specs.Io.KnownBytes.{Appends}
-use Rattle.course.specs.{mark_line}
+use Rattle.scenario_run.specs.{mark_line}
 use Rattle.engines.proofs.writing.write_marks.Given as goal
 
 -- the lines of the marks before the present one were written

@@ -1,5 +1,5 @@
 -- The answer to `Ask` shows changes.
-use Rattle.record.proofs.Width.{is_good}
+use Rattle.model.proofs.Width.{is_good}
 use Rattle.history_laws.proofs.DataHeadline as headline
 use Rattle.history_laws.proofs.Asked.{ask_answers, ask_tells}
 use Rattle.history_laws.proofs.HistoryItems.{numbers_ascend}

@@ -1,4 +1,4 @@
-use Rattle.record.proofs.Width.{is_good}
+use Rattle.model.proofs.Width.{is_good}
 use Rattle.history_laws.proofs.ReadStamps.{history_stands, stamps_count}
 use Rattle.history_laws.proofs.data.stamps_count_the_changes.Goals as goal
 

@@ -1,5 +1,5 @@
 -- Each command that is taken has its place, and the history grows by it.
-use Rattle.record.proofs.Width.{is_good}
+use Rattle.model.proofs.Width.{is_good}
 use Rattle.history_laws.proofs.Places.{at_its_place, grows_by_the_taken}
 use Rattle.history_laws.proofs.history.taken_at_its_place.Goals as goal
 

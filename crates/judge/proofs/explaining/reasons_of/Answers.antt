@@ -1,6 +1,6 @@
 use Rattle.std.proofs.Common.{IfOk, subst}
-use Rattle.record.specs.{Entry}
-use Rattle.auditor.specs.read_law.{entry_by}
+use Rattle.model.specs.{Entry}
+use Rattle.auditor.specs.safe_monitor.{entry_by}
 use Rattle.judge.specs.{GivesReasons}
 use Rattle.judge.proofs.explaining.reasons_of.Goals as goal
 

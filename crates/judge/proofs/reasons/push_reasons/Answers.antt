@@ -1,5 +1,5 @@
 use Rattle.std.proofs.Common.{ap}
-use Rattle.record.specs.{Entry}
+use Rattle.model.specs.{Entry}
 use Rattle.judge.proofs.LinesAt.{ok_then}
 use Rattle.judge.proofs.Written.{writes_reasons}
 use Rattle.judge.proofs.reasons.push_reasons.Goals as goal

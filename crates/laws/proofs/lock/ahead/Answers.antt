@@ -1,6 +1,6 @@
 -- The processes ahead of another.
-use Rattle.record.specs.{past_of}
-use Rattle.record.proofs.Width.{is_good}
+use Rattle.model.specs.{past_of}
+use Rattle.model.proofs.Width.{is_good}
 use Rattle.laws.proofs.AheadLists.{ahead_are, ascends, queued-only, not_itself, all_waiters, nobody_ahead}
 use Rattle.laws.proofs.Always.{inv_of}
 use Rattle.laws.proofs.lock.ahead.Goals as goal

@@ -1,5 +1,5 @@
 -- Alone inside.
-use Rattle.record.proofs.Width.{is_good}
+use Rattle.model.proofs.Width.{is_good}
 use Rattle.laws.proofs.Alone.{alone, touched_inside, owner_writes}
 use Rattle.laws.proofs.Always.{inv_of}
 use Rattle.laws.proofs.Takings.{taken_inside}

@@ -1,5 +1,5 @@
 -- The end of a doorway.
-use Rattle.record.proofs.Width.{is_good}
+use Rattle.model.proofs.Width.{is_good}
 use Rattle.laws.proofs.DoorwayEnds.{all_read, waiters_read_none, full_names_the_lowest, full_exactly}
 use Rattle.laws.proofs.lock.full_answers.Goals as goal
 

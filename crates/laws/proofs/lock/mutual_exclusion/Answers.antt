@@ -1,5 +1,5 @@
 -- No two processes are inside.
-use Rattle.record.proofs.Width.{is_good}
+use Rattle.model.proofs.Width.{is_good}
 use Rattle.laws.proofs.Always.{inv_of}
 use Rattle.laws.proofs.Theorems as theorem
 use Rattle.laws.proofs.lock.mutual_exclusion.Goals as goal

@@ -1,5 +1,5 @@
 -- No process is overtaken.
-use Rattle.record.proofs.Width.{is_good}
+use Rattle.model.proofs.Width.{is_good}
 use Rattle.laws.proofs.Always.{inv_of}
 use Rattle.laws.proofs.Theorems as theorem
 use Rattle.laws.proofs.lock.no_overtaking.Goals as goal

@@ -1,9 +1,9 @@
 -- An accepted event adds one entry, of its own process.
 use Rattle.std.proofs.Common.{◌≡◌, ◌≢◌, ℕ, List, ◌∷◌, Option, Some, None, refl, sym, ap, ◌∙◌}
 use Rattle.plain_store.specs.{Setup}
-use Rattle.record.specs.{Entry, Event, Past, Refusal, added, entry_of, own, past_of, process_of, refused}
-use Rattle.record.proofs.Accepted.{accepted_adds}
-use Rattle.record.proofs.Width.{IsGood, is_good}
+use Rattle.model.specs.{Entry, Event, Past, Refusal, added, entry_of, own, past_of, process_of, refused}
+use Rattle.model.proofs.Accepted.{accepted_adds}
+use Rattle.model.proofs.Width.{IsGood, is_good}
 use Rattle.laws.proofs.Frame.{own-other}
 use Rattle.laws.proofs.FrameEvents.{accepted}
 use Rattle.laws.proofs.lock.own_entries.Goals as goal

@@ -1,5 +1,5 @@
 -- The safe rule holds.
-use Rattle.record.specs.{past_of}
+use Rattle.model.specs.{past_of}
 use Rattle.laws.proofs.SafeRecords.{ends_as_it_may, ends_by_its_flick}
 use Rattle.laws.proofs.lock.safe_rule.Goals as goal
 

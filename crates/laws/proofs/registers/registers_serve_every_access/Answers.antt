@@ -1,5 +1,5 @@
 -- The registers serve every access.
-use Rattle.record.proofs.Width.{is_good}
+use Rattle.model.proofs.Width.{is_good}
 use Rattle.laws.proofs.Ends.{ends_what_began}
 use Rattle.laws.proofs.HeldCells.{held_answers}
 use Rattle.laws.proofs.HeldThere.{access_there}

@@ -1,5 +1,5 @@
 -- A process that enters is first in line.
-use Rattle.record.proofs.Width.{is_good}
+use Rattle.model.proofs.Width.{is_good}
 use Rattle.laws.proofs.FirstInLine.{first_inside, first_to_enter}
 use Rattle.laws.proofs.ticket_line.who_enters_is_first_in_line.Goals as goal
 

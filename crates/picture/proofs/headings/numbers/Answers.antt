@@ -1,6 +1,6 @@
 use Rattle.std.specs.String.{string_bytes}
 use Rattle.picture.proofs.Sheetings.{numbers_are}
-use Rattle.columns.proofs.Texts.{ok_along}
+use Rattle.picture_layout.proofs.Texts.{ok_along}
 use Rattle.picture.proofs.headings.numbers.Goals as goal
 
 pub returns : goal.returns

@@ -1,6 +1,6 @@
 use Rattle.std.proofs.Common.{◌≡◌, [], ◌∷◌, ◌∙◌, ap}
 use Rattle.markup.specs.{Mark, drawings, reading, with_mark}
-use Rattle.columns.specs.{text_of}
+use Rattle.picture_layout.specs.{text_of}
 use Rattle.picture.specs.{mark_said, queue_text}
 use Rattle.picture.proofs.Sheetings.{adds_other}
 use Rattle.picture.proofs.Tellings.{then_same}

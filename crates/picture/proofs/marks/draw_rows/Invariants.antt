@@ -1,6 +1,6 @@
 use Rattle.std.proofs.Common.{◌≡◌, ◌++◌, drop, map}
 use Rattle.markup.specs.{drawings, reading}
-use Rattle.columns.specs.{wording}
+use Rattle.picture_layout.specs.{wording}
 use Rattle.picture.specs.{rows_shapes}
 use Rattle.picture.proofs.marks.draw_rows.Given as goal
 

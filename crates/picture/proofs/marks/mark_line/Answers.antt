@@ -3,7 +3,7 @@ use Rattle.std.specs.Fmt.{decimal}
 use Rattle.std.specs.Option.{option_copied}
 use Rattle.markup.specs.{Attribute, said_text}
 use Rattle.markup.specs.declared.names.Key.TheVariants as key
-use Rattle.columns.specs.{change_told}
+use Rattle.picture_layout.specs.{change_told}
 use Rattle.picture.specs.{mark_said}
 use Rattle.picture.proofs.Beginnings.{attributes_said, mark_drawn}
 use Rattle.picture.proofs.marks.mark_line.Goals as goal

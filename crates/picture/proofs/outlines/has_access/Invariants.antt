@@ -1,5 +1,5 @@
 use Rattle.std.proofs.Common.{◌≡◌, drop, map}
-use Rattle.columns.specs.{seen, shows_access}
+use Rattle.picture_layout.specs.{seen, shows_access}
 use Rattle.picture.proofs.outlines.has_access.Given as goal
 
 -- none of the columns before the present one shows one

@@ -1,5 +1,5 @@
 use Rattle.std.proofs.Common.{◌≡◌, drop, map}
-use Rattle.columns.specs.{seen}
+use Rattle.picture_layout.specs.{seen}
 use Rattle.picture.specs.{next_change}
 use Rattle.picture.proofs.waves.change_place.Given as goal
 

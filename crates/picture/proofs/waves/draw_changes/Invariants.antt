@@ -1,6 +1,6 @@
 use Rattle.std.proofs.Common.{◌≡◌, ◌++◌, drop, map}
 use Rattle.markup.specs.{drawings, reading}
-use Rattle.columns.specs.{seen}
+use Rattle.picture_layout.specs.{seen}
 use Rattle.picture.specs.{wave_from}
 use Rattle.picture.proofs.waves.draw_changes.Given as goal
 

@@ -1,6 +1,6 @@
 use Rattle.std.proofs.Common.{◌≡◌, take, true, sym, ap, ◌∙◌}
 use Rattle.plain_store.specs.{changes}
-use Rattle.record.specs.{greatest}
+use Rattle.model.specs.{greatest}
 use Rattle.process.specs.{call_of, versions_seen}
 use Rattle.process.proofs.AfterParts.{g-full, g-writes}
 use Rattle.process.proofs.VersionsSeen.{newest-stamp}

@@ -1,5 +1,5 @@
 use Rattle.std.proofs.Common.{◌+◌, ◌++◌, ◌∷◌, [], sym, ap, ◌∙◌, subst, arith}
-use Rattle.record.specs.{to_e}
+use Rattle.model.specs.{to_e}
 use Rattle.process.specs.{Fit, all_from, call_of, versions_seen}
 use Rattle.process.specs.declared.seen.Seen.{Seen}
 use Rattle.process.proofs.SeenMore.{version-fits, version-room}

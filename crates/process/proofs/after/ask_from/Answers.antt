@@ -1,5 +1,5 @@
 use Rattle.std.proofs.Common.{◌≡◌, ◌-◌, take, sym, ap, ◌∙◌, arith}
-use Rattle.record.specs.{to_c}
+use Rattle.model.specs.{to_c}
 use Rattle.process.specs.{call_of, others_below, tickets_seen}
 use Rattle.process.proofs.AfterParts.{asks-none, asks-some}
 use Rattle.process.proofs.OthersFrom.{below-none}

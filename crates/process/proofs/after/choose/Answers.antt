@@ -1,5 +1,5 @@
 use Rattle.std.proofs.Common.{◌≡◌, ◌+◌, sym, ap, ◌∙◌, arith}
-use Rattle.record.specs.{Refuses, TakesTicket, greatest, index_of, max_of}
+use Rattle.model.specs.{Refuses, TakesTicket, greatest, index_of, max_of}
 use Rattle.process.specs.{call_of, other_numbered}
 use Rattle.process.proofs.AfterParts.{chosen-full, refuses, takes}
 use Rattle.process.proofs.after.choose.Goals as goal

@@ -1,5 +1,5 @@
 use Rattle.std.proofs.Common.{◌≤◌, refl, sym, ap, ◌∙◌, subst}
-use Rattle.record.specs.{max_of}
+use Rattle.model.specs.{max_of}
 use Rattle.process.specs.{IsOutcome, call_of, part_at}
 use Rattle.process.specs.declared.part.ProcessPart.TheVariants as at
 use Rattle.process.proofs.AfterParts.{keeps-then, part-then}

@@ -1,5 +1,5 @@
 use Rattle.std.proofs.Common.{◌≡◌, ◌<◌, ℕ, List, take, sym, ap, ◌∙◌, arith}
-use Rattle.record.specs.{greatest, index_of}
+use Rattle.model.specs.{greatest, index_of}
 use Rattle.process.specs.{call_of}
 use Rattle.process.proofs.VersionsSeen.{image-register, newest-inside}
 use Rattle.process.proofs.asked.newest_image.Goals as goal

@@ -1,5 +1,5 @@
 use Rattle.std.proofs.Common.{◌≡◌, sym, ap, ◌∙◌, take}
-use Rattle.record.specs.{greatest}
+use Rattle.model.specs.{greatest}
 use Rattle.process.proofs.VersionsSeen.{newest-stamp}
 use Rattle.process.proofs.asked.newest_stamp.Goals as goal
 

@@ -4,8 +4,8 @@ use Rattle.std.specs.Prelude.{Ok}
 use Rattle.plain_store.specs.{Setup, callers_of, checked}
 use Rattle.registers.specs.{RegisterName}
 use Rattle.registers.specs.safe_bit.Cell.{Cell}
-use Rattle.record.specs.{Version, bytes_of_bits, image_bytes, image_field, width}
-use Rattle.record.proofs.Width.{is_good}
+use Rattle.model.specs.{Version, bytes_of_bits, image_bytes, image_field, width}
+use Rattle.model.proofs.Width.{is_good}
 use Rattle.store_image.specs.{store_in}
 use Rattle.process.specs.{IsNewestWith, newest_version, register_held, version_in, versions_in}
 use Rattle.process.specs.declared.newest_version.NewestVersion.{NewestVersion}

@@ -1,7 +1,7 @@
 use Rattle.std.proofs.Common.{◌≡◌, ◌==◌, ℕ, Bool, false, get_or, ap, ◌∙◌}
-use Rattle.record.specs.declared.access.Field.TheVariants.{Commit}
-use Rattle.record.specs.{Version, stamp_field}
-use Rattle.record.specs.safe_number.{number_of_bits}
+use Rattle.model.specs.declared.access.Field.TheVariants.{Commit}
+use Rattle.model.specs.{Version, stamp_field}
+use Rattle.model.specs.safe_number.{number_of_bits}
 use Rattle.process.specs.{register_held}
 use Rattle.process.proofs.HeldBits.{held-wide, one-bit}
 use Rattle.process.proofs.committed.version_held.Goals as goal

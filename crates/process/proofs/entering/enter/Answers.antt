@@ -1,9 +1,9 @@
 use Rattle.std.proofs.Common.{◌≡◌, ◌<◌, ◌≤◌, ◌-◌, ℕ, List, length, sym, ap, ◌∙◌, subst}
 use Rattle.plain_store.specs.{Setup, padded}
 use Rattle.store_image.specs.{image_of}
-use Rattle.record.specs.{Field, width, written_at}
-use Rattle.record.specs.declared.access.Field.TheVariants.{Image0}
-use Rattle.record.specs.safe_number.{bits_in, bits_of_number}
+use Rattle.model.specs.{Field, width, written_at}
+use Rattle.model.specs.declared.access.Field.TheVariants.{Image0}
+use Rattle.model.specs.safe_number.{bits_in, bits_of_number}
 use Rattle.registers.specs.{CursorState, reading, writing}
 use Rattle.process.proofs.PartOver.{bits-padded, entered-read, entered-write, image-written}
 use Rattle.process.proofs.entering.enter.Goals as goal

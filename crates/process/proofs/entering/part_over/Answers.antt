@@ -1,5 +1,5 @@
 use Rattle.std.proofs.Common.{ap, ◌∙◌}
-use Rattle.record.specs.{Part}
+use Rattle.model.specs.{Part}
 use Rattle.process.specs.{PartState}
 use Rattle.process.proofs.PartOver.{after-same, bits_read, marks-same, narrow-read, outcome-of}
 use Rattle.process.proofs.entering.part_over.Goals as goal

@@ -4,8 +4,8 @@ use Rattle.std.proofs.lemmas.Bool.{cases_lt}
 use Rattle.std.proofs.lemmas.List.{get_or-take, get_or_past, length-take-le}
 use Rattle.std.proofs.lemmas.Nat.Bits.{bit_at-zero}
 use Rattle.plain_store.specs.{callers_of}
-use Rattle.record.specs.{image_bytes}
-use Rattle.record.specs.safe_number.{IsBytesOf, bit_in}
+use Rattle.model.specs.{image_bytes}
+use Rattle.model.specs.safe_number.{IsBytesOf, bit_in}
 use Rattle.store_image.specs.{store_in}
 use Rattle.process.proofs.image.image_read.Goals as goal
 

@@ -1,5 +1,5 @@
 use Rattle.std.proofs.Common.{◌≡◌, ◌+◌, drop}
-use Rattle.record.specs.{index_of}
+use Rattle.model.specs.{index_of}
 use Rattle.process.proofs.numbers.place_of.Given as goal
 
 abbrev pub invariant-loop-place : goal.invariant-loop-place

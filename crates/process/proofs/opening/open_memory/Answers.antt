@@ -1,9 +1,9 @@
 use Rattle.std.proofs.Common.{◌≡◌, ◌-◌, ◌≤◌, ℕ, List, length, ap, ◌∙◌, arith, rules}
 use Rattle.std.proofs.lemmas.Result.{IfOk-weaker}
 use Rattle.plain_store.specs.{Setup, opening_store}
-use Rattle.record.specs.declared.access.Field.TheVariants.{Image0}
-use Rattle.record.specs.{width}
-use Rattle.record.specs.safe_number.{bits_in}
+use Rattle.model.specs.declared.access.Field.TheVariants.{Image0}
+use Rattle.model.specs.{width}
+use Rattle.model.specs.safe_number.{bits_in}
 use Rattle.store_image.specs.{image_of}
 use Rattle.registers.proofs.WordBytes.{bits-as-bytes}
 use Rattle.registers.specs.{opening_memory}

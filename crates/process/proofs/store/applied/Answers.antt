@@ -1,7 +1,7 @@
 use Rattle.std.proofs.Common.{◌≡◌}
 use Rattle.std.proofs.lemmas.Result.{IfOk-at_ok}
 use Rattle.plain_store.specs.{Reply, after}
-use Rattle.record.specs.{caller, reply}
+use Rattle.model.specs.{caller, reply}
 use Rattle.process.specs.{call_of}
 use Rattle.process.proofs.store.applied.Goals as goal
 

@@ -1,6 +1,6 @@
 use Rattle.std.proofs.Common.{◌≡◌, false, true, subst, sym, true≢false}
 use Rattle.plain_store.specs.{Setup}
-use Rattle.record.specs.{lists_of}
+use Rattle.model.specs.{lists_of}
 use Rattle.race.specs.{IsRaced, plans_of}
 use Rattle.race.proofs.Raced.{are_new, as_many, made_with, of_all, plans_all, quiet, raced}
 use Rattle.race.proofs.racing.race.Goals as goal

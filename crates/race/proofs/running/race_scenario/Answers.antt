@@ -3,7 +3,7 @@ use Rattle.std.proofs.lemmas.List.{length-map}
 use Rattle.std.specs.Global.{Vec}
 use Rattle.race.specs.{IsRaced, plans_in, plans_of}
 use Rattle.scenario.specs.{Script, script}
-use Rattle.record.specs.{Placed, lists_of}
+use Rattle.model.specs.{Placed, lists_of}
 use Rattle.race.proofs.PlanLists.{plans_each, raced_lists_short, raced_plans_short}
 use Rattle.race.proofs.running.race_scenario.Goals as goal
 

@@ -1,6 +1,6 @@
 use Rattle.std.proofs.Common.{ℕ, List, ◌++◌, ap, sym, ◌∙◌, take}
 use Rattle.std.specs.String.{string_bytes}
-use Rattle.record.specs.{lists_of}
+use Rattle.model.specs.{lists_of}
 use Rattle.race.specs.{answers_from, list_text}
 use Rattle.race.proofs.Parts.{answers_more, pushed}
 use Rattle.race.proofs.texts.answer_lines.Goals as goal

@@ -1,7 +1,7 @@
 use Rattle.std.proofs.Common.{ℕ, List, ◌++◌, ap, ◌∙◌}
 use Rattle.std.specs.String.{string_bytes}
 use Rattle.plain_store.specs.{show_text}
-use Rattle.record.specs.{lists_of}
+use Rattle.model.specs.{lists_of}
 use Rattle.race.specs.{answers_from, refused_lines, verdict_line}
 use Rattle.race.proofs.Parts.{pushed}
 use Rattle.race.proofs.texts.race_text.Goals as goal

@@ -1,5 +1,5 @@
 use Rattle.std.proofs.Common.{◌≡◌, length, take}
-use Rattle.record.specs.{Past}
+use Rattle.model.specs.{Past}
 use Rattle.record_accesses.specs.{HasOpened, first_overlaps, writer_of}
 use Rattle.record_accesses.proofs.overlaps.overlaps.Given as goal
 

@@ -1,4 +1,4 @@
-use Rattle.record.specs.{Access}
+use Rattle.model.specs.{Access}
 use Rattle.record_file.proofs.StepWords.{access_is}
 use Rattle.record_file.proofs.step_reading.access_behind.Goals as goal
 

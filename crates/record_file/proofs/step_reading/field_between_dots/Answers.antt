@@ -1,5 +1,5 @@
 use Rattle.std.proofs.Common.{sym, ◌∙◌}
-use Rattle.record.specs.{field_word}
+use Rattle.model.specs.{field_word}
 use Rattle.record_file.proofs.StepWords.{between_dots}
 use Rattle.record_file.proofs.step_reading.field_between_dots.Goals as goal
 

@@ -1,6 +1,6 @@
 use Rattle.std.proofs.Common.{◌≡◌, Bool, true, [], IfSome, length, sym, ap, ◌∙◌, subst, arith}
 use Rattle.plain_store.specs.{Setup}
-use Rattle.record.specs.{IsTornOf}
+use Rattle.model.specs.{IsTornOf}
 use Rattle.bakery.specs.{IsQuiet}
 use Rattle.bakery.specs.process.{ProcessState, process_after, settling_with, torn_of}
 use Rattle.bakery.specs.Locks.{LockRows, new_locks}

@@ -1,5 +1,5 @@
 use Rattle.std.proofs.Common.{◌≡◌, Bool, true, false, List, ap, ◌∙◌}
-use Rattle.record.specs.{Access, copy}
+use Rattle.model.specs.{Access, copy}
 use Rattle.bakery.specs.Locks.{LockRows, locks_after}
 use Rattle.register_tests.specs.Doors.{can_locks, read_end}
 use Rattle.register_tests.proofs.Stepping.{locks-can}

@@ -1,6 +1,6 @@
 use Rattle.std.proofs.Common.{◌≡◌, ℕ, Bool, true, ◌&&◌, List, ap, ◌∙◌}
-use Rattle.record.specs.{copy}
-use Rattle.record.specs.declared.access.Field.TheVariants.{Choosing, Ticket}
+use Rattle.model.specs.{copy}
+use Rattle.model.specs.declared.access.Field.TheVariants.{Choosing, Ticket}
 use Rattle.bakery.specs.Locks.{LockRows}
 use Rattle.register_tests.specs.Doors.{after_bit_read, after_choosing_read, after_low_read, bit_reads}
 use Rattle.register_tests.proofs.Turning.{both}

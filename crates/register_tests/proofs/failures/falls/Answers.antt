@@ -1,7 +1,7 @@
 use Rattle.std.proofs.Common.{◌≡◌, ℕ, true, [], List, Option, IfSome, length, sym, ap, ◌∙◌, subst, arith}
 use Rattle.plain_store.specs.{Setup, checked}
 use Rattle.plain_store.specs.declared.Command.TheVariants.{Ask}
-use Rattle.record.specs.{IsTornOf, TornBit}
+use Rattle.model.specs.{IsTornOf, TornBit}
 use Rattle.bakery.specs.process.{ProcessState, called, process_after}
 use Rattle.bakery.specs.Doors.{MayDrop, is_going}
 use Rattle.bakery.specs.Locks.{LockRows, new_locks}

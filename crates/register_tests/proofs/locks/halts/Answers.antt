@@ -1,7 +1,7 @@
 use Rattle.std.proofs.Common.{Bool, true, List, [], sym, ap, subst, refl, ◌∙◌, arith}
 use Rattle.plain_store.specs.declared.Command.TheVariants.{Ask}
 use Rattle.plain_store.specs.{Setup}
-use Rattle.record.specs.{value_of}
+use Rattle.model.specs.{value_of}
 use Rattle.bakery.specs.Doors.{IsInTurn, MayDrop}
 use Rattle.bakery.specs.Locks.{LockRows, new_locks}
 use Rattle.bakery.specs.process.{ProcessState, called, process_after, stepped}

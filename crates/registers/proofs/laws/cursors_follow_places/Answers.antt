@@ -1,4 +1,4 @@
-use Rattle.record.proofs.Width.{is_good}
+use Rattle.model.proofs.Width.{is_good}
 use Rattle.registers.proofs.CursorRuns.{moves}
 use Rattle.registers.proofs.LastAccess.{last-made}
 use Rattle.registers.proofs.PlaceMoves.{entered-at, entered-place, marks-move, place-moves}

@@ -4,7 +4,7 @@ use Rattle.std.proofs.lemmas.Option.{slice_get-get_or, slice_get_past}
 use Rattle.std.specs.Fmt.{decimal}
 use Rattle.std.specs.Prelude.{codes}
 use Rattle.plain_store.specs.{reply_text}
-use Rattle.record.specs.{Taken}
+use Rattle.model.specs.{Taken}
 use Rattle.run_state.specs.{taken_words}
 use Rattle.run_state.proofs.called.taken_words.Goals as goal
 

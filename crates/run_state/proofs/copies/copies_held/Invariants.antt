@@ -1,6 +1,6 @@
 use Rattle.std.proofs.Common.{◌≡◌, length, map}
 use Rattle.std.specs.List.{range_with_len}
-use Rattle.record.specs.{Past}
+use Rattle.model.specs.{Past}
 use Rattle.calls.specs.world.{cells_held}
 use Rattle.calls.specs.world.process.registers.{copy_bytes}
 use Rattle.run_state.specs.{CoreShows}

@@ -1,8 +1,8 @@
 use Rattle.std.proofs.Common.{ℕ, List, sym, ap, ◌∙◌, arith}
 use Rattle.std.proofs.lemmas.Result.{IfOk-weaker}
-use Rattle.record.specs.{width}
-use Rattle.record.specs.safe_number.{bits_in}
-use Rattle.record.proofs.safe_number.Numbers.{get-bits, length_bits}
+use Rattle.model.specs.{width}
+use Rattle.model.specs.safe_number.{bits_in}
+use Rattle.model.proofs.safe_number.Numbers.{get-bits, length_bits}
 use Rattle.run_state.specs.{bits_read, bits_text}
 use Rattle.run_state.proofs.copies.copy_text.Goals as goal
 

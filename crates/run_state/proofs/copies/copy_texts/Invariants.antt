@@ -1,5 +1,5 @@
 use Rattle.std.proofs.Common.{◌≡◌, map, take}
-use Rattle.record.specs.{width}
+use Rattle.model.specs.{width}
 use Rattle.run_state.specs.{bits_read, bits_text, texts_in}
 use Rattle.run_state.proofs.copies.copy_texts.Given as goal
 

@@ -1,10 +1,10 @@
 use Rattle.std.proofs.Common.{◌≡◌, ◌*◌, ℕ, length, ap, subst, ◌∙◌, arith}
 use Rattle.std.proofs.lemmas.List.{length-replicate}
 use Rattle.plain_store.specs.{callers_of, opening_store}
-use Rattle.record.specs.{image_bytes}
-use Rattle.record.specs.safe_number.{bits_in}
-use Rattle.record.specs.store_image.{IsStore, image_of}
-use Rattle.record.proofs.store_image.ImageBytes.{length-image_of}
+use Rattle.model.specs.{image_bytes}
+use Rattle.model.specs.safe_number.{bits_in}
+use Rattle.model.specs.store_image.{IsStore, image_of}
+use Rattle.model.proofs.store_image.ImageBytes.{length-image_of}
 use Rattle.calls.specs.world.process.registers.{register_bytes}
 use Rattle.run_state.proofs.copies.opening_image.Goals as goal
 

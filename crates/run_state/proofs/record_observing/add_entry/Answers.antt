@@ -1,6 +1,6 @@
 use Rattle.std.proofs.Common.{◌≡◌, ◌∷◌, refl, subst, sym, ◌∙◌}
-use Rattle.record.specs.{Entry}
-use Rattle.judge.specs.read_law.{entry_by}
+use Rattle.model.specs.{Entry}
+use Rattle.judge.specs.safe_monitor.{entry_by}
 use Rattle.run_state.specs.{HasHeard, IsNext}
 use Rattle.run_state.proofs.Observed.{empty_is, marked_if_still, some_is, tells_read}
 use Rattle.run_state.proofs.record_observing.add_entry.Goals as goal

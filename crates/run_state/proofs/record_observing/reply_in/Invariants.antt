@@ -1,5 +1,5 @@
 use Rattle.std.proofs.Common.{◌≡◌, drop}
-use Rattle.record.specs.{reply_taken}
+use Rattle.model.specs.{reply_taken}
 use Rattle.run_state.proofs.record_observing.reply_in.Given as goal
 
 -- no mark so far takes a command

@@ -1,7 +1,7 @@
 use Rattle.std.proofs.Common.{◌++◌, ◌∙◌, List, ap, flat_map}
 use Rattle.std.proofs.lemmas.List.{take_all}
-use Rattle.record.specs.{Field, fields}
-use Rattle.record.specs.declared.access.Field.TheVariants.{Image1}
+use Rattle.model.specs.{Field, fields}
+use Rattle.model.specs.declared.access.Field.TheVariants.{Image1}
 use Rattle.run_state.specs.{lines_of_register}
 use Rattle.run_state.proofs.Ranges.{list_more}
 use Rattle.run_state.proofs.register_lines.push_owned.Goals as goal

@@ -1,5 +1,5 @@
 use Rattle.std.proofs.Common.{◌≡◌, ◌++◌, flat_map, take}
-use Rattle.record.specs.{Past, fields}
+use Rattle.model.specs.{Past, fields}
 use Rattle.run_state.specs.{CoreShows, lines_of_register}
 use Rattle.run_state.proofs.register_lines.push_owned.Given as goal
 

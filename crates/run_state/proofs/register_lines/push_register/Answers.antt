@@ -1,6 +1,6 @@
 use Rattle.std.proofs.Common.{◌≡◌, ◌++◌, ◌∙◌, true, false, [], ap, sym, cond, append-nil, map}
 use Rattle.std.specs.List.{list_any}
-use Rattle.record.specs.{processes, width}
+use Rattle.model.specs.{processes, width}
 use Rattle.run_state.specs.{are_other, bits_read, bits_text, copies_lines, copy_text, is_copy_changed, register_words, texts_in}
 use Rattle.run_state.proofs.CopyBits.{changed-held, texts-held}
 use Rattle.run_state.proofs.Stand.{ok_then}

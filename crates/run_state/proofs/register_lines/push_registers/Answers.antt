@@ -1,6 +1,6 @@
 use Rattle.std.proofs.Common.{◌≡◌, ◌++◌, ◌∙◌, ap, flat_map, arith}
 use Rattle.std.specs.List.{range_with_len}
-use Rattle.record.specs.{fields}
+use Rattle.model.specs.{fields}
 use Rattle.run_state.specs.{lines_of_register}
 use Rattle.run_state.proofs.Ranges.{text_more}
 use Rattle.run_state.proofs.register_lines.push_registers.Goals as goal

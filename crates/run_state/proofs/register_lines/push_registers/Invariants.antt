@@ -1,6 +1,6 @@
 use Rattle.std.proofs.Common.{◌≡◌, ◌++◌, flat_map}
 use Rattle.std.specs.List.{range_with_len}
-use Rattle.record.specs.{Past, fields}
+use Rattle.model.specs.{Past, fields}
 use Rattle.run_state.specs.{CoreShows, lines_of_register}
 use Rattle.run_state.proofs.register_lines.push_registers.Given as goal
 

@@ -1,9 +1,9 @@
 use Rattle.std.proofs.Common.{◌≡◌, ◌*◌, ℕ, List, false, cond, refl, take, ap, sym, ◌∙◌, arith, inl, inr}
 use Rattle.std.proofs.lemmas.Result.{IfOk-weaker}
 use Rattle.std.specs.Fmt.{decimal}
-use Rattle.record.specs.declared.access.Field.TheVariants.{Choosing, Ticket, Commit, Stamp0, Stamp1, Image0, Image1}
-use Rattle.record.specs.{Field, bytes_of_bits, image_bytes, width}
-use Rattle.record.specs.safe_number.{bits_in, number_of_bits}
+use Rattle.model.specs.declared.access.Field.TheVariants.{Choosing, Ticket, Commit, Stamp0, Stamp1, Image0, Image1}
+use Rattle.model.specs.{Field, bytes_of_bits, image_bytes, width}
+use Rattle.model.specs.safe_number.{bits_in, number_of_bits}
 use Rattle.run_state.specs.{image_text, is_image, shown}
 use Rattle.run_state.proofs.RegisterBytes.{bits-begun, bytes-back}
 use Rattle.run_state.proofs.register_text.shown.Goals as goal

@@ -1,7 +1,7 @@
 use Rattle.std.proofs.Common.{arith}
 use Rattle.calls.specs.scenario.{Script, script}
-use Rattle.calls.specs.course.{PlaysPart, run_at_start}
-use Rattle.calls.specs.course.declared.until.Until.TheVariants as until
+use Rattle.calls.specs.scenario_run.{PlaysPart, run_at_start}
+use Rattle.calls.specs.scenario_run.declared.until.Until.TheVariants as until
 use Rattle.run_state.specs.{Hears}
 use Rattle.run_state.proofs.Makers.{lines_within}
 use Rattle.run_state.proofs.Played.{core_setup, played, text_is}

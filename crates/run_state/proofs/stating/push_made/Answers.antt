@@ -3,7 +3,7 @@ use Rattle.std.proofs.lemmas.Grind.{get_or_default_zero}
 use Rattle.std.specs.Prelude.{if◌then◌else◌, Err, Ok, OnOk, Result}
 use Rattle.std.specs.Result.{is_ok}
 use Rattle.calls.specs.scenario.{Line}
-use Rattle.calls.specs.course.{IsLineMade, MadeNewest, events_in, run_at_start}
+use Rattle.calls.specs.scenario_run.{IsLineMade, MadeNewest, events_in, run_at_start}
 use Rattle.run_state.specs.{made_line, making_line}
 use Rattle.run_state.proofs.Makers.{line_there, line_within, newest_written, none_made}
 use Rattle.run_state.proofs.Stand.{ok_then}

@@ -2,7 +2,7 @@ use Rattle.std.proofs.Common.{ap, sym, ◌∙◌}
 use Rattle.std.proofs.lemmas.List.{take_all}
 use Rattle.std.proofs.lemmas.List.Sums.{fold_more}
 use Rattle.plain_store.specs.{Contents, after, opening_store}
-use Rattle.record.specs.{Taken, store_after}
+use Rattle.model.specs.{Taken, store_after}
 use Rattle.run_state.proofs.stores.store_after.Goals as goal
 
 pub loop-taken-preserved : goal.loop-taken-preserved

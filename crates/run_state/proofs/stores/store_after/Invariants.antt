@@ -1,5 +1,5 @@
 use Rattle.std.proofs.Common.{◌≡◌, take}
-use Rattle.record.specs.{store_after}
+use Rattle.model.specs.{store_after}
 use Rattle.run_state.proofs.stores.store_after.Given as goal
 
 -- the store after the commands so far

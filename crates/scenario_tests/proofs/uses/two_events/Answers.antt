@@ -1,4 +1,4 @@
-use Rattle.record.specs.{process_of}
+use Rattle.model.specs.{process_of}
 use Rattle.scenario_tests.proofs.Using.{two_alone}
 use Rattle.scenario_tests.proofs.uses.two_events.Goals as goal
 

@@ -1,7 +1,7 @@
 use Rattle.std.proofs.Common.{Some, true≢false, ap, sym, subst, ◌∙◌}
-use Rattle.record.specs.{Entry}
+use Rattle.model.specs.{Entry}
 use Rattle.world.specs.process.{StepTold}
-use Rattle.auditor.specs.read_law.{entry_by}
+use Rattle.auditor.specs.safe_monitor.{entry_by}
 use Rattle.auditor.specs.{Hears, step_told}
 use Rattle.sweeper.proofs.runner.hear_step.Goals as goal
 use Rattle.sweeper.proofs.runner.hear_step.Goals.{in-Nothing, in_default}

@@ -1,6 +1,6 @@
 use Rattle.std.proofs.Common.{◌≡◌, ℕ, ◌+◌, ◌-◌, ◌^◌, ◌≤◌, List, ◌∷◌, reverse, take, sym, subst, arith}
 use Rattle.std.proofs.lemmas.List.{take_all}
-use Rattle.record.specs.{Event}
+use Rattle.model.specs.{Event}
 use Rattle.sweeper.specs.{SweptBy, can_sweep_less}
 use Rattle.sweeper.proofs.Counting.{events_more}
 use Rattle.sweeper.proofs.sweeping.sweep.Goals as goal

@@ -1,5 +1,5 @@
 use Rattle.std.proofs.Common.{◌≤◌, ℕ, Bool}
-use Rattle.record.specs.reader_copies.{IsRow, IsWritten}
+use Rattle.model.specs.reader_copies.{IsRow, IsWritten}
 use Rattle.register_drive.specs.{IsIdle}
 use Rattle.workloads.proofs.accesses.timed.Given as goal
 

@@ -1,6 +1,6 @@
 use Rattle.std.proofs.Common.{◌<◌, ◌≤◌, ℕ, length, slice_index_or}
 use Rattle.std.specs.Global.{Vec}
-use Rattle.record.specs.{Placed}
+use Rattle.model.specs.{Placed}
 use Rattle.workloads.proofs.weighing.are_short.Given as goal
 
 abbrev pub invariant-loop-list : goal.invariant-loop-list

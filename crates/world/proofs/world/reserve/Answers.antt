@@ -1,5 +1,5 @@
 use Rattle.std.proofs.Common.{None, ap, subst, refl, inl, inr}
-use Rattle.record.specs.{is_call}
+use Rattle.model.specs.{is_call}
 use Rattle.world.specs.{CoreRefuses}
 use Rattle.world.proofs.world.reserve.Goals as goal
 use Rattle.world.proofs.world.reserve.Goals.{in-Call, in_default}

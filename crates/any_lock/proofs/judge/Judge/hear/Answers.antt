@@ -1,7 +1,7 @@
 use Rattle.std.proofs.Common.{◌≡◌, ◌+◌, [], ◌∷◌, ◌++◌, sym, ap, subst, ◌∙◌}
-use Rattle.record.specs.{Entry}
-use Rattle.read_law.specs.declared.verdicts.Verdict.TheVariants.{Good}
-use Rattle.read_law.proofs.GoodVerdicts.{bad_is, good_is}
+use Rattle.model.specs.{Entry}
+use Rattle.safe_monitor.specs.declared.verdicts.Verdict.TheVariants.{Good}
+use Rattle.safe_monitor.proofs.GoodVerdicts.{bad_is, good_is}
 use Rattle.any_lock.specs.{HasJudged, JudgeState}
 use Rattle.any_lock.proofs.Told.{hears_bad, hears_on, with_entries}
 use Rattle.any_lock.proofs.judge.Judge.hear.Goals as goal

@@ -1,8 +1,8 @@
 use Rattle.std.proofs.Common.{◌≡◌, ◌∷◌, Option, refl, sym, ap, subst, ◌∙◌}
 use Rattle.plain_store.specs.{Setup}
-use Rattle.record.specs.{Entry, Past}
+use Rattle.model.specs.{Entry, Past}
 use Rattle.any_lock.specs.{AnyLockLaw, AreReasonsIf, BothHeard, JudgeState, first_broken, verdict_with}
-use Rattle.read_law.specs.declared.verdicts.Verdict.TheVariants.{Good}
+use Rattle.safe_monitor.specs.declared.verdicts.Verdict.TheVariants.{Good}
 use Rattle.any_lock.proofs.Breaks.{told_by}
 use Rattle.any_lock.proofs.Told.{AreTold, found_good, reasons_given, told_law, told_on}
 use Rattle.any_lock.proofs.judge.Judge.verdict_with.Goals as goal

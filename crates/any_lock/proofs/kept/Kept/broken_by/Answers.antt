@@ -1,6 +1,6 @@
 use Rattle.std.proofs.Common.{true, false, not, length, sym, ap, ◌∙◌}
 use Rattle.std.specs.List.{list_all}
-use Rattle.record.specs.{history, takings}
+use Rattle.model.specs.{history, takings}
 use Rattle.any_lock.specs.{is_that, right_reply}
 use Rattle.any_lock.proofs.Breaks.{inside_is}
 use Rattle.any_lock.proofs.kept.Kept.broken_by.Goals as goal

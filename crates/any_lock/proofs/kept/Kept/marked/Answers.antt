@@ -1,5 +1,5 @@
 use Rattle.std.proofs.Common.{◌≡◌, ◌∷◌, sym, ap, ◌∙◌}
-use Rattle.record.specs.{Entry}
+use Rattle.model.specs.{Entry}
 use Rattle.any_lock.specs.{KeptState, accessed_by, marked_all, refusal_of_marks, refusal_on, standing}
 use Rattle.any_lock.proofs.Markings.{with_marks}
 use Rattle.any_lock.proofs.Whole.{accepted, crowded_refused, nothing_refused, refused}

@@ -1,6 +1,6 @@
 use Rattle.std.proofs.Common.{length, sym, ap, ◌∙◌}
 use Rattle.std.specs.List.{list_all}
-use Rattle.record.specs.{history, takings}
+use Rattle.model.specs.{history, takings}
 use Rattle.any_lock.specs.{is_that, right_reply}
 use Rattle.any_lock.proofs.Going.{none_taken, taken_rightly}
 use Rattle.any_lock.proofs.kept.Kept.takes_rightly.Goals as goal

@@ -1,6 +1,6 @@
 use Rattle.std.proofs.Common.{◌≡◌, ◌==◌, List, [], ◌∷◌, length, true, sym, subst, ◌∙◌, arith, eqb-true}
-use Rattle.record.specs.{Entry, Mark}
-use Rattle.read_law.specs.{entry_by}
+use Rattle.model.specs.{Entry, Mark}
+use Rattle.safe_monitor.specs.{entry_by}
 use Rattle.auditor.specs.{IsHeard}
 use Rattle.auditor.proofs.auditor.Auditor.hear.Goals as goal
 

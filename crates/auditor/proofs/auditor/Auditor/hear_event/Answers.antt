@@ -1,5 +1,5 @@
 use Rattle.std.proofs.Common.{None, Some, sym, subst}
-use Rattle.read_law.specs.declared.verdicts.Law.TheVariants as law
+use Rattle.safe_monitor.specs.declared.verdicts.Law.TheVariants as law
 use Rattle.auditor.specs.{AuditorState, HasHeard, IsHeard}
 use Rattle.auditor.proofs.Hearing.{heard_event, heard_refused_event}
 use Rattle.auditor.proofs.auditor.Auditor.hear_event.Goals as goal

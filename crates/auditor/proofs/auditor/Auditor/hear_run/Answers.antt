@@ -1,7 +1,7 @@
 use Rattle.std.proofs.Common.{◌-◌, [], Some, subst}
 use Rattle.plain_store.specs.{Setup}
-use Rattle.record.specs.{Past, past_of}
-use Rattle.read_law.specs.{entry_by}
+use Rattle.model.specs.{Past, past_of}
+use Rattle.safe_monitor.specs.{entry_by}
 use Rattle.auditor.specs.{IsHeard, steps_on}
 use Rattle.auditor.proofs.auditor.Auditor.hear_run.Goals as goal
 

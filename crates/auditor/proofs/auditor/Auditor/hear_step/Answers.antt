@@ -1,11 +1,11 @@
 use Rattle.std.proofs.Common.{length, true≢false, sym, subst, ◌∙◌}
 use Rattle.std.specs.Prelude.{Some, None}
-use Rattle.record.specs.declared.events.Event.TheVariants.{Step}
-use Rattle.record.specs.{Access, Entry, Past, history}
+use Rattle.model.specs.declared.events.Event.TheVariants.{Step}
+use Rattle.model.specs.{Access, Entry, Past, history}
 use Rattle.world.specs.process.declared.told.Effect.TheVariants.{Steps}
 use Rattle.world.specs.process.{StepTold, act_of}
 use Rattle.world.specs.{Adds, CoreRefuses, CoreSteps, with_history}
-use Rattle.read_law.specs.declared.verdicts.Law.TheVariants as law
+use Rattle.safe_monitor.specs.declared.verdicts.Law.TheVariants as law
 use Rattle.auditor.specs.{AuditorState, BreaksNext, HasHeard, IsAlike, IsHeard, flick_in, stepped_as}
 use Rattle.auditor.proofs.Hearing.{StepMade, alike_again, heard_misplaced, heard_refused, heard_step, heard_wrong}
 use Rattle.auditor.proofs.auditor.Auditor.hear_step.Goals as goal

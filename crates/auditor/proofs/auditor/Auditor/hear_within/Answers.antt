@@ -2,7 +2,7 @@ use Rattle.std.proofs.Common.{◌≡◌, ◌<◌, [], Bool, Some, None, sym, sub
 use Rattle.std.specs.Prelude.{nat_lt}
 use Rattle.world.specs.{CoreAddsQuietly, left_in, with_history}
 use Rattle.world.proofs.WorldWithin.{walks-one}
-use Rattle.read_law.specs.declared.verdicts.Law.TheVariants as law
+use Rattle.safe_monitor.specs.declared.verdicts.Law.TheVariants as law
 use Rattle.auditor.specs.{AuditorState, BreaksNext, HasHeard, IsHeard, flick_in}
 use Rattle.auditor.proofs.Within.{IsNextWithin, MadeWithin, access_entry, heard_within, other_heard}
 use Rattle.auditor.proofs.auditor.Auditor.hear_within.Goals as goal

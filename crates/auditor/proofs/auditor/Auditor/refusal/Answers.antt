@@ -1,6 +1,6 @@
 use Rattle.std.proofs.Common.{◌≡◌, List, sym, ap}
 use Rattle.plain_store.specs.{Setup}
-use Rattle.record.specs.{Past, Taken, refused}
+use Rattle.model.specs.{Past, Taken, refused}
 use Rattle.auditor.specs.{AuditorState}
 use Rattle.auditor.proofs.HeardPast.{of_heard}
 use Rattle.auditor.proofs.auditor.Auditor.refusal.Goals as goal

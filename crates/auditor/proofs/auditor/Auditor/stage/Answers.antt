@@ -1,6 +1,6 @@
 use Rattle.std.proofs.Common.{◌≡◌, List, ap}
 use Rattle.plain_store.specs.{Setup}
-use Rattle.record.specs.{Past, Taken}
+use Rattle.model.specs.{Past, Taken}
 use Rattle.world.specs.{stage_in}
 use Rattle.auditor.specs.{AuditorState}
 use Rattle.auditor.proofs.HeardPast.{of_heard}

@@ -1,7 +1,7 @@
 use Rattle.std.proofs.Common.{◌≡◌, List, length, None, Some, sym, ap, ◌∙◌}
 use Rattle.plain_store.specs.{Setup}
-use Rattle.record.specs.declared.events.Event.TheVariants.{Step}
-use Rattle.record.specs.{Past, Taken, entry_of, history}
+use Rattle.model.specs.declared.events.Event.TheVariants.{Step}
+use Rattle.model.specs.{Past, Taken, entry_of, history}
 use Rattle.auditor.specs.{AuditorState}
 use Rattle.auditor.proofs.HeardPast.{of_heard, taken_is}
 use Rattle.auditor.proofs.auditor.Auditor.stepped.Goals as goal

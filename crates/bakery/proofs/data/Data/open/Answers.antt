@@ -3,7 +3,7 @@ use Rattle.std.proofs.lemmas.List.{length-replicate}
 use Rattle.reader_copies.specs.safe_bit.Cell.{Cell}
 use Rattle.reader_copies.specs.{cell_at, IsClosed}
 use Rattle.safe_number.specs.{preset_number}
-use Rattle.record.specs.declared.access.Field.TheVariants.{Image0}
+use Rattle.model.specs.declared.access.Field.TheVariants.{Image0}
 use Rattle.plain_store.specs.{Contents, callers_of, opening_store}
 use Rattle.store_image.specs.{image_of}
 use Rattle.store_image.proofs.ImageBytes.{length-image_of}

@@ -2,8 +2,8 @@ use Rattle.std.proofs.Common.{◌≡◌, ℕ, ◌*◌, ◌<◌, refl, List, leng
 use Rattle.std.specs.List.{range_with_len}
 use Rattle.store_image.specs.{store_in}
 use Rattle.plain_store.specs.{Contents, callers_of}
-use Rattle.record.specs.{Version, bytes_of_bits, image_bytes, image_field}
-use Rattle.record.specs.declared.access.Field.TheVariants.{Commit, Stamp0, Stamp1, Image0, Image1}
+use Rattle.model.specs.{Version, bytes_of_bits, image_bytes, image_field}
+use Rattle.model.specs.declared.access.Field.TheVariants.{Commit, Stamp0, Stamp1, Image0, Image1}
 use Rattle.bakery.specs.{IsReadable, values_of, version_in, version_held}
 use Rattle.bakery.specs.Registers.{Data, DataRow, data_of, register_of}
 use Rattle.process.specs.{IsNewestWith, newest_version}

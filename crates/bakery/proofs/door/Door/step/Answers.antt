@@ -1,5 +1,5 @@
 use Rattle.std.proofs.Common.{Bool, sym, ap, ◌∙◌}
-use Rattle.record.specs.{stage_at, value_of}
+use Rattle.model.specs.{stage_at, value_of}
 use Rattle.process.specs.{stepped}
 use Rattle.bakery.specs.Doors.{marks_told}
 use Rattle.bakery.proofs.DoorSteps.{any-after, any-marks, tells}

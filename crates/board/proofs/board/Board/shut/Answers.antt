@@ -2,7 +2,7 @@ use Rattle.std.proofs.Common.{◌≡◌, ◌+◌, ◌++◌, List, [], ◌∷◌,
 use Rattle.std.specs.Global.{Vec}
 use Rattle.plain_store.specs.{Setup}
 use Rattle.board.specs.{Agree, BoardState, EachStandsInRecord, IsStill, Leaves, OwnView}
-use Rattle.record.specs.{Placed, lists_of}
+use Rattle.model.specs.{Placed, lists_of}
 use Rattle.board.proofs.Closings.{closes}
 use Rattle.board.proofs.board.Board.shut.Goals as goal
 

@@ -1,7 +1,7 @@
 use Rattle.std.proofs.Common.{List, subst, sym, ap, ◌∙◌}
 use Rattle.board.specs.Calls.{Calls}
 use Rattle.board.specs.{AreFirstChanges, PortState, StandsIn, ViewState, with_pending}
-use Rattle.record.specs.{Placed}
+use Rattle.model.specs.{Placed}
 use Rattle.board.proofs.Stands.{finished_stand}
 use Rattle.board.proofs.port.Port.answers.Goals as goal
 

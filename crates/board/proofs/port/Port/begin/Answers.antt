@@ -1,8 +1,8 @@
 use Rattle.std.proofs.Common.{◌≡◌, true, false, [], ◌∷◌, Some, Result, Ok, Err, OnErr, OnOk, inl, inr, refl, ap, subst, sym, ◌∙◌}
 use Rattle.std.specs.Result.{is_err}
 use Rattle.plain_store.specs.{Setup}
-use Rattle.record.specs.declared.Event.TheVariants.{Call}
-use Rattle.record.specs.declared.Mark.TheVariants.{Called}
+use Rattle.model.specs.declared.Event.TheVariants.{Call}
+use Rattle.model.specs.declared.Mark.TheVariants.{Called}
 use Rattle.process.specs.{ProcessState}
 use Rattle.board.specs.Calls.{Calls, calls_after}
 use Rattle.board.specs.{KnowsPlace, PortState, StandsInSeen, ViewState, answer_to, at_events, with_pending}

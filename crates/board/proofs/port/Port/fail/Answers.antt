@@ -1,6 +1,6 @@
 use Rattle.std.proofs.Common.{◌≡◌, true, [], ◌∷◌, refl, ap, subst, sym, ◌∙◌}
 use Rattle.plain_store.specs.{Setup}
-use Rattle.record.specs.declared.Event.TheVariants.{Fail}
+use Rattle.model.specs.declared.Event.TheVariants.{Fail}
 use Rattle.process.specs.{ProcessState, changes_pending}
 use Rattle.board.specs.{KnowsPlace, StandsInSeen, ViewState, at_events, with_pending}
 use Rattle.board.proofs.Listings.{place_failed}

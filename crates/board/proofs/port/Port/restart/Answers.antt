@@ -1,5 +1,5 @@
 use Rattle.std.proofs.Common.{refl}
-use Rattle.record.specs.declared.Event.TheVariants.{Restart}
+use Rattle.model.specs.declared.Event.TheVariants.{Restart}
 use Rattle.board.proofs.Pendings.{refused}
 use Rattle.board.proofs.port.Port.restart.Goals as goal
 

@@ -1,7 +1,7 @@
 use Rattle.std.proofs.Common.{◌≡◌, ℕ, List, true, false, length, Some, refl, sym, ap, subst, ◌∙◌, arith}
 use Rattle.plain_store.specs.{Contents, Setup}
 use Rattle.call_check.specs.{AreBlank, Call, IsFollowed, all_calls}
-use Rattle.record.specs.{lists_of}
+use Rattle.model.specs.{lists_of}
 use Rattle.call_check.proofs.Followed.{callers_of_store}
 use Rattle.call_check.proofs.Stores.{ended_after_all, ended_at_nothing, ended_at_several, next_store, none_noted, noted_below}
 use Rattle.call_check.proofs.notes.Followed.follow.Goals as goal

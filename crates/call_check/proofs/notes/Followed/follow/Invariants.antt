@@ -1,6 +1,6 @@
 use Rattle.std.proofs.Common.{◌≡◌, Some, length}
 use Rattle.call_check.specs.{AreFew, AreNotedBelow, all_calls, store_at}
-use Rattle.record.specs.{lists_of}
+use Rattle.model.specs.{lists_of}
 use Rattle.call_check.proofs.notes.Followed.follow.Given as goal
 
 -- so far there is one change at each place, and its calls are noted

@@ -1,5 +1,5 @@
 use Rattle.std.proofs.Common.{refl, sym, ap, ◌∙◌, true≢false}
-use Rattle.record.specs.{Placed}
+use Rattle.model.specs.{Placed}
 use Rattle.call_check.specs.{above, several, falling, wrong_reply, without_place, with_place, falls, is_above, is_other_with_place, is_reply_without_place}
 use Rattle.call_check.proofs.Judged.{bad_at_last}
 use Rattle.call_check.proofs.notes.Followed.is_bad.Goals as goal

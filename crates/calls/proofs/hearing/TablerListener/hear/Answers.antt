@@ -1,5 +1,5 @@
 use Rattle.std.proofs.Common.{refl}
-use Rattle.course.proofs.Endings.{ok_whole}
+use Rattle.scenario_run.proofs.Endings.{ok_whole}
 use Rattle.calls.proofs.Tabling.{err_all, told_cut, told_tabled, told_written}
 use Rattle.calls.proofs.hearing.TablerListener.hear.Goals as goal
 

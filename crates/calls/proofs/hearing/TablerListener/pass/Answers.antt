@@ -1,5 +1,5 @@
 use Rattle.std.proofs.Common.{refl}
-use Rattle.course.proofs.Endings.{took_same}
+use Rattle.scenario_run.proofs.Endings.{took_same}
 use Rattle.calls.specs.{HasTabled, lines_after}
 use Rattle.calls.proofs.TabledSteps.{pass_lines, pass_tabled}
 use Rattle.calls.proofs.hearing.TablerListener.pass.Goals as goal

@@ -1,7 +1,7 @@
 use Rattle.std.proofs.Common.{◌∷◌, refl}
-use Rattle.record.specs.declared.events.Event.TheVariants.{Step}
-use Rattle.course.specs.{Tries}
-use Rattle.course.proofs.Endings.{took_same}
+use Rattle.model.specs.declared.events.Event.TheVariants.{Step}
+use Rattle.scenario_run.specs.{Tries}
+use Rattle.scenario_run.proofs.Endings.{took_same}
 use Rattle.calls.specs.{HasTabled, lines_after}
 use Rattle.calls.proofs.TabledSteps.{step_lines, step_tabled}
 use Rattle.calls.proofs.hearing.TablerListener.step.Goals as goal

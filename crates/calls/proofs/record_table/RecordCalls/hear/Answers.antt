@@ -1,6 +1,6 @@
 use Rattle.std.proofs.Common.{◌+◌, ◌++◌, ◌∷◌, [], reverse, ap, sym, subst, ◌∙◌}
 use Rattle.std.proofs.lemmas.List.{length-append}
-use Rattle.record.specs.{Past}
+use Rattle.model.specs.{Past}
 use Rattle.calls.specs.Lines.{header}
 use Rattle.calls.specs.{HasListed, entry_with, recorded_lines}
 use Rattle.judge.proofs.LinesAt.{ok_then}

@@ -1,6 +1,6 @@
 use Rattle.std.proofs.Common.{◌≡◌, ◌-◌, ◌++◌, flat_map, length}
 use Rattle.std.specs.List.{range_with_len}
-use Rattle.record.specs.{Past}
+use Rattle.model.specs.{Past}
 use Rattle.calls.specs.{HasListed, line_of, open_recorded}
 use Rattle.calls.proofs.record_table.RecordCalls.print_open.Given as goal
 

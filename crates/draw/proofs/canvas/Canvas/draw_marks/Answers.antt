@@ -1,6 +1,6 @@
 use Rattle.std.proofs.Common.{◌≡◌, ◌+◌, List, [], ◌∷◌, ◌++◌, ◌∙◌, ap, take, arith, refl, subst, sym}
 use Rattle.std.proofs.lemmas.List.{take_all, take_more}
-use Rattle.record.specs.{Mark}
+use Rattle.model.specs.{Mark}
 use Rattle.draw.specs.{DrawsMarks}
 use Rattle.draw.proofs.Drawn.{draws_marks_both, draws_no_marks}
 use Rattle.draw.proofs.Written.{failed_same}

@@ -1,7 +1,7 @@
 use Rattle.std.proofs.Common.{◌∙◌, false, List, [], ◌∷◌, get_or, map, take, arith, refl, subst, sym}
 use Rattle.std.proofs.lemmas.List.{take_all}
-use Rattle.record.specs.declared.access.Field.TheVariants.{Choosing}
-use Rattle.picture.specs.columns.{OverlappedRead}
+use Rattle.model.specs.declared.access.Field.TheVariants.{Choosing}
+use Rattle.picture.specs.picture_layout.{OverlappedRead}
 use Rattle.draw.specs.{DrawsOn, GivesRead, Overhears, kept}
 use Rattle.draw.proofs.Drawn.{draws_on_both, draws_on_none}
 use Rattle.draw.proofs.Giving.{map_next}

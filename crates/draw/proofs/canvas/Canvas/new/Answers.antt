@@ -1,5 +1,5 @@
 use Rattle.std.proofs.Common.{ℕ, List, [], ap, ◌∙◌}
-use Rattle.record.specs.plain_store.{Contents}
+use Rattle.model.specs.plain_store.{Contents}
 use Rattle.picture.specs.{windowed}
 use Rattle.picture.specs.declared.subjects.Subject.TheVariants.{Run}
 use Rattle.draw.specs.{words_by}

@@ -1,6 +1,6 @@
 use Rattle.std.proofs.Common.{List, ◌∷◌, Option, Some, subst, sym}
 use Rattle.picture.specs.declared.reads.Reads.{Reads as Mode}
-use Rattle.record.specs.{Entry}
+use Rattle.model.specs.{Entry}
 use Rattle.record_accesses.specs.{WatchState, entry_with}
 use Rattle.draw.specs.{DrawsOn, Gives, WatchesAccesses, given_access_of, kept}
 use Rattle.draw.proofs.AccessItems.{all_shown, none_later, none_shown}

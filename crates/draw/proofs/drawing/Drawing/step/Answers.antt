@@ -1,6 +1,6 @@
 use Rattle.std.proofs.Common.{◌+◌, inr, ℕ, [], ◌∷◌, Option, Some, ap, refl, subst, sym}
-use Rattle.judge.specs.read_law.{entry_by}
-use Rattle.record.specs.{Access}
+use Rattle.judge.specs.safe_monitor.{entry_by}
+use Rattle.model.specs.{Access}
 use Rattle.draw.specs.{IsStoreBefore, StoreBefore, entries_among, reads_since}
 use Rattle.draw.proofs.Drawings.{entry_drawn}
 use Rattle.draw.proofs.Drawn.{draws_no_marks}

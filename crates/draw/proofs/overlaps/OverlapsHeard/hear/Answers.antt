@@ -1,5 +1,5 @@
 use Rattle.std.proofs.Common.{◌≡◌, Option, Some, IfSome, subst, ◌∙◌}
-use Rattle.record.specs.{Access}
+use Rattle.model.specs.{Access}
 use Rattle.draw.specs.{TellsOver}
 use Rattle.draw.proofs.Overhearing.{hears_none, hears_on}
 use Rattle.draw.proofs.Written.{ok_then_all}

@@ -1,7 +1,7 @@
 use Rattle.std.proofs.Common.{◌≡◌, ◌++◌, [], ◌∷◌, List, Option, None, Some, IfSome, false, get_or, inl, inr, length, refl, sym, subst, ap, ◌∙◌}
 use Rattle.std.specs.Option.{option_to_list}
-use Rattle.picture.specs.columns.{OverlappedRead}
-use Rattle.judge.specs.read_law.{ends_overlapped}
+use Rattle.picture.specs.picture_layout.{OverlappedRead}
+use Rattle.judge.specs.safe_monitor.{ends_overlapped}
 use Rattle.draw.specs.{BegunRead, OverlapsHeard, first_three, is_begin, overlapped_with}
 use Rattle.std.proofs.lemmas.Result.{on_ok_weaker}
 use Rattle.draw.proofs.Overhearing.{IsQuiet, ends_no_read, still_begun, still_ended, told_ended}

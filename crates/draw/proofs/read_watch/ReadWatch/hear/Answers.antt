@@ -1,6 +1,6 @@
 use Rattle.std.proofs.Common.{◌∷◌, false, Option, Some, subst, sym, ◌∙◌}
-use Rattle.record.specs.{Access}
-use Rattle.judge.specs.read_law.{WatchState}
+use Rattle.model.specs.{Access}
+use Rattle.judge.specs.safe_monitor.{WatchState}
 use Rattle.draw.specs.{TellsEnd, Watches}
 use Rattle.draw.proofs.Overhearing.{watches_nothing, watches_on}
 use Rattle.draw.proofs.read_watch.ReadWatch.hear.Goals as goal

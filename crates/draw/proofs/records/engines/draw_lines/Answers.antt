@@ -2,10 +2,10 @@ use Rattle.std.proofs.Common.{◌≡◌, ℕ, ◌+◌, Bool, List, [], Option, S
 use Rattle.scenario.specs.files.{Fault, GoesToNext, coming, failed_reading}
 use Rattle.scenario.specs.files.declared.faults.Fault.TheVariants.{Line}
 use Rattle.scenario.specs.files.declared.faults.FaultKind.TheVariants.{NotFirst}
-use Rattle.record.specs.plain_store.{checked}
+use Rattle.model.specs.plain_store.{checked}
 use Rattle.picture.specs.{Form}
 use Rattle.picture.specs.declared.reads.PictureOptions.{PictureOptions}
-use Rattle.record.specs.{Past}
+use Rattle.model.specs.{Past}
 use Rattle.judge.specs.record_file.{Progress, line_read}
 use Rattle.draw.specs.{failed_write}
 use Rattle.draw.specs.{DrawnEntry, DrawsAllBands, EndsAsked, IsDrawFault, Stands}

@@ -1,6 +1,6 @@
 use Rattle.std.proofs.Common.{◌≡◌, ℕ, List, Option, Some, IfSome, subst, sym}
 use Rattle.scenario.specs.files.{Fault}
-use Rattle.record.specs.{Past}
+use Rattle.model.specs.{Past}
 use Rattle.judge.specs.record_file.{Progress}
 use Rattle.judge.specs.{Telling}
 use Rattle.draw.specs.{DrawnEntry, EndsAsked, IsDrawFault, Stands, TellsOfLines}

@@ -1,6 +1,6 @@
 use Rattle.std.proofs.Common.{◌≡◌, ◌+◌, ◌∷◌, List, reverse, take, arith, subst, sym}
 use Rattle.std.proofs.lemmas.List.{length-reverse, length-take-le, take_all}
-use Rattle.record.specs.{Entry, Past}
+use Rattle.model.specs.{Entry, Past}
 use Rattle.draw.specs.{IsDrawn}
 use Rattle.draw.proofs.Sheeted.{drawn_as_many, drawn_entry}
 use Rattle.draw.proofs.Stored.{one_more}

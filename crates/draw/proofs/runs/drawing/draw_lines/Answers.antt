@@ -1,12 +1,12 @@
 use Rattle.std.proofs.Common.{◌≡◌, ◌∙◌, ◌+◌, ◌-◌, ◌*◌, ◌^◌, ◌<◌, ◌≤◌, ℕ, List, [], ◌∷◌, None, ap, drop, length, arith, refl, subst}
 use Rattle.std.proofs.lemmas.List.{drop_all}
-use Rattle.record.specs.plain_store.{Setup}
+use Rattle.model.specs.plain_store.{Setup}
 use Rattle.draw.specs.{IsWriteFault, RunDrawing, AccessView, tally}
 use Rattle.scenario.specs.{Line}
 use Rattle.scenario.proofs.Places.{drop_in}
-use Rattle.course.specs.{CanCount, Summary}
-use Rattle.course.proofs.Onwards.{onward_numbers}
-use Rattle.course.proofs.Played.{on_fault}
+use Rattle.scenario_run.specs.{CanCount, Summary}
+use Rattle.scenario_run.proofs.Onwards.{onward_numbers}
+use Rattle.scenario_run.proofs.Played.{on_fault}
 use Rattle.draw.proofs.Written.{failed_same, if_ok_both, if_ok_then}
 use Rattle.picture.specs.{WindowPlan}
 use Rattle.draw.proofs.RunGiving.{number_of_first}

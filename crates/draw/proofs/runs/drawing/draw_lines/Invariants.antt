@@ -1,7 +1,7 @@
 use Rattle.std.proofs.Common.{◌≡◌, [], ◌+◌, ◌-◌, ◌*◌, ◌^◌, drop, length}
 use Rattle.picture.specs.{WindowPlan}
 use Rattle.draw.specs.{Recalls, AccessView, kept, kept_at_first, tally}
-use Rattle.course.specs.{CanCount}
+use Rattle.scenario_run.specs.{CanCount}
 use Rattle.draw.proofs.LinesDrawn.{Drawn}
 use Rattle.draw.proofs.runs.drawing.draw_lines.Given as goal
 

@@ -3,8 +3,8 @@ use Rattle.scenario.proofs.files.EngineEnds.{kept, ran_to_line}
 use Rattle.scenario.specs.files.declared.faults.Fault.TheVariants.{Line}
 use Rattle.scenario.proofs.CutTexts.{scenario_tells_at_limit}
 use Rattle.scenario.specs.{scenario_of, script}
-use Rattle.course.specs.{ended, replayed}
-use Rattle.course.proofs.ReplayEnds.{ended_err, replay_numbers}
+use Rattle.scenario_run.specs.{ended, replayed}
+use Rattle.scenario_run.proofs.ReplayEnds.{ended_err, replay_numbers}
 use Rattle.draw.proofs.RunEnds.{drew_all, drew_line}
 use Rattle.draw.proofs.runs.engines.draw_file.Goals as goal
 

@@ -1,5 +1,5 @@
 use Rattle.scenario.specs.{script}
-use Rattle.course.proofs.Written.{ok_then}
+use Rattle.scenario_run.proofs.Written.{ok_then}
 use Rattle.draw.proofs.Pictured.{draws_page}
 use Rattle.draw.proofs.runs.engines.draw_page.Goals as goal
 

@@ -1,7 +1,7 @@
 use Rattle.picture.specs.{picture_names}
 use Rattle.picture.specs.declared.page.Form.TheVariants as form
 use Rattle.scenario.specs.{script}
-use Rattle.course.proofs.Written.{ok_then}
+use Rattle.scenario_run.proofs.Written.{ok_then}
 use Rattle.draw.proofs.Pictured.{draws_framed, is_picture}
 use Rattle.draw.proofs.runs.engines.draw_picture.Goals as goal
 

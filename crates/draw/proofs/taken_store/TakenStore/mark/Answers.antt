@@ -1,7 +1,7 @@
 use Rattle.std.proofs.Common.{◌∷◌, Option, sym, subst, ap, ◌∙◌, option_map}
 use Rattle.std.specs.Global.{Vec}
-use Rattle.record.specs.{Mark}
-use Rattle.picture.specs.columns.{TakenChange, places_marked}
+use Rattle.model.specs.{Mark}
+use Rattle.picture.specs.picture_layout.{TakenChange, places_marked}
 use Rattle.draw.specs.{IsAfterMarks, LastCall, changed}
 use Rattle.draw.proofs.TakenStores.{after_called, after_taking, change_taking, is_taking}
 use Rattle.draw.proofs.Written.{if_ok_then, ok_then}

@@ -1,5 +1,5 @@
 use Rattle.std.proofs.Common.{◌∙◌, add-zero, refl}
-use Rattle.course.proofs.Played.{on_fault}
+use Rattle.scenario_run.proofs.Played.{on_fault}
 use Rattle.engines.proofs.Recordings.{step_copied, step_cut}
 use Rattle.engines.proofs.recording.CopierListener.step.Goals as goal
 

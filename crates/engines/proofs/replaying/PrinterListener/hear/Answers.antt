@@ -1,6 +1,6 @@
 use Rattle.std.proofs.Common.{refl}
-use Rattle.course.proofs.Counting.{counts_heard}
-use Rattle.course.proofs.Endings.{err_both, ok_both}
+use Rattle.scenario_run.proofs.Counting.{counts_heard}
+use Rattle.scenario_run.proofs.Endings.{err_both, ok_both}
 use Rattle.engines.proofs.Replayings.{told_cut, told_written}
 use Rattle.engines.proofs.replaying.PrinterListener.hear.Goals as goal
 

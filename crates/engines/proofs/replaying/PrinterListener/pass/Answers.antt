@@ -1,9 +1,9 @@
 use Rattle.std.proofs.Common.{refl, subst, sym}
-use Rattle.course.specs.{text_of}
-use Rattle.course.specs.Writing.{Counts}
-use Rattle.course.proofs.Counting.{counts_passed, text_passed, with_events}
-use Rattle.course.proofs.Endings.{took_same}
-use Rattle.course.proofs.Within.{within_quietly}
+use Rattle.scenario_run.specs.{text_of}
+use Rattle.scenario_run.specs.Writing.{Counts}
+use Rattle.scenario_run.proofs.Counting.{counts_passed, text_passed, with_events}
+use Rattle.scenario_run.proofs.Endings.{took_same}
+use Rattle.scenario_run.proofs.Within.{within_quietly}
 use Rattle.engines.proofs.replaying.PrinterListener.pass.Goals as goal
 
 pub returns-clause-ok : goal.returns-clause-ok

@@ -1,9 +1,9 @@
 use Rattle.std.proofs.Common.{◌∷◌, refl}
-use Rattle.course.specs.«record».declared.events.Event.TheVariants.{Step}
-use Rattle.course.specs.{Tries, text_of}
-use Rattle.course.specs.Writing.{Counts}
-use Rattle.course.proofs.Counting.{counts_stepped, step_passes, text_passed}
-use Rattle.course.proofs.Endings.{took_same}
+use Rattle.scenario_run.specs.model.declared.events.Event.TheVariants.{Step}
+use Rattle.scenario_run.specs.{Tries, text_of}
+use Rattle.scenario_run.specs.Writing.{Counts}
+use Rattle.scenario_run.proofs.Counting.{counts_stepped, step_passes, text_passed}
+use Rattle.scenario_run.proofs.Endings.{took_same}
 use Rattle.engines.proofs.replaying.PrinterListener.step.Goals as goal
 
 pub returns-clause-ok : goal.returns-clause-ok

@@ -1,6 +1,6 @@
 use Rattle.std.proofs.Common.{refl}
-use Rattle.course.specs.«record».declared.events.Event.TheVariants.{Step}
-use Rattle.course.specs.{Tries, told_unmarked}
+use Rattle.scenario_run.specs.model.declared.events.Event.TheVariants.{Step}
+use Rattle.scenario_run.specs.{Tries, told_unmarked}
 use Rattle.engines.proofs.Listed.{listed_more}
 use Rattle.engines.proofs.Sweepings.{swept_on}
 use Rattle.engines.proofs.sweeping.AlongListener.step.Goals as goal

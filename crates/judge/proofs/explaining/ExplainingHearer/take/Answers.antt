@@ -1,6 +1,6 @@
 use Rattle.std.proofs.Common.{◌<◌, ◌^◌, length, sym, ◌∙◌, arith}
-use Rattle.record.specs.{Entry}
-use Rattle.auditor.specs.read_law.{entry_by}
+use Rattle.model.specs.{Entry}
+use Rattle.auditor.specs.safe_monitor.{entry_by}
 use Rattle.judge.proofs.Explained.{gets_bad, still_bad, still_good}
 use Rattle.judge.proofs.explaining.ExplainingHearer.take.Goals as goal
 use Rattle.judge.proofs.explaining.ExplainingHearer.take.Goals.{then-not-was_good-via-then-not-was_good, then-not-was_good-via-else-not-was_good+then-is_good}

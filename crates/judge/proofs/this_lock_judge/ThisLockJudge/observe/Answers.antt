@@ -1,8 +1,8 @@
 use Rattle.std.proofs.Common.{◌≡◌, sym, ap, subst, ◌∙◌}
-use Rattle.record.specs.{Entry}
-use Rattle.auditor.specs.read_law.declared.verdicts.Verdict.TheVariants.{Good}
-use Rattle.auditor.specs.read_law.{entry_by}
-use Rattle.auditor.proofs.read_law.GoodVerdicts.{bad_is, good_is}
+use Rattle.model.specs.{Entry}
+use Rattle.auditor.specs.safe_monitor.declared.verdicts.Verdict.TheVariants.{Good}
+use Rattle.auditor.specs.safe_monitor.{entry_by}
+use Rattle.auditor.proofs.safe_monitor.GoodVerdicts.{bad_is, good_is}
 use Rattle.judge.specs.{JudgeState}
 use Rattle.judge.proofs.JudgedRecords.{HearsOn, hears_bad, hears_good}
 use Rattle.judge.proofs.this_lock_judge.ThisLockJudge.observe.Goals as goal

@@ -1,9 +1,9 @@
 use Rattle.std.proofs.Common.{◌≡◌, List, [], ◌∷◌, ◌++◌, reverse, refl, sym, subst, ◌∙◌}
 use Rattle.plain_store.specs.{Setup}
-use Rattle.record.specs.{Entry}
+use Rattle.model.specs.{Entry}
 use Rattle.auditor.specs.{IsVerdict, Law, Verdict}
-use Rattle.auditor.specs.read_law.declared.verdicts.Verdict.TheVariants.{Good}
-use Rattle.auditor.specs.read_law.{entry_by}
+use Rattle.auditor.specs.safe_monitor.declared.verdicts.Verdict.TheVariants.{Good}
+use Rattle.auditor.specs.safe_monitor.{entry_by}
 use Rattle.judge.specs.{BothHeard, HasJudged, JudgeState}
 use Rattle.judge.proofs.JudgedRecords.{AreTold, told_goes_on, told_stays, told_verdict}
 use Rattle.judge.proofs.this_lock_judge.ThisLockJudge.verdict_with.Goals as goal

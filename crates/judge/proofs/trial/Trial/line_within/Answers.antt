@@ -1,5 +1,5 @@
 use Rattle.std.proofs.Common.{ℕ, List, Option, subst, sym, arith, ◌<◌}
-use Rattle.record.specs.{Entry}
+use Rattle.model.specs.{Entry}
 use Rattle.record_file.specs.{Progress}
 use Rattle.judge.specs.Firsts.{HasHeardFirsts}
 use Rattle.judge.specs.Trials.{LineEnds, Stands, count_in}

@@ -2,7 +2,7 @@ use Rattle.std.proofs.Common.{◌≡◌, ℕ, List, [], ◌∷◌, ◌++◌, Opt
 use Rattle.std.specs.Option.{option_to_list}
 use Rattle.plain_store.specs.{Setup}
 use Rattle.files.specs.{words_of, words_read}
-use Rattle.record.specs.{Entry}
+use Rattle.model.specs.{Entry}
 use Rattle.record_file.specs.{Progress, cleared, entry_in, record_grammar}
 use Rattle.judge.specs.Firsts.{HasHeardFirsts}
 use Rattle.judge.specs.Trials.{Hears}

@@ -1,7 +1,7 @@
 use Rattle.std.proofs.Common.{ℕ, List, ◌++◌, ◌∙◌, ap, flat_map}
 use Rattle.markup.specs.{Shape, with_lines}
 use Rattle.picture.specs.{SeenBand, axis, begun, chain_shapes, column_shapes, first_inside, for_each, guide, lane_accesses, lane_shapes, lane_words, links, seen_band, shades, ties, waves_from}
-use Rattle.columns.specs.{SeenAccesses, seen_accesses, told_in}
+use Rattle.picture_layout.specs.{SeenAccesses, seen_accesses, told_in}
 use Rattle.picture.proofs.Drawn.{ends_drawn, then_drawn}
 use Rattle.picture.proofs.Tellings.{then_same}
 use Rattle.picture.proofs.bands.Band.draw.Goals as goal

@@ -1,6 +1,6 @@
 use Rattle.std.proofs.Common.{ℕ, ◌+◌, List, ◌++◌, arith, drop, map, ap, ◌∙◌}
 use Rattle.markup.specs.{drawings}
-use Rattle.columns.specs.{Column, Lane, Seen, lane_in, seen}
+use Rattle.picture_layout.specs.{Column, Lane, Seen, lane_in, seen}
 use Rattle.picture.specs.{accesses_from, made_by, shapes_if}
 use Rattle.picture.proofs.Drawn.{drawn_on}
 use Rattle.picture.proofs.Steps.{accesses_next}

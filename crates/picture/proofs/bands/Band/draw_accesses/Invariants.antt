@@ -1,6 +1,6 @@
 use Rattle.std.proofs.Common.{◌≡◌, ◌++◌, drop, map}
 use Rattle.markup.specs.{drawings, reading}
-use Rattle.columns.specs.{lane_in, seen, seen_accesses}
+use Rattle.picture_layout.specs.{lane_in, seen, seen_accesses}
 use Rattle.picture.specs.{accesses_from, lane_accesses, seen_band}
 use Rattle.picture.proofs.bands.Band.draw_accesses.Given as goal
 

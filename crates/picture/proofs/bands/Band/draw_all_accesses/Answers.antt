@@ -1,6 +1,6 @@
 use Rattle.std.proofs.Common.{ℕ, List, ◌∙◌, refl}
 use Rattle.markup.specs.{Shape}
-use Rattle.columns.specs.{seen_accesses}
+use Rattle.picture_layout.specs.{seen_accesses}
 use Rattle.picture.specs.{lane_accesses, seen_band}
 use Rattle.picture.proofs.Steps.{process_next}
 use Rattle.picture.proofs.bands.Band.draw_all_accesses.Goals as goal

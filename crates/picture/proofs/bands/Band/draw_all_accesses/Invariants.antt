@@ -1,6 +1,6 @@
 use Rattle.std.proofs.Common.{◌≡◌, ◌++◌}
 use Rattle.markup.specs.{drawings, reading}
-use Rattle.columns.specs.{seen_accesses}
+use Rattle.picture_layout.specs.{seen_accesses}
 use Rattle.picture.specs.{for_each, lane_accesses, seen_band}
 use Rattle.picture.proofs.bands.Band.draw_all_accesses.Given as goal
 

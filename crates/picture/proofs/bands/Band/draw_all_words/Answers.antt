@@ -1,7 +1,7 @@
 use Rattle.std.proofs.Common.{◌≡◌, ℕ, true, List, [], ap, sym, ◌∙◌}
 use Rattle.std.proofs.lemmas.Bool.{cond-true, not-false}
 use Rattle.markup.specs.{Shape}
-use Rattle.columns.specs.{Lane, lane_in}
+use Rattle.picture_layout.specs.{Lane, lane_in}
 use Rattle.picture.specs.{SeenBand, lane_words, seen_band, words_of_lane}
 use Rattle.picture.proofs.Steps.{process_next}
 use Rattle.picture.proofs.bands.Band.draw_all_words.Goals as goal

@@ -1,5 +1,5 @@
 use Rattle.std.proofs.Common.{ℕ, ◌+◌, List, ◌∙◌, arith, drop, map}
-use Rattle.columns.specs.{Column, Seen, seen}
+use Rattle.picture_layout.specs.{Column, Seen, seen}
 use Rattle.picture.specs.{Subject, axis, axis_up_to}
 use Rattle.picture.proofs.Drawn.{drawn_on}
 use Rattle.picture.proofs.Steps.{axis_next}

@@ -1,6 +1,6 @@
 use Rattle.std.proofs.Common.{◌≡◌, ◌++◌, drop, map}
 use Rattle.markup.specs.{drawings, reading}
-use Rattle.columns.specs.{seen}
+use Rattle.picture_layout.specs.{seen}
 use Rattle.picture.specs.{axis}
 use Rattle.picture.proofs.bands.Band.draw_axis.Given as goal
 

@@ -1,6 +1,6 @@
 use Rattle.std.proofs.Common.{ap}
 use Rattle.markup.specs.{with_lines}
-use Rattle.columns.specs.{told_in}
+use Rattle.picture_layout.specs.{told_in}
 use Rattle.picture.proofs.Tellings.{then_same}
 use Rattle.picture.proofs.bands.Band.draw_column.Goals as goal
 

@@ -1,6 +1,6 @@
 use Rattle.std.proofs.Common.{ℕ, ◌+◌, List, arith, drop, flat_map, map, refl}
 use Rattle.markup.specs.{Shape, reading}
-use Rattle.columns.specs.{Column, Seen, seen}
+use Rattle.picture_layout.specs.{Column, Seen, seen}
 use Rattle.picture.specs.{column_shapes, seen_band}
 use Rattle.picture.proofs.Drawn.{drawn_on}
 use Rattle.picture.proofs.Steps.{each_next}

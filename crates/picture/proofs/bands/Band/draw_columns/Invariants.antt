@@ -1,6 +1,6 @@
 use Rattle.std.proofs.Common.{◌≡◌, ◌++◌, drop, map, flat_map, take}
 use Rattle.markup.specs.{drawings, reading, with_lines}
-use Rattle.columns.specs.{seen, told_in}
+use Rattle.picture_layout.specs.{seen, told_in}
 use Rattle.picture.specs.{column_shapes, seen_band}
 use Rattle.picture.proofs.bands.Band.draw_columns.Given as goal
 

@@ -1,6 +1,6 @@
 use Rattle.std.proofs.Common.{◌≡◌, ◌++◌, drop, map, flat_map}
 use Rattle.markup.specs.{drawings, reading}
-use Rattle.columns.specs.{seen}
+use Rattle.picture_layout.specs.{seen}
 use Rattle.picture.specs.{guide}
 use Rattle.picture.proofs.bands.Band.draw_guides.Given as goal
 

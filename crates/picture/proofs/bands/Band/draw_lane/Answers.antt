@@ -1,6 +1,6 @@
 use Rattle.std.proofs.Common.{ℕ, ◌+◌, List, ◌++◌, arith, drop, map, ap, sym, ◌∙◌}
 use Rattle.markup.specs.{drawings}
-use Rattle.columns.specs.{Column, Lane, lane_in, seen}
+use Rattle.picture_layout.specs.{Column, Lane, lane_in, seen}
 use Rattle.picture.specs.{bar, bars}
 use Rattle.picture.proofs.Drawn.{drawn_on}
 use Rattle.picture.proofs.Steps.{bars_change, bars_stay}

@@ -1,7 +1,7 @@
 use Rattle.std.proofs.Common.{◌≡◌, ◌++◌, drop, map}
 use Rattle.markup.specs.{drawings, reading}
 use Rattle.picture.specs.{bars, lane_shapes, seen_band}
-use Rattle.columns.specs.{lane_in, seen}
+use Rattle.picture_layout.specs.{lane_in, seen}
 use Rattle.picture.proofs.bands.Band.draw_lane.Given as goal
 
 -- no line more, and what is drawn so far and what is drawn of those to come is all that is drawn

@@ -1,6 +1,6 @@
 use Rattle.std.proofs.Common.{◌∙◌}
 use Rattle.markup.specs.{reading}
-use Rattle.columns.specs.{text_of}
+use Rattle.picture_layout.specs.{text_of}
 use Rattle.picture.proofs.Tellings.{then_ends}
 use Rattle.picture.proofs.bands.Band.draw_line_below.Goals as goal
 

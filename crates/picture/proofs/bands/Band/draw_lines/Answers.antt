@@ -1,6 +1,6 @@
 use Rattle.std.proofs.Common.{ℕ, ◌+◌, List, arith, drop, refl}
 use Rattle.markup.specs.{reading}
-use Rattle.columns.specs.{RunLine, seen}
+use Rattle.picture_layout.specs.{RunLine, seen}
 use Rattle.picture.specs.{SeenBand, line_shapes, lines_shapes, seen_band}
 use Rattle.picture.proofs.Drawn.{drawn_on}
 use Rattle.picture.proofs.Steps.{lines_next}

@@ -1,6 +1,6 @@
 use Rattle.std.proofs.Common.{◌≡◌, ◌++◌, drop, take}
 use Rattle.markup.specs.{drawings, reading, with_lines}
-use Rattle.columns.specs.{seen, texts}
+use Rattle.picture_layout.specs.{seen, texts}
 use Rattle.picture.specs.{lines_shapes, seen_band}
 use Rattle.picture.proofs.bands.Band.draw_lines.Given as goal
 

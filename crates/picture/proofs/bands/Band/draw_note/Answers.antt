@@ -1,6 +1,6 @@
 use Rattle.std.proofs.Common.{ℕ, ◌+◌, List, arith, drop, flat_map, refl}
 use Rattle.markup.specs.{Shape, reading}
-use Rattle.columns.specs.{RunLine, seen}
+use Rattle.picture_layout.specs.{RunLine, seen}
 use Rattle.picture.specs.{note_shapes, seen_band}
 use Rattle.picture.proofs.Drawn.{drawn_on}
 use Rattle.picture.proofs.Steps.{notes_next}

@@ -1,6 +1,6 @@
 use Rattle.std.proofs.Common.{ℕ, ◌+◌, List, ◌∙◌, arith, drop, flat_map, map}
 use Rattle.markup.specs.{Shape}
-use Rattle.columns.specs.{seen_accesses}
+use Rattle.picture_layout.specs.{seen_accesses}
 use Rattle.picture.specs.{SeenLine, VerdictLine, outline_of, seen_band, seen_line}
 use Rattle.picture.proofs.Drawn.{drawn_on}
 use Rattle.picture.proofs.VerdictLines.{each_line}

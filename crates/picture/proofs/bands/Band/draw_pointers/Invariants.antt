@@ -1,6 +1,6 @@
 use Rattle.std.proofs.Common.{◌≡◌, ◌++◌, drop, map, flat_map}
 use Rattle.markup.specs.{drawings, reading}
-use Rattle.columns.specs.{seen_accesses}
+use Rattle.picture_layout.specs.{seen_accesses}
 use Rattle.picture.specs.{outline_of, seen_band, seen_line}
 use Rattle.picture.proofs.bands.Band.draw_pointers.Given as goal
 

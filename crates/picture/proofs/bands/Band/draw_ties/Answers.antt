@@ -1,6 +1,6 @@
 use Rattle.std.proofs.Common.{ℕ, ◌+◌, List, ◌∙◌, arith, drop, flat_map, map}
 use Rattle.markup.specs.{Shape}
-use Rattle.columns.specs.{Column, Seen, seen}
+use Rattle.picture_layout.specs.{Column, Seen, seen}
 use Rattle.picture.specs.{ties}
 use Rattle.picture.proofs.Drawn.{drawn_on}
 use Rattle.picture.proofs.Steps.{each_next}

@@ -1,6 +1,6 @@
 use Rattle.std.proofs.Common.{ℕ, ◌+◌, List, ◌++◌, ◌∙◌, ap, flat_map}
 use Rattle.markup.specs.{Shape, drawings, with_lines}
-use Rattle.columns.specs.{SeenAccesses, seen_accesses}
+use Rattle.picture_layout.specs.{SeenAccesses, seen_accesses}
 use Rattle.picture.specs.{SeenBand, SeenVerdict, bad_column, bad_place, box_at, lines_from, outline_of, seen_band, seen_verdict, verdict_by, verdict_titles}
 use Rattle.picture.proofs.Drawn.{ends_drawn, then_drawn}
 use Rattle.picture.proofs.Sheetings.{adds_other}

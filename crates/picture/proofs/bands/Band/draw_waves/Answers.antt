@@ -1,5 +1,5 @@
 use Rattle.std.proofs.Common.{ℕ, ◌+◌, List, ◌∙◌, arith, drop, map}
-use Rattle.columns.specs.{Layout, Seen, Wave, seen, seen_wave}
+use Rattle.picture_layout.specs.{Layout, Seen, Wave, seen, seen_wave}
 use Rattle.picture.specs.{wave_shapes, waves_from}
 use Rattle.picture.proofs.Drawn.{drawn_on}
 use Rattle.picture.proofs.Steps.{waves_next}

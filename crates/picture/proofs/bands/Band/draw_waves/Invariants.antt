@@ -1,6 +1,6 @@
 use Rattle.std.proofs.Common.{◌≡◌, ◌++◌, drop, map}
 use Rattle.markup.specs.{drawings, reading}
-use Rattle.columns.specs.{seen, seen_wave}
+use Rattle.picture_layout.specs.{seen, seen_wave}
 use Rattle.picture.specs.{waves_from}
 use Rattle.picture.proofs.bands.Band.draw_waves.Given as goal
 

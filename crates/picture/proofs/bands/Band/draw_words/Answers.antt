@@ -1,6 +1,6 @@
 use Rattle.std.proofs.Common.{◌≡◌, ℕ, ◌+◌, ◌&&◌, ◌||◌, not, List, ◌++◌, arith, drop, map, ap, sym, ◌∙◌}
 use Rattle.markup.specs.{drawings}
-use Rattle.columns.specs.{Column, bar_of, lane_in, seen, stands_in}
+use Rattle.picture_layout.specs.{Column, bar_of, lane_in, seen, stands_in}
 use Rattle.picture.specs.{Stretch, free_left, is_word, says_word, stretch_at, stretch_word, words_from}
 use Rattle.picture.proofs.Drawn.{drawn_on}
 use Rattle.picture.proofs.Steps.{words_end, words_stay}

@@ -1,7 +1,7 @@
 use Rattle.std.proofs.Common.{◌≡◌, ◌+◌, ◌++◌, drop, map}
 use Rattle.markup.specs.{drawings, reading}
 use Rattle.picture.specs.{seen_band, words_from, words_of_lane}
-use Rattle.columns.specs.{bar_of, lane_in, seen}
+use Rattle.picture_layout.specs.{bar_of, lane_in, seen}
 use Rattle.picture.proofs.bands.Band.draw_words.Given as goal
 
 -- no line more, and what is drawn so far and what is drawn of those to come is all that is drawn

@@ -1,4 +1,4 @@
-use Rattle.columns.specs.{seen, text_of}
+use Rattle.picture_layout.specs.{seen, text_of}
 use Rattle.picture.specs.{held_back, seen_page}
 use Rattle.picture.proofs.Held.{alone_pending}
 use Rattle.picture.proofs.Pagings.{begun_is}

@@ -3,7 +3,7 @@ use Rattle.std.specs.declared.alloc.Global.{Global}
 use Rattle.std.specs.declared.vec.Vec.{Vec}
 use Rattle.markup.specs.{drawings}
 use Rattle.picture.specs.{behind_columns, framed, height_with, held_in_64, judged_shapes, seen_page, titles_if}
-use Rattle.columns.specs.{Column, accesses_after, accesses_at, layout_of, seen, seen_accesses, stretched_all, told_in}
+use Rattle.picture_layout.specs.{Column, accesses_after, accesses_at, layout_of, seen, seen_accesses, stretched_all, told_in}
 use Rattle.picture.proofs.Pagings.{draws_parts, stretched_within}
 use Rattle.picture.proofs.page.Page.draw_band.Goals as goal
 

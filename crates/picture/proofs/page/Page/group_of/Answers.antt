@@ -1,6 +1,6 @@
 use Rattle.std.proofs.Common.{◌++◌, ap, flat_map, refl}
 use Rattle.markup.specs.{group, lowering, reading}
-use Rattle.columns.specs.{told_in}
+use Rattle.picture_layout.specs.{told_in}
 use Rattle.picture.specs.{titles_if}
 use Rattle.picture.proofs.Sheetings.{adds, adds_same}
 use Rattle.picture.proofs.Tellings.{framed_ends, framed_lines}

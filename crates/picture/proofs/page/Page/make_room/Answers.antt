@@ -1,5 +1,5 @@
 use Rattle.std.proofs.Common.{ap, ◌∙◌, sym}
-use Rattle.columns.specs.{has_room_at, seen}
+use Rattle.picture_layout.specs.{has_room_at, seen}
 use Rattle.picture.specs.{seen_page}
 use Rattle.picture.proofs.Pagings.{begins_next}
 use Rattle.picture.proofs.page.Page.make_room.Goals as goal

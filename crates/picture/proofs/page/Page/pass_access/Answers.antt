@@ -1,5 +1,5 @@
 use Rattle.std.proofs.Common.{[], ◌∷◌}
-use Rattle.columns.specs.{seen, seen_accesses}
+use Rattle.picture_layout.specs.{seen, seen_accesses}
 use Rattle.picture.specs.{seen_page}
 use Rattle.picture.proofs.Framing.{on_ok}
 use Rattle.picture.proofs.Pagings.{access_left, passes_access}

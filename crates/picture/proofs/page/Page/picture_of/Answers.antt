@@ -1,6 +1,6 @@
 use Rattle.std.proofs.Common.{◌++◌, ◌∙◌, ap, codes, flat_map, refl}
 use Rattle.markup.specs.{reading}
-use Rattle.columns.specs.{told_in}
+use Rattle.picture_layout.specs.{told_in}
 use Rattle.picture.specs.{titles_if}
 use Rattle.picture.specs.Bandings.{band_tag}
 use Rattle.picture.proofs.Sheetings.{adds, adds_same}

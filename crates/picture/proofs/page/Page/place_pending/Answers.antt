@@ -1,5 +1,5 @@
 use Rattle.std.proofs.Common.{Option, ap, option_map, ◌∙◌, sym}
-use Rattle.columns.specs.{Column, seen}
+use Rattle.picture_layout.specs.{Column, seen}
 use Rattle.picture.specs.{seen_page}
 use Rattle.picture.proofs.Pagings.{places_one}
 use Rattle.picture.proofs.page.Page.place_pending.Goals as goal

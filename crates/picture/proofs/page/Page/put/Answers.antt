@@ -1,6 +1,6 @@
 use Rattle.std.proofs.Common.{ap, map, ◌∷◌, [], ◌∙◌}
 use Rattle.std.proofs.lemmas.List.{map-append}
-use Rattle.columns.specs.{ColumnPlace, seen}
+use Rattle.picture_layout.specs.{ColumnPlace, seen}
 use Rattle.picture.specs.{seen_page}
 use Rattle.picture.proofs.Held.{put_last}
 use Rattle.picture.proofs.Pagings.{put_parts}

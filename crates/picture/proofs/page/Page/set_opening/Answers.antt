@@ -1,5 +1,5 @@
 use Rattle.std.proofs.Common.{ap, ◌∙◌}
-use Rattle.columns.specs.{placing_at_first}
+use Rattle.picture_layout.specs.{placing_at_first}
 use Rattle.picture.specs.{seen_page}
 use Rattle.picture.proofs.Pagings.{sets_words}
 use Rattle.picture.proofs.page.Page.set_opening.Goals as goal

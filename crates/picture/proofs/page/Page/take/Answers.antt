@@ -1,5 +1,5 @@
 use Rattle.std.proofs.Common.{Some, [], ◌∷◌, ◌++◌, ap, option_map, refl, ◌∙◌, sym}
-use Rattle.columns.specs.{State, joined, seen, text_of}
+use Rattle.picture_layout.specs.{State, joined, seen, text_of}
 use Rattle.picture.specs.{Page, held_back, lines_of, seen_page}
 use Rattle.picture.proofs.Framing.{always, if_ok}
 use Rattle.picture.proofs.Held.{joins_pending}

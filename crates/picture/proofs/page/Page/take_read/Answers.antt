@@ -1,5 +1,5 @@
 use Rattle.std.proofs.Common.{refl}
-use Rattle.columns.specs.{seen}
+use Rattle.picture_layout.specs.{seen}
 use Rattle.picture.specs.{seen_page}
 use Rattle.picture.proofs.Pagings.{begins_read, read_is}
 use Rattle.picture.proofs.page.Page.take_read.Goals as goal

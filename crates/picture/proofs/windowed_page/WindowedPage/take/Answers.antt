@@ -1,5 +1,5 @@
 use Rattle.std.proofs.Common.{true, [], ◌∷◌, ◌∙◌, refl, sym}
-use Rattle.columns.specs.{text_of}
+use Rattle.picture_layout.specs.{text_of}
 use Rattle.picture.specs.{Tells, held, held_back, said_before, seen_page, seen_windowed, shows_line}
 use Rattle.picture.proofs.Windowing.{leaves_out, lines_shown, no_band, not_before, said_hides, shows_ok, window_with, with_none}
 use Rattle.picture.proofs.windowed_page.WindowedPage.take.Goals as goal

@@ -1,5 +1,5 @@
 use Rattle.std.proofs.Common.{sym, ap, ◌∙◌, subst}
-use Rattle.record.specs.{Part, last_marks}
+use Rattle.model.specs.{Part, last_marks}
 use Rattle.process.specs.{IsOutcome, PartState, call_of, marks_to, part_at}
 use Rattle.process.proofs.MarksTo.{marks-to}
 use Rattle.process.proofs.call_part.CallPart.after.Goals as goal

@@ -1,5 +1,5 @@
 use Rattle.std.proofs.Common.{sym, ap, ◌∙◌}
-use Rattle.record.specs.{Part, last_marks, store_read}
+use Rattle.model.specs.{Part, last_marks, store_read}
 use Rattle.process.specs.{PartState, call_of, marks_to, part_at, reads_image}
 use Rattle.process.specs.declared.seen.Seen.{Seen}
 use Rattle.process.proofs.MarksTo.{after-image, marks-to}

@@ -1,5 +1,5 @@
 use Rattle.std.proofs.Common.{◌≡◌, [], refl, ap, ◌∙◌}
-use Rattle.record.specs.{Call, Part, processes, to_e}
+use Rattle.model.specs.{Call, Part, processes, to_e}
 use Rattle.process.specs.{PartState, versions_seen}
 use Rattle.process.proofs.AfterParts.{all-all}
 use Rattle.process.proofs.call_part.CallPart.start_inside.Goals as goal

@@ -1,5 +1,5 @@
 use Rattle.std.proofs.Common.{◌≡◌, ◌<◌, length, ◌∙◌, sym, ap, arith, inl, inr}
-use Rattle.record.specs.{newest_stamp}
+use Rattle.model.specs.{newest_stamp}
 use Rattle.process.specs.declared.newest_version.NewestVersion.{NewestVersion}
 use Rattle.process.proofs.NewestSteps.{newest-new, newest-old}
 use Rattle.process.proofs.newest_version.NewestVersion.with.Goals as goal

@@ -1,7 +1,7 @@
 use Rattle.std.proofs.Common.{false, None, Option, sym, ap, subst, ◌∙◌}
 use Rattle.std.specs.Prelude.{IfSome}
 use Rattle.plain_store.specs.{Setup}
-use Rattle.record.specs.{IsTornOf, TornBit}
+use Rattle.model.specs.{IsTornOf, TornBit}
 use Rattle.registers.specs.{settling_from}
 use Rattle.process.specs.declared.work.ProcessWork.TheVariants as work
 use Rattle.process.specs.{KeepsPlace, ProcessState, doing_at, settling_with, state_at}

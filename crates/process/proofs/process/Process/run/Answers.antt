@@ -1,6 +1,6 @@
 use Rattle.std.proofs.Common.{List, sym, ap, subst, ◌∙◌, arith, ◌<◌}
 use Rattle.registers.specs.safe_bit.Cell.{Cell}
-use Rattle.flicks.specs.{FlickState}
+use Rattle.choices.specs.{FlickState}
 use Rattle.registers.specs.{CursorState}
 use Rattle.process.specs.{KeepsPlace, ProcessState, left_at, state_at}
 use Rattle.process.proofs.Shown.{RunsShown, left-goes, shown-fits, shown-run}

@@ -1,5 +1,5 @@
 use Rattle.std.proofs.Common.{◌≡◌, ap, ◌∙◌, arith}
-use Rattle.record.specs.{value_of}
+use Rattle.model.specs.{value_of}
 use Rattle.registers.specs.{applied, ends_overlapped, next_answered}
 use Rattle.process.specs.{HasMoved, ProcessState, changes_told, may_step}
 use Rattle.process.proofs.NextAt.{then-changes, then-marks, then-stepped}

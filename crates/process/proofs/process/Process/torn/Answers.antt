@@ -1,6 +1,6 @@
 use Rattle.std.proofs.Common.{Option, sym, ◌∙◌, subst}
 use Rattle.std.specs.Prelude.{IfSome}
-use Rattle.record.specs.{IsTornOf, TornBit}
+use Rattle.model.specs.{IsTornOf, TornBit}
 use Rattle.process.proofs.CutsAt.{torn-shown}
 use Rattle.process.proofs.process.Process.torn.Goals as goal
 

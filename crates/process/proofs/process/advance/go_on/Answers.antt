@@ -1,5 +1,5 @@
 use Rattle.std.proofs.Common.{◌≡◌, Bool, List, subst, sym}
-use Rattle.record.specs.{Mark}
+use Rattle.model.specs.{Mark}
 use Rattle.registers.specs.{CursorState}
 use Rattle.process.specs.{AreMarksOn, IsStepped, PartState, ProcessState, ProcessWork}
 use Rattle.process.proofs.NextAt.{idle-goes}

@@ -1,5 +1,5 @@
 use Rattle.std.proofs.Common.{◌≡◌, Bool, [], cond, false, get_or, unwrap_or, refl, sym, ap, ◌∙◌, subst}
-use Rattle.record.specs.{settled_marks}
+use Rattle.model.specs.{settled_marks}
 use Rattle.process.specs.declared.work.ProcessWork.TheVariants as work
 use Rattle.process.specs.{KeepsPlace, reply_taken, state_at}
 use Rattle.process.proofs.ClosingsOn.{clears-ticket}

@@ -1,6 +1,6 @@
 use Rattle.std.proofs.Common.{ap, ◌∙◌}
 use Rattle.plain_store.specs.{Setup, opening_store}
-use Rattle.record.specs.safe_number.{bit_in}
+use Rattle.model.specs.safe_number.{bit_in}
 use Rattle.store_image.specs.{image_of}
 use Rattle.record_accesses.proofs.OpeningBits.{opening-image}
 use Rattle.record_accesses.proofs.openings.Openings.value.Goals as goal

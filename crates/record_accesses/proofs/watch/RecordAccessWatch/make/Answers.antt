@@ -1,7 +1,7 @@
 use Rattle.std.proofs.Common.{◌≡◌, ◌&&◌, ◌∷◌, List, None, Option, Some, ap, cond, is_some, length, nat_le, sym, subst, ◌∙◌}
 use Rattle.laws.specs.{IsThere}
-use Rattle.record.specs.safe_bit.{is_write_open}
-use Rattle.record.specs.{Access, Entry, moves_of}
+use Rattle.model.specs.safe_bit.{is_write_open}
+use Rattle.model.specs.{Access, Entry, moves_of}
 use Rattle.record_accesses.specs.{BitState, BitsState, HasBits, HasOpened, HasTaken, OpenBitAccess, WatchState, alters, begin_of, bit_after, bit_of, bits_taken, change_of, entry_with, row_in, state_at, step_of, watched_by, waves_after, waves_since, waves_with}
 use Rattle.record_accesses.proofs.BitFacts.{writer-open}
 use Rattle.record_accesses.proofs.RowFacts.{after-is, before-is, bits-taken, change-row}

@@ -1,5 +1,5 @@
 use Rattle.std.proofs.Common.{◌∷◌, ap, subst, sym, ◌∙◌}
-use Rattle.record.specs.{Entry}
+use Rattle.model.specs.{Entry}
 use Rattle.record_accesses.specs.{HasWatched, shown_access}
 use Rattle.record_accesses.proofs.Watches.{ok_on, ok_then}
 use Rattle.record_accesses.proofs.watch.RecordAccessWatch.observe.Goals as goal

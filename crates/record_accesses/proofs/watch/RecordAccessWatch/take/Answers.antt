@@ -1,5 +1,5 @@
 use Rattle.std.proofs.Common.{◌≡◌, ◌<◌, ◌≤◌, ◌∷◌, Option, None, ap, sym, subst, ◌∙◌, arith}
-use Rattle.record.specs.{Access}
+use Rattle.model.specs.{Access}
 use Rattle.record_accesses.specs.{BitsState, HasBits, HasTaken, WatchState, entry_with, opened_taken, possible_access, watched, waves_after}
 use Rattle.record_accesses.proofs.Watches.{impossible, none-shown, out-of-range, taken-next, taken-still}
 use Rattle.record_accesses.proofs.watch.RecordAccessWatch.take.Goals as goal

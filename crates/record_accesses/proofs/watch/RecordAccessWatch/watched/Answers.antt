@@ -1,6 +1,6 @@
 use Rattle.std.proofs.Common.{◌∷◌, Option, None, Some, IfSome, cond, sym, subst, ap, ◌∙◌}
 use Rattle.std.proofs.lemmas.Bool.{lt-ltb}
-use Rattle.record.specs.{Access}
+use Rattle.model.specs.{Access}
 use Rattle.record_accesses.specs.{HasBits, IsPossible, WatchedBitAccess, entry_with, watched, watched_by}
 use Rattle.record_accesses.specs.declared.watched.Watched.TheVariants.{Made}
 use Rattle.record_accesses.proofs.watch.RecordAccessWatch.watched.Goals as goal

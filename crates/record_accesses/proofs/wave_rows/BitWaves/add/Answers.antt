@@ -1,5 +1,5 @@
 use Rattle.std.proofs.Common.{◌≡◌, List, None, Some, ap, length, subst, sym, ◌∙◌}
-use Rattle.record.specs.{Access}
+use Rattle.model.specs.{Access}
 use Rattle.record_accesses.specs.{row_in}
 use Rattle.record_accesses.proofs.RowFacts.{last-same}
 use Rattle.record_accesses.proofs.wave_rows.BitWaves.add.Goals as goal

@@ -1,5 +1,5 @@
 use Rattle.std.proofs.Common.{◌++◌, ◌∷◌, [], List, Some, length, ap, sym, ◌∙◌, subst, None, ◌≡◌}
-use Rattle.record.specs.{Access}
+use Rattle.model.specs.{Access}
 use Rattle.record_accesses.specs.{BitsState, row_in}
 use Rattle.record_accesses.proofs.RowFacts.{last-same}
 use Rattle.record_accesses.proofs.written_bits.WrittenBits.add.Goals as goal

@@ -1,5 +1,5 @@
 use Rattle.std.proofs.Common.{◌≡◌, length, ap, ◌∙◌, arith}
-use Rattle.record.specs.{Access, copy}
+use Rattle.model.specs.{Access, copy}
 use Rattle.registers.specs.{BitCopy, lane_of, lane_of_access}
 use Rattle.reader_copies.specs.{bit_seen, cell_in}
 use Rattle.registers.proofs.Held.{lane-found}

@@ -1,5 +1,5 @@
 use Rattle.std.proofs.Common.{ℕ, false, get_or, sym, ap, ◌∙◌, arith}
-use Rattle.record.specs.{width}
+use Rattle.model.specs.{width}
 use Rattle.reader_copies.proofs.Words.{bit-found}
 use Rattle.registers.proofs.memory.BitMemory.bytes_held.Goals as goal
 

@@ -1,7 +1,7 @@
 use Rattle.std.proofs.Common.{◌++◌, ◌∷◌, [], List, Bool, sym, ◌∙◌, arith}
 use Rattle.std.proofs.lemmas.List.FromFn.{map-range_with_len_more}
-use Rattle.record.specs.{width}
-use Rattle.record.specs.declared.access.Field.TheVariants.{Image0}
+use Rattle.model.specs.{width}
+use Rattle.model.specs.declared.access.Field.TheVariants.{Image0}
 use Rattle.registers.specs.{opening_lane}
 use Rattle.reader_copies.specs.{bits_of_words}
 use Rattle.registers.proofs.memory.BitMemory.new.Goals as goal

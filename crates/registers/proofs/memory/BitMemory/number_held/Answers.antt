@@ -1,5 +1,5 @@
 use Rattle.std.proofs.Common.{◌%◌, ◌^◌, ℕ, get_or, sym, ap, ◌∙◌, arith}
-use Rattle.record.specs.{width}
+use Rattle.model.specs.{width}
 use Rattle.safe_number.specs.{number_of_bits}
 use Rattle.registers.proofs.Numbers.{words-number}
 use Rattle.registers.proofs.memory.BitMemory.number_held.Goals as goal

@@ -1,6 +1,6 @@
 use Rattle.std.proofs.Common.{◌≡◌, ◌+◌, List, ap, ◌∙◌, subst, sym, arith}
 use Rattle.safe_bit.specs.Cell.{Cell}
-use Rattle.flicks.specs.{FlickState, flicks_after}
+use Rattle.choices.specs.{FlickState, flicks_after}
 use Rattle.registers.specs.{CursorState, Fits}
 use Rattle.registers.proofs.Iterates.{overlapped-few}
 use Rattle.registers.proofs.Runs.{HasRun, MayStep, leads-on, may-step, newest-last, run-fits, step-on}

@@ -1,6 +1,6 @@
 use Rattle.std.proofs.Common.{◌≡◌, ◌<◌, ℕ, length, ap, ◌∙◌, arith}
 use Rattle.std.proofs.lemmas.List.{length-set}
-use Rattle.record.specs.{width}
+use Rattle.model.specs.{width}
 use Rattle.registers.specs.{lane_number, lane_of}
 use Rattle.reader_copies.specs.{cell_in}
 use Rattle.registers.proofs.Held.{lane-found, values-kept, words-more}

@@ -1,7 +1,7 @@
 use Rattle.std.proofs.Common.{◌<◌, arith, refl, sym, subst, ◌∙◌}
 use Rattle.plain_store.specs.{Setup}
-use Rattle.record.specs.{Entry}
-use Rattle.calls.specs.course.{entry_made}
+use Rattle.model.specs.{Entry}
+use Rattle.calls.specs.scenario_run.{entry_made}
 use Rattle.run_state.proofs.observer.StateObserver.hear_event.Goals as goal
 
 pub returns-clause-heard : goal.returns-clause-heard

@@ -1,8 +1,8 @@
 use Rattle.std.proofs.Common.{◌<◌, Option, Some, ℕ, ap, arith, refl, sym, subst, ◌∙◌}
 use Rattle.std.specs.Option.{unwrap_or}
 use Rattle.plain_store.specs.{Setup}
-use Rattle.record.specs.{Entry, Past}
-use Rattle.calls.specs.course.{past_after}
+use Rattle.model.specs.{Entry, Past}
+use Rattle.calls.specs.scenario_run.{past_after}
 use Rattle.run_state.specs.{HasSeen, StateObserver, TellsNumber, unmarked_entry}
 use Rattle.calls.proofs.UnmarkedSteps.{steps_below}
 use Rattle.run_state.proofs.Seeing.{step_past, tells_number}

@@ -1,5 +1,5 @@
 use Rattle.std.proofs.Common.{subst, sym}
-use Rattle.calls.specs.course.{Told}
+use Rattle.calls.specs.scenario_run.{Told}
 use Rattle.run_state.specs.{HearsTold}
 use Rattle.run_state.proofs.observer.StateObserver.hear_told.Goals as goal
 

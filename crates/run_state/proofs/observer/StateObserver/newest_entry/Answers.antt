@@ -1,5 +1,5 @@
 use Rattle.std.proofs.Common.{◌≡◌, ◌<◌, Some, ap, arith, sym, ◌∙◌}
-use Rattle.record.specs.{Past, past_of}
+use Rattle.model.specs.{Past, past_of}
 use Rattle.run_state.specs.{IsNewestWithin, newest, unmarked_entry}
 use Rattle.run_state.proofs.observer.StateObserver.newest_entry.Goals as goal
 

@@ -1,6 +1,6 @@
 use Rattle.std.proofs.Common.{arith, subst, sym, ◌∙◌}
 use Rattle.plain_store.specs.{Setup}
-use Rattle.calls.specs.course.{past_after}
+use Rattle.calls.specs.scenario_run.{past_after}
 use Rattle.run_state.specs.{Passes}
 use Rattle.run_state.proofs.Seeing.{newest_within, passes_of}
 use Rattle.run_state.proofs.observer.StateObserverListener.pass.Goals as goal

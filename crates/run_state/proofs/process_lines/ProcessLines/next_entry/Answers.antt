@@ -1,6 +1,6 @@
 use Rattle.std.proofs.Common.{refl, ◌∙◌}
-use Rattle.record.specs.{entry_of}
-use Rattle.record.specs.declared.events.Event.TheVariants.{Step}
+use Rattle.model.specs.{entry_of}
+use Rattle.model.specs.declared.events.Event.TheVariants.{Step}
 use Rattle.run_state.proofs.process_lines.ProcessLines.next_entry.Goals as goal
 
 pub returns : goal.returns

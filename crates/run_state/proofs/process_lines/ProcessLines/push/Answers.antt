@@ -1,5 +1,5 @@
 use Rattle.std.proofs.Common.{◌≡◌, ℕ, List, ◌++◌, ap, ◌∙◌, append_assoc}
-use Rattle.record.specs.{stage_word}
+use Rattle.model.specs.{stage_word}
 use Rattle.calls.specs.{open_call}
 use Rattle.run_state.specs.{ProcessLines, call_kept, doing_lines, lines_of_two, open_lines, process_line, words_added}
 use Rattle.run_state.proofs.OfCalls.{lines_kept}

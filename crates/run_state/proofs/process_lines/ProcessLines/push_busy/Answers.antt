@@ -1,8 +1,8 @@
 use Rattle.std.proofs.Common.{◌≡◌, ◌++◌, ℕ, List, None, Option, Some, length, ap, sym, subst, ◌∙◌}
 use Rattle.std.specs.Prelude.{Bool, option_map}
 use Rattle.plain_store.specs.{Setup}
-use Rattle.record.proofs.Width.{is_good}
-use Rattle.record.specs.{Access, Past, past_of, width}
+use Rattle.model.proofs.Width.{is_good}
+use Rattle.model.specs.{Access, Past, past_of, width}
 use Rattle.calls.specs.world.laws.{Doing, RegisterWrite, doing, register_write}
 use Rattle.calls.specs.world.laws.Writes.{WritesFitTheirRegister, WritesLeaveTheirBits}
 use Rattle.calls.specs.world.process.{ProcessState, AccessProgress, bytes_written, number_read, progress, settling_of}

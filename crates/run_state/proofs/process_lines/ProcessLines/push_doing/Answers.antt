@@ -1,6 +1,6 @@
 use Rattle.std.proofs.Common.{◌≡◌, ◌++◌, false, None, Option, Some, append-nil, ap, sym, ◌∙◌}
-use Rattle.record.specs.{Access, entry_of}
-use Rattle.record.specs.declared.events.Event.TheVariants.{Step}
+use Rattle.model.specs.{Access, entry_of}
+use Rattle.model.specs.declared.events.Event.TheVariants.{Step}
 use Rattle.calls.specs.world.laws.{doing}
 use Rattle.calls.specs.world.process.{number_read, settling_of, ticket_known}
 use Rattle.run_state.specs.{ProcessLines, access_in, busy_lines, call_kept, doing_by, doing_with, failed_words, kept, line_if, open_words}

@@ -1,6 +1,6 @@
 use Rattle.std.proofs.Common.{◌≡◌, ◌++◌, ◌≤◌, ap, ◌∙◌, arith}
 use Rattle.std.specs.Prelude.{List, ℕ, slice_index_or, false, ◌<◌, length}
-use Rattle.record.specs.safe_number.{bit_in}
+use Rattle.model.specs.safe_number.{bit_in}
 use Rattle.calls.proofs.world_proofs.process_proofs.registers_proofs.MadeBytes.{register-bits}
 use Rattle.run_state.specs.{process_line, shown}
 use Rattle.run_state.proofs.Stand.{ok_then}

@@ -1,12 +1,12 @@
 use Rattle.std.proofs.Common.{◌≡◌, ◌<◌, reverse, subst, sym, ◌∙◌}
 use Rattle.plain_store.specs.{Setup}
-use Rattle.record.specs.{Entry, Past}
+use Rattle.model.specs.{Entry, Past}
 use Rattle.calls.specs.world.laws.{doing}
 use Rattle.calls.specs.world.process.{number_read}
 use Rattle.calls.specs.world.{CoreState, InEachCorePast}
 use Rattle.judge.proofs.Firsts.{more_counted}
-use Rattle.judge.proofs.auditor.read_law.GoodVerdicts.{bad_is, good_is}
-use Rattle.judge.specs.read_law.{entry_by}
+use Rattle.judge.proofs.auditor.safe_monitor.GoodVerdicts.{bad_is, good_is}
+use Rattle.judge.specs.safe_monitor.{entry_by}
 use Rattle.judge.specs.{JudgeState}
 use Rattle.run_state.specs.{GoodEntries, IsNext, RecordObserver, StoresNext, taken_with}
 use Rattle.run_state.proofs.Observed.{all_keep, bad_stays, core_setup, good_stored, in_shown, next_is, shown}

@@ -2,7 +2,7 @@ use Rattle.std.proofs.Common.{List, ◌++◌, ap, subst, sym, ◌∙◌}
 use Rattle.calls.specs.world.{CoreState}
 use Rattle.judge.specs.Judgements.{status_of_verdict}
 use Rattle.judge.specs.auditor.{Law, Verdict}
-use Rattle.record.specs.{Taken}
+use Rattle.model.specs.{Taken}
 use Rattle.run_state.specs.{Stands, bad_line, count_line}
 use Rattle.run_state.proofs.RecordTexts.{told_is}
 use Rattle.run_state.proofs.record_observer.RecordObserver.report.Goals as goal

@@ -1,7 +1,7 @@
 use Rattle.std.proofs.Common.{◌≡◌, Some, ap, subst, sym, ◌∙◌}
 use Rattle.std.specs.Prelude.{option_map}
 use Rattle.plain_store.specs.{Reply, Setup}
-use Rattle.record.specs.{Past, Taken, past_of}
+use Rattle.model.specs.{Past, Taken, past_of}
 use Rattle.calls.specs.world.{CoreState, InEachCorePast}
 use Rattle.calls.specs.world.process.{ProcessState, process_after}
 use Rattle.run_state.proofs.record_observer.RecordObserver.taken_by.Goals as goal

@@ -1,5 +1,5 @@
 use Rattle.std.proofs.Common.{List, ◌++◌, flat_map, ap, ◌∙◌, append_assoc}
-use Rattle.record.specs.{Taken, processes}
+use Rattle.model.specs.{Taken, processes}
 use Rattle.run_state.specs.{SnapshotState, history_lines, process_lines, register_lines}
 use Rattle.run_state.proofs.Stand.{core_shows, ok_then, taken_is}
 use Rattle.run_state.proofs.snapshot.Snapshot.print.Goals as goal

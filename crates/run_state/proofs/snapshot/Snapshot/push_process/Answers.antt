@@ -1,5 +1,5 @@
 use Rattle.std.proofs.Common.{◌≡◌, ◌<◌, Bool, true, false, cond, ◌++◌, None, Some, ap, sym, subst, ◌∙◌}
-use Rattle.record.specs.{calls_in, own, stage}
+use Rattle.model.specs.{calls_in, own, stage}
 use Rattle.run_state.specs.{ProcessKept, SnapshotState, is_resting, kept, lines_at, rest_line, running_lines}
 use Rattle.run_state.proofs.Stand.{ok_then, stage_is}
 use Rattle.run_state.proofs.snapshot.Snapshot.push_process.Goals as goal

@@ -1,6 +1,6 @@
 use Rattle.std.proofs.Common.{◌≡◌, ◌++◌, flat_map}
 use Rattle.std.specs.List.{range_with_len}
-use Rattle.record.specs.{Past}
+use Rattle.model.specs.{Past}
 use Rattle.run_state.specs.{Stands, process_lines}
 use Rattle.run_state.proofs.snapshot.Snapshot.push_processes.Given as goal
 

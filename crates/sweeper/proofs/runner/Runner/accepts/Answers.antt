@@ -1,5 +1,5 @@
 use Rattle.std.proofs.Common.{◌≡◌, List, subst}
-use Rattle.record.specs.{Event}
+use Rattle.model.specs.{Event}
 use Rattle.sweeper.specs.{Follows, RunnerState, is_accepted}
 use Rattle.sweeper.proofs.Making.{accepts_is}
 use Rattle.sweeper.proofs.runner.Runner.accepts.Goals as goal

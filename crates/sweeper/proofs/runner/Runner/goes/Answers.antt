@@ -1,6 +1,6 @@
 use Rattle.std.proofs.Common.{◌≡◌, ◌<◌, refl, sym, ap, ◌∙◌, arith}
 use Rattle.std.specs.List.{list_any, range_with_len}
-use Rattle.record.specs.declared.events.Event.TheVariants.{Step}
+use Rattle.model.specs.declared.events.Event.TheVariants.{Step}
 use Rattle.sweeper.specs.{is_accepted}
 use Rattle.sweeper.proofs.Going.{any_here, none_more}
 use Rattle.sweeper.proofs.runner.Runner.goes.Goals as goal

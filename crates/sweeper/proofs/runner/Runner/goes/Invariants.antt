@@ -1,7 +1,7 @@
 use Rattle.std.proofs.Common.{◌≡◌, false, List}
 use Rattle.std.specs.List.{list_any, range_with_len}
-use Rattle.record.specs.{Event}
-use Rattle.record.specs.declared.events.Event.TheVariants.{Step}
+use Rattle.model.specs.{Event}
+use Rattle.model.specs.declared.events.Event.TheVariants.{Step}
 use Rattle.sweeper.specs.{Follows, is_accepted}
 use Rattle.sweeper.proofs.runner.Runner.goes.Given as goal
 

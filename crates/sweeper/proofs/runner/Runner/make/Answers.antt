@@ -1,9 +1,9 @@
 use Rattle.std.proofs.Common.{◌≡◌, ◌+◌, ◌≤◌, List, ◌∷◌, true, cond, None, ap, sym, subst, ◌∙◌}
 use Rattle.plain_store.specs.{Setup}
-use Rattle.record.specs.{Event, is_call}
+use Rattle.model.specs.{Event, is_call}
 use Rattle.sweeper.specs.{Follows, RunnerState, RunsOn, due, is_accepted}
 use Rattle.sweeper.proofs.Dues.{few_made, few_seats}
-use Rattle.auditor.specs.read_law.{entry_by}
+use Rattle.auditor.specs.safe_monitor.{entry_by}
 use Rattle.sweeper.proofs.Making.{IsAnswered, IsMade, accepts_refused, follows_made, follows_refused, made_accepted, none_broken}
 use Rattle.sweeper.proofs.runner.Runner.make.Goals as goal
 use Rattle.sweeper.proofs.runner.Runner.make.Goals.{After-more-self-inside}

@@ -1,6 +1,6 @@
 use Rattle.std.proofs.Common.{◌≡◌, ◌≤◌, ◌∷◌, fold}
 use Rattle.std.specs.List.{range_with_len}
-use Rattle.record.specs.declared.events.Event.TheVariants.{Step}
+use Rattle.model.specs.declared.events.Event.TheVariants.{Step}
 use Rattle.sweeper.specs.{RunsOn, due}
 use Rattle.sweeper.proofs.runner.Runner.round.Given as goal
 

@@ -1,5 +1,5 @@
 use Rattle.std.proofs.Common.{◌≡◌, ◌≤◌, List}
-use Rattle.record.specs.{Event}
+use Rattle.model.specs.{Event}
 use Rattle.sweeper.specs.{Follows, due, goes, round}
 use Rattle.sweeper.proofs.Going.{Going}
 use Rattle.sweeper.proofs.runner.Runner.rounds.Given as goal

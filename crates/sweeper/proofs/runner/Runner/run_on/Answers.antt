@@ -1,7 +1,7 @@
 use Rattle.std.proofs.Common.{◌≡◌, ◌≤◌, List, ap, sym, subst, ◌∙◌}
 use Rattle.plain_store.specs.{Setup}
-use Rattle.record.specs.{Event}
-use Rattle.world.specs.flicks.{FlickState, flick_of}
+use Rattle.model.specs.{Event}
+use Rattle.world.specs.choices.{FlickState, flick_of}
 use Rattle.world.specs.{CoreWalks, left_in}
 use Rattle.sweeper.specs.{Follows, RunnerState, RunsBy, steps_of}
 use Rattle.sweeper.proofs.Stretches.{HasRunOn, has-run-on}

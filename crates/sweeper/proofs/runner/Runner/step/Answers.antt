@@ -1,11 +1,11 @@
 use Rattle.std.proofs.Common.{◌≡◌, List, ◌∷◌, true, map, None, Some, ap, refl, sym, subst, ◌∙◌}
 use Rattle.plain_store.specs.{Setup}
-use Rattle.record.specs.{Event, Mark, placed}
-use Rattle.record.specs.declared.events.Event.TheVariants.{Step}
+use Rattle.model.specs.{Event, Mark, placed}
+use Rattle.model.specs.declared.events.Event.TheVariants.{Step}
 use Rattle.world.specs.process.declared.told.Effect.TheVariants.{Steps}
 use Rattle.world.specs.process.{marks_told}
 use Rattle.sweeper.specs.{Follows, RunnerState, RunsOn, is_accepted}
-use Rattle.auditor.specs.read_law.{entry_by}
+use Rattle.auditor.specs.safe_monitor.{entry_by}
 use Rattle.sweeper.proofs.Making.{IsAnswered, IsMade, accepts_refused, follows_made, follows_refused, made_accepted, none_broken}
 use Rattle.sweeper.proofs.runner.Runner.step.Goals as goal
 use Rattle.sweeper.proofs.runner.Runner.step.Goals.{After-more-self-inside}

@@ -1,8 +1,8 @@
 use Rattle.std.proofs.Common.{◌≡◌, ◌∷◌, refl, sym, ap, subst, ◌∙◌, arith}
 use Rattle.plain_store.specs.{Setup}
-use Rattle.record.specs.{Event}
-use Rattle.record.specs.declared.events.Event.TheVariants.{Step}
-use Rattle.world.specs.flicks.{flick_of}
+use Rattle.model.specs.{Event}
+use Rattle.model.specs.declared.events.Event.TheVariants.{Step}
+use Rattle.world.specs.choices.{flick_of}
 use Rattle.sweeper.specs.{Follows, RunnerState, RunsBy, is_accepted, steps_of}
 use Rattle.sweeper.proofs.Going.{going_by, going_ended, going_on, going_over}
 use Rattle.sweeper.proofs.runner.Runner.walk.Goals as goal

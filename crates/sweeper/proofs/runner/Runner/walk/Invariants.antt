@@ -1,6 +1,6 @@
 use Rattle.std.proofs.Common.{◌≡◌, ◌≤◌, List, ◌∷◌}
-use Rattle.record.specs.{Event}
-use Rattle.record.specs.declared.events.Event.TheVariants.{Step}
+use Rattle.model.specs.{Event}
+use Rattle.model.specs.declared.events.Event.TheVariants.{Step}
 use Rattle.sweeper.specs.{Follows, due, is_accepted}
 use Rattle.sweeper.proofs.Going.{Going}
 use Rattle.sweeper.proofs.runner.Runner.walk.Given as goal

@@ -1,6 +1,6 @@
 use Rattle.std.proofs.Common.{◌≡◌, sym, ap, subst, ◌∙◌}
 use Rattle.laws.specs.{IsThere}
-use Rattle.record.specs.{Access, copy}
+use Rattle.model.specs.{Access, copy}
 use Rattle.process.specs.registers.reader_copies.{bit_seen}
 use Rattle.world.specs.{CoreState, InEachCorePast, copy_held}
 use Rattle.world.proofs.CoreCopies.{registers-are}

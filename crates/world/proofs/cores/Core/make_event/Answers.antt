@@ -1,5 +1,5 @@
 use Rattle.std.proofs.Common.{◌++◌, ◌∙◌, length, take, drop, slice_set, sym, ap, arith}
-use Rattle.record.specs.{process_of}
+use Rattle.model.specs.{process_of}
 use Rattle.world.specs.{CoreState, waiting_in}
 use Rattle.world.proofs.CoreCode.{HasMade, made-code, not-refused, seat-made, seated}
 use Rattle.world.proofs.CoreKeeps.{IsNext, core_in, next-at}

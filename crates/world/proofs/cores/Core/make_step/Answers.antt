@@ -1,6 +1,6 @@
 use Rattle.std.proofs.Common.{◌++◌, ◌∙◌, ap, Some, length, take, drop, refl, slice_set, sym, arith}
-use Rattle.record.specs.{Access, value_of}
-use Rattle.record.specs.declared.events.Event.TheVariants.{Step}
+use Rattle.model.specs.{Access, value_of}
+use Rattle.model.specs.declared.events.Event.TheVariants.{Step}
 use Rattle.process.specs.registers.{applied}
 use Rattle.process.specs.declared.told.Effect.TheVariants.{Steps}
 use Rattle.process.specs.{marks_on, stepped}

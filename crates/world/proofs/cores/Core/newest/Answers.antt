@@ -1,7 +1,7 @@
 use Rattle.std.proofs.Common.{◌≡◌, Some, None, sym, ap, subst, ◌∙◌}
 use Rattle.std.specs.List.{list_any}
-use Rattle.record.specs.store_image.{image_of}
-use Rattle.record.specs.{newest}
+use Rattle.model.specs.store_image.{image_of}
+use Rattle.model.specs.{newest}
 use Rattle.laws.specs.{is_inside}
 use Rattle.world.specs.{CoreState, InEachCorePast, Seat}
 use Rattle.world.proofs.CoreCopies.{registers-are}

@@ -1,9 +1,9 @@
 use Rattle.std.proofs.Common.{◌≡◌, ◌<◌, ℕ, Bool, List, ap, refl, subst, sym, ◌∙◌, arith}
 use Rattle.plain_store.specs.{Setup}
-use Rattle.record.specs.{Access, ended}
-use Rattle.record.specs.safe_bit.{Move}
-use Rattle.record.specs.safe_bit.Cell.{Cell, read_answer}
-use Rattle.record.specs.safe_bit.declared.moves.Move.TheVariants.{BeginWrite, EndWrite, BeginRead, EndRead, Settle}
+use Rattle.model.specs.{Access, ended}
+use Rattle.model.specs.safe_bit.{Move}
+use Rattle.model.specs.safe_bit.Cell.{Cell, read_answer}
+use Rattle.model.specs.safe_bit.declared.moves.Move.TheVariants.{BeginWrite, EndWrite, BeginRead, EndRead, Settle}
 use Rattle.process.specs.registers.{answered, cell_at, lane_of_access}
 use Rattle.process.specs.{ProcessState, answered_at, left_at}
 use Rattle.world.specs.{CoreAddsQuietly, CoreState}

@@ -1,8 +1,8 @@
 use Rattle.std.proofs.Common.{◌≡◌, None, Some, cond, false, true, ap, sym, subst, rules, ◌∙◌}
 use Rattle.std.specs.Prelude.{slice_get}
-use Rattle.record.specs.{Access}
-use Rattle.record.specs.declared.events.Event.TheVariants.{Step}
-use Rattle.record.specs.declared.refusals.Refusal.TheVariants.{NotRunning}
+use Rattle.model.specs.{Access}
+use Rattle.model.specs.declared.events.Event.TheVariants.{Step}
+use Rattle.model.specs.declared.refusals.Refusal.TheVariants.{NotRunning}
 use Rattle.process.specs.{answered_at}
 use Rattle.world.specs.{CoreRefuses, CoreState}
 use Rattle.world.proofs.CoreCode.{seated}

@@ -1,6 +1,6 @@
 use Rattle.std.proofs.Common.{◌≡◌, [], Some, None, refl, sym, subst, ◌∙◌, arith}
 use Rattle.std.specs.Prelude.{List, nat_lt}
-use Rattle.record.specs.{Taken}
+use Rattle.model.specs.{Taken}
 use Rattle.world.specs.{MakesQuietly, with_history}
 use Rattle.world.specs.Walks.{AddsQuietly}
 use Rattle.world.proofs.WorldWithin.{walks-one}

@@ -1,6 +1,6 @@
 use Rattle.std.proofs.Common.{Some, None, cond, sym, subst, ◌∙◌}
-use Rattle.record.specs.declared.events.Event.TheVariants.{Step}
-use Rattle.record.specs.declared.refusals.Refusal.TheVariants.{NotRunning}
+use Rattle.model.specs.declared.events.Event.TheVariants.{Step}
+use Rattle.model.specs.declared.refusals.Refusal.TheVariants.{NotRunning}
 use Rattle.world.specs.{CoreRefuses}
 use Rattle.world.proofs.CoreRefused.{refused-beyond, refused-step}
 use Rattle.world.proofs.cores.Core.step_refusal.Goals as goal

@@ -1,7 +1,7 @@
 use Rattle.std.proofs.Common.{◌≡◌, ◌<◌, List, get_or, set, length, ap, sym, ◌∙◌, arith}
 use Rattle.std.proofs.lemmas.List.{get_or-map, length-map}
 use Rattle.plain_store.specs.{Setup}
-use Rattle.record.proofs.reader_copies.Copying.{get_or-written_over, written_over-more}
+use Rattle.model.proofs.reader_copies.Copying.{get_or-written_over, written_over-more}
 use Rattle.world.specs.{Seat, seat_with}
 use Rattle.world.proofs.cores.copies.copy_seats.Goals as goal
 

@@ -1,5 +1,5 @@
 use Rattle.std.proofs.Common.{◌≡◌}
-use Rattle.record.proofs.reader_copies.Copying.{written_over}
+use Rattle.model.proofs.reader_copies.Copying.{written_over}
 use Rattle.world.proofs.cores.copies.copy_seats.Given as goal
 
 abbrev pub invariant-loop-process : goal.invariant-loop-process

@@ -1,5 +1,5 @@
 use Rattle.std.proofs.Common.{sym, ap, subst, ◌∙◌}
-use Rattle.record.specs.{ahead, past_of}
+use Rattle.model.specs.{ahead, past_of}
 use Rattle.world.specs.Shows.{Shows, WorldState}
 use Rattle.world.proofs.world.World.ahead.Goals as goal
 

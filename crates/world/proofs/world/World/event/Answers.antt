@@ -1,6 +1,6 @@
 use Rattle.std.proofs.Common.{rules, ◌≡◌, ◌∙◌, IfOk, ap, length, subst, sym}
 use Rattle.process.specs.{act_of}
-use Rattle.record.specs.{process_of}
+use Rattle.model.specs.{process_of}
 use Rattle.std.specs.Prelude.{IfErr, OnErr, OnOk}
 use Rattle.world.specs.{Adds, GoesOn, IsTurnedAway, KeepsTheHeadline, WorldState}
 use Rattle.world.proofs.world.World.event.Goals.{in-Ok, in-Err}

@@ -1,7 +1,7 @@
 use Rattle.std.proofs.Common.{◌∷◌, List, Some, ap, length, sym, subst, ◌∙◌, inl, arith}
 use Rattle.std.specs.Vec.{vec_capacity}
 use Rattle.process.specs.{act_of, marks_of}
-use Rattle.record.specs.{Taken, process_of, reply_taken}
+use Rattle.model.specs.{Taken, process_of, reply_taken}
 use Rattle.world.specs.{Adds, CoreState, GoesOn, IsRefused, IsTurnedAway, KeepsTheHeadline, KeepsWorld, call_in, with_history, with_taken}
 use Rattle.world.specs.Shows.{Shows, WorldState}
 use Rattle.world.proofs.WorldHeadline.{keeps_headline}

@@ -1,5 +1,5 @@
 use Rattle.std.proofs.Common.{sym, ap, subst, ◌∙◌}
-use Rattle.record.specs.{newest, past_of}
+use Rattle.model.specs.{newest, past_of}
 use Rattle.world.specs.Shows.{Shows, WorldState}
 use Rattle.world.proofs.world.World.newest.Goals as goal
 

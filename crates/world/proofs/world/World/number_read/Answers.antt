@@ -1,5 +1,5 @@
 use Rattle.std.proofs.Common.{sym, ap, subst, ◌∙◌}
-use Rattle.record.specs.{past_of}
+use Rattle.model.specs.{past_of}
 use Rattle.laws.specs.{doing}
 use Rattle.process.specs.{number_read}
 use Rattle.world.specs.Shows.{Shows, WorldState}

@@ -1,5 +1,5 @@
 use Rattle.std.proofs.Common.{sym, ap, subst, ◌∙◌}
-use Rattle.record.specs.{past_of}
+use Rattle.model.specs.{past_of}
 use Rattle.world.specs.{stage_in}
 use Rattle.world.specs.Shows.{Shows, WorldState}
 use Rattle.world.proofs.world.World.stage.Goals as goal

@@ -1,7 +1,7 @@
 use Rattle.std.proofs.Common.{◌≡◌, ◌∷◌, length, Some, None, sym, ap, subst, ◌∙◌}
 use Rattle.std.specs.Vec.{vec_capacity}
-use Rattle.record.specs.declared.events.Event.TheVariants.{Step}
-use Rattle.record.specs.{reply_taken}
+use Rattle.model.specs.declared.events.Event.TheVariants.{Step}
+use Rattle.model.specs.{reply_taken}
 use Rattle.process.specs.declared.told.Effect.TheVariants.{Steps}
 use Rattle.process.specs.{act_of, marks_told}
 use Rattle.world.specs.{Adds, CoreState, GoesOn, IsRefused, KeepOthers, KeepsTheHeadline, KeepsWorld, TellsOverlapped, call_in, with_history, with_taken}

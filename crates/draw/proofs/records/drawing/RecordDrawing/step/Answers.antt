@@ -1,6 +1,6 @@
 use Rattle.std.proofs.Common.{refl, subst, sym}
 use Rattle.judge.specs.record_file.{step_entry}
-use Rattle.record.specs.{Entry}
+use Rattle.model.specs.{Entry}
 use Rattle.draw.specs.{Drawing, DrawsPart, PartEntry, Recalls}
 use Rattle.draw.proofs.Written.{ok_then}
 use Rattle.draw.proofs.records.drawing.RecordDrawing.step.Goals as goal

@@ -1,8 +1,8 @@
 use Rattle.std.proofs.Common.{◌≡◌, List, [], ◌∷◌, ℕ, Option, Some, None, Ok, refl, ap, subst, ◌∙◌}
 use Rattle.std.specs.Option.{option_to_list}
-use Rattle.record.specs.plain_store.{Setup}
+use Rattle.model.specs.plain_store.{Setup}
 use Rattle.scenario.specs.files.{words_of, words_read}
-use Rattle.record.specs.{Entry, Past}
+use Rattle.model.specs.{Entry, Past}
 use Rattle.judge.specs.record_file.{Progress, cleared, entry_in, record_grammar}
 use Rattle.draw.specs.{DrawsPast, Sheet}
 use Rattle.judge.proofs.Lines.{quiet_is_cleared}

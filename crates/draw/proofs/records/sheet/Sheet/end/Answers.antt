@@ -1,5 +1,5 @@
 use Rattle.std.proofs.Common.{◌≡◌, ap, sym, subst, ◌∙◌}
-use Rattle.record.specs.plain_store.{Setup}
+use Rattle.model.specs.plain_store.{Setup}
 use Rattle.judge.specs.record_file.{Progress}
 use Rattle.draw.specs.{DrawsPast, EndsAsked}
 use Rattle.draw.proofs.Sheeted.{draws_of, same_some}

@@ -1,5 +1,5 @@
 use Rattle.std.proofs.Common.{◌≡◌, ◌∙◌, List, Option, ap, reverse, subst}
-use Rattle.record.specs.{Entry}
+use Rattle.model.specs.{Entry}
 use Rattle.draw.specs.{AreShownBy, IsDrawn, RecordDrawing, AccessView, short_view}
 use Rattle.draw.proofs.Stored.{shown_end, stored_end}
 use Rattle.draw.proofs.Written.{if_ok_all}

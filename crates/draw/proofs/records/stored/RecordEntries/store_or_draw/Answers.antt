@@ -1,6 +1,6 @@
 use Rattle.std.proofs.Common.{◌≡◌, ◌<◌, ◌≤◌, ◌∷◌, ℕ, List, Option, arith, length, reverse, subst, sym}
 use Rattle.std.proofs.lemmas.List.{length-reverse}
-use Rattle.record.specs.{Entry}
+use Rattle.model.specs.{Entry}
 use Rattle.draw.specs.{AreShownBy, IsDrawn, RecordDrawing, AccessView, long_view, most_stored}
 use Rattle.draw.proofs.Sheeted.{drawn_as_many}
 use Rattle.draw.proofs.Stored.{many_drawn, stored_on}

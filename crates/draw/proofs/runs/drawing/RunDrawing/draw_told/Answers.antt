@@ -1,5 +1,5 @@
 use Rattle.std.proofs.Common.{refl, subst, sym, ◌∙◌}
-use Rattle.course.specs.{Told, entry_made}
+use Rattle.scenario_run.specs.{Told, entry_made}
 use Rattle.draw.specs.{DrawsTold}
 use Rattle.draw.proofs.Written.{ok_then}
 use Rattle.draw.proofs.runs.drawing.RunDrawing.draw_told.Goals as goal

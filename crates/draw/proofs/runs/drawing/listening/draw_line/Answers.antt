@@ -1,7 +1,7 @@
 use Rattle.std.proofs.Common.{◌∙◌, ap, subst, sym}
-use Rattle.course.proofs.Endings.{if_err, ok_with}
-use Rattle.course.proofs.Written.{ok_then}
-use Rattle.course.specs.{CanCount, run_after}
+use Rattle.scenario_run.proofs.Endings.{if_err, ok_with}
+use Rattle.scenario_run.proofs.Written.{ok_then}
+use Rattle.scenario_run.specs.{CanCount, run_after}
 use Rattle.draw.specs.{HasDrawnRun, RunDrawing, kept, parts_of, tally}
 use Rattle.draw.proofs.RunEnds.{failures_by}
 use Rattle.draw.proofs.Turning.{run_none}

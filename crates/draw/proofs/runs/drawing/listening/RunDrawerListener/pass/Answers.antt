@@ -1,5 +1,5 @@
 use Rattle.std.proofs.Common.{ap, refl}
-use Rattle.course.proofs.Within.{within_quietly}
+use Rattle.scenario_run.proofs.Within.{within_quietly}
 use Rattle.draw.specs.{Drawing}
 use Rattle.draw.proofs.Turning.{run_passed}
 use Rattle.draw.proofs.runs.drawing.listening.RunDrawerListener.pass.Goals as goal

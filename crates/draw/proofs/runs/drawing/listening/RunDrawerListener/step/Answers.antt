@@ -1,5 +1,5 @@
 use Rattle.std.proofs.Common.{refl}
-use Rattle.course.proofs.Endings.{ok_with}
+use Rattle.scenario_run.proofs.Endings.{ok_with}
 use Rattle.draw.proofs.RunEnds.{err_whole, ok_whole}
 use Rattle.draw.proofs.Turning.{step_drawn}
 use Rattle.draw.proofs.runs.drawing.listening.RunDrawerListener.step.Goals as goal

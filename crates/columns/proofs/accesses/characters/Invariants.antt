@@ -1,7 +1,0 @@
-use Rattle.std.proofs.Common.{◌≡◌, ◌+◌, ◌≤◌, drop}
-use Rattle.columns.specs.{characters_of}
-use Rattle.columns.proofs.accesses.characters.Given as goal
-
--- the characters before the present byte, and those from there on
-abbrev pub invariant-loop-byte : goal.invariant-loop-byte
-invariant-loop-byte l = (characters_of l.text ≡ l.count + characters_of (drop l.byte-index l.text)) × (l.count ≤ l.byte-index)

@@ -1,7 +1,0 @@
-use Rattle.std.proofs.Common.{◌≡◌, drop}
-use Rattle.columns.specs.{behind_in}
-use Rattle.columns.proofs.groups.place_behind.Given as goal
-
--- the process is at the present index or after it
-abbrev pub invariant-loop-place : goal.invariant-loop-place
-invariant-loop-place l = behind_in l.process l.queue ≡ behind_in l.process (drop l.place l.queue)

@@ -1,7 +1,0 @@
-use Rattle.std.proofs.Common.{◌≡◌, take}
-use Rattle.columns.specs.{group_of, places_from}
-use Rattle.columns.proofs.groups.places_said.Given as goal
-
--- the indexes before the present one at which the list is true
-abbrev pub invariant-loop-place : goal.invariant-loop-place
-invariant-loop-place l = l.group ≡ group_of (places_from 0 (take l.place l.said))

@@ -1,5 +1,0 @@
-use Rattle.columns.proofs.Stages.{stages_are}
-use Rattle.columns.proofs.laws.stages_are_the_records.Goals as goal
-
-pub returns : goal.returns
-returns c = stages_are

@@ -1,7 +1,0 @@
-use Rattle.std.proofs.Common.{◌≡◌, ◌++◌, drop, take}
-use Rattle.columns.specs.{lined_up}
-use Rattle.columns.proofs.state.State.place_in.Given as goal
-
--- the processes before the present one are before the process
-abbrev pub invariant-loop-place : goal.invariant-loop-place
-invariant-loop-place l = lined_up l.self l.process l.queue ≡ take l.place l.queue ++ lined_up l.self l.process (drop l.place l.queue)

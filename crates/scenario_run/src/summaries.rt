@@ -1,0 +1,104 @@
+ghost use Rattle.std.specs.Prelude.{◌≡◌, ◌^◌, ◌-◌, ◌<◌, false, refl};
+ghost use Rattle.scenario.specs.files.declared.faults.Fault.TheVariants.{Memory};
+ghost use Rattle.scenario_run.specs.Summaries.{CanCount, can_count_less, counted};
+ghost use Rattle.scenario_run.specs.Writing.{Counts};
+
+use crate::listening::Listener;
+use crate::told::{Stepped, Told};
+use model::Move;
+use scenario::{DONE, Ending, Fault};
+
+/// The three numbers that a replay ends with.
+#[derive(Clone, Copy)]
+pub struct Summary {
+    /// Events that were accepted.
+    pub events: u64,
+    /// Commands that were taken.
+    pub taken: u64,
+    /// Refusals that were reported.
+    pub refused: u64,
+}
+
+impl Summary {
+    /// Returns the numbers of a run in which nothing has happened.
+    pub fn new() -> Summary
+        ensures { result ≡ record { events = 0; taken = 0; refused = 0 } }
+    {
+        Summary {
+            events: 0,
+            taken: 0,
+            refused: 0,
+        }
+    }
+
+    /// Counts a report. The commands taken are counted at the end.
+    pub fn count(&mut self, told: &Told)
+        requires events { self.old.events < 2 ^ 64 - 1 }
+        requires refused { self.old.refused < 2 ^ 64 - 1 }
+        ensures { self.new ≡ counted told.now self.old }
+    {
+        match told {
+            Told::Accepted(_) => self.events += 1,
+            Told::Refused { .. } => self.refused += 1,
+            Told::Tired(_) | Told::Shown(_) => {}
+        }
+    }
+}
+
+/// A replay that ends without a fault has the status `DONE`, whatever its numbers are.
+impl Ending for Summary {
+    ghost status_of_end = { λ _. 0 };
+
+    fn status(&self) -> u8 {
+        DONE
+    }
+}
+
+/// A summary counts what it observes. Steps without a mark may be passed to it in groups.
+impl Listener for Summary {
+    ghost hears_steps = { λ _. false };
+
+    #[inline(always)]
+    fn hears_steps(&self) -> bool {
+        false
+    }
+
+    fn events(&self) -> u64 {
+        self.events
+    }
+
+    ghost HasRoom = { λ summary more. CanCount summary more };
+
+    ghost Hears = { λ a s x y b. Counts s x a → Counts s y b };
+
+    ghost Stops = { λ a s x y fault b. fault ≡ Memory };
+
+    #[tactic(auto, using(crate::proofs::Counting::counts_heard))]
+    fn hear(&mut self, told: &Told) -> Result<(), Fault> {
+        self.count(told);
+        Ok(())
+    }
+
+    #[tactic(auto, using(crate::proofs::Counting::counts_stepped))]
+    fn step(&mut self, _made: Stepped) -> Result<(), Fault> {
+        self.events += 1;
+        Ok(())
+    }
+
+    #[tactic(auto, using(crate::proofs::Counting::counts_passed))]
+    fn pass(&mut self, _process: u8, steps: u32, _newest: Move, _overlapped: u32) {
+        self.events += u64::from(steps);
+    }
+
+    ghost room_less = { λ a n k. can_count_less a n k };
+
+    ghost hears_nothing = { λ a s x counts. counts };
+
+    ghost hears_on = { λ a b c s x y z p q counts. q (p counts) };
+
+    ghost stops_unheard = { λ a s x. refl };
+
+    ghost stops_before = { λ a b s x y more fault p. p };
+
+    ghost stops_on = { λ a b c s x y z fault p q. q };
+}
