@@ -15,7 +15,7 @@ use Rattle.safe_monitor.specs.declared.verdicts.Verdict.TheVariants.{Good, Bad}
 use Rattle.any_lock.proofs.Breaks.{none_else, none_if, process_there, unbroken, unrefused}
 use Rattle.lock_stages.proofs.Entering.{none_ahead, none_inside}
 use Rattle.lock_stages.proofs.Lowest.{unsome}
-use Rattle.any_lock.proofs.Told.{found_good}
+use Rattle.any_lock.proofs.Reported.{found_good}
 
 -- The properties of an entry that breaks no law.
 pub record Keeps (s : Setup) (past : Past) (e : Entry) : Type 0 where
@@ -133,7 +133,7 @@ same_is (reply.Value x) (reply.Value y) h = ap reply.Value ((same_value-Decides 
 same_is reply.Done reply.Done h = refl
 same_is (reply.Sum m) (reply.Sum n) h = ap reply.Sum ((Decides-int_eq m n).0 h)
 same_is reply.Swapped reply.Swapped h = refl
-same_is (reply.Kept x) (reply.Kept y) h = ap reply.Kept ((same_value-Decides x y).0 h)
+same_is (reply.LockRun x) (reply.LockRun y) h = ap reply.LockRun ((same_value-Decides x y).0 h)
 same_is reply.NoName reply.NoName h = refl
 same_is reply.NotCounter reply.NotCounter h = refl
 same_is reply.Overflow reply.Overflow h = refl

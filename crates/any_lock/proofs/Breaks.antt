@@ -7,7 +7,7 @@ use Rattle.model.specs.safe_bit.declared.Move.TheVariants as move
 use Rattle.plain_store.specs.{Setup}
 use Rattle.model.specs.{Access, Entry, Past, begins_read, moves_of, opening_bit, width}
 use Rattle.safe_monitor.specs.{IsOfThere, KeepsSafe, MatchBool}
-use Rattle.any_lock.specs.{AccessRefusal, access_refusal, breaks_access, breaks_history, breaks_marks, breaks_overtaken, breaks_safe, breaks_together, broken_inside, broken_later, ends_wrongly, first_broken, first_that, is_there, refusal_of_access, refusal_of_marks, same_truth, standing}
+use Rattle.any_lock.specs.{AccessRefusal, access_refusal, breaks_access, breaks_history, breaks_marks, breaks_overtaken, breaks_safe, breaks_together, broken_inside, broken_later, ends_wrongly, first_broken, first_that, is_there, refusal_of_access, refusal_of_marks, same_truth, process_view}
 use Rattle.lock_stages.proofs.Lowest.{unsome}
 use Rattle.any_lock.specs.declared.refusals.AccessRefusal.TheVariants as access
 use Rattle.any_lock.specs.declared.any_lock_law.AnyLockLaw.TheVariants as law
@@ -50,7 +50,7 @@ process_there s past e none = ltb-true e.process s.processes (not_false (nat_lt 
 -- an access that is not refused is to an existing bit
 pub access_there : (s : Setup) (past : Past) (e : Entry) → refusal_of_access s past e ≡ None → IsOfThere s e
 access_there s past e none a is =
-    let h : access_refusal s e.process (standing s e.process past) a ≡ None = subst (λ (o : Option Access). refusal_of_access s past (record { process = e.process; access = o; marks = e.marks }) ≡ None) is none in
+    let h : access_refusal s e.process (process_view s e.process past) a ≡ None = subst (λ (o : Option Access). refusal_of_access s past (record { process = e.process; access = o; marks = e.marks }) ≡ None) is none in
     let here : not (is_there s a) ≡ false = none_if (not (is_there s a)) access.NoBit _ (none_else (not (nat_lt e.process s.processes)) access.NoProcess _ h) in
     let parts = and_parts (nat_lt a.owner s.processes && nat_lt a.reader s.processes) (nat_lt a.bit (width s a.field)) (not_false (is_there s a) here) in
     let both = and_parts (nat_lt a.owner s.processes) (nat_lt a.reader s.processes) parts.0 in
@@ -105,9 +105,9 @@ broken_by s past e keeps = by e.access refl
     by (Some a) acc = ends a acc a.how refl
 
 -- by the result of a monitor
-pub told_by : (s : Setup) (past : Past) (e : Entry) (kept : Bool) → MatchBool kept (KeepsSafe s past e) (KeepsSafe s past e → ⊥) → breaks_safe s past e ≡ not kept
-told_by s past e true keeps = broken_by s past e keeps
-told_by s past e false breaks = go (breaks_safe s past e) refl
+pub reported_by : (s : Setup) (past : Past) (e : Entry) (kept : Bool) → MatchBool kept (KeepsSafe s past e) (KeepsSafe s past e → ⊥) → breaks_safe s past e ≡ not kept
+reported_by s past e true keeps = broken_by s past e keeps
+reported_by s past e false breaks = go (breaks_safe s past e) refl
   where
     go : (b : Bool) → breaks_safe s past e ≡ b → breaks_safe s past e ≡ true
     go true h = h

@@ -6,12 +6,12 @@ use Rattle.plain_store.specs.{Answer, Setup}
 use Rattle.model.specs.{Access, AnswersNoCutCall, Entry, Mark, Past, Stage, has, is_called, is_failed, is_waiting_stage, own, since, stage_after}
 use Rattle.model.specs.declared.marks.Mark.TheVariants as mark
 use Rattle.model.specs.declared.stages.Stage.TheVariants as stage
-use Rattle.any_lock.specs.{MarkRefusal, Standing, accessed_by, has_nothing, has_one_mark, is_down, is_in_doorway, is_leaving, is_running, is_settling, its_call, mark_refusal, marked, marked_all, refusal_of_marks, refusal_on, standing, stands_alone}
+use Rattle.any_lock.specs.{MarkRefusal, ProcessView, accessed_by, has_nothing, has_one_mark, is_down, is_in_doorway, is_leaving, is_running, is_settling, its_call, mark_refusal, marked, marked_all, refusal_of_marks, refusal_on, process_view, stands_alone}
 use Rattle.any_lock.specs.declared.refusals.MarkRefusal.TheVariants as refusal
 use Rattle.any_lock.proofs.Alone.{AllKeep, Keeps, not_not}
 use Rattle.any_lock.proofs.Breaks.{none_else, none_if}
 use Rattle.any_lock.proofs.Markings.{no_failure, none_of, or_false, or_left, or_right, since-mine, with_marks}
-use Rattle.any_lock.proofs.Steps.{own-mine, standing-other}
+use Rattle.any_lock.proofs.Steps.{own-mine, process_view-other}
 use Rattle.any_lock.proofs.Whole.{one_alone, refusal_or, refused, stands_whole}
 
 -- Entries whose marks are not refused.
@@ -28,18 +28,18 @@ orderly s past p o ms none = record {
 }
 
 pub unrefused_on : (s : Setup) (past : Past) (p : ℕ) (o : Option Access) (ms : List Mark) → refusal_of_marks s past (with_marks p o ms) ≡ None →
-    refusal_on s (length past) (accessed_by (length past) (standing s p past) o) ms ≡ None
+    refusal_on s (length past) (accessed_by (length past) (process_view s p past) o) ms ≡ None
 unrefused_on s past p o ms none = let fine = orderly s past p o ms none in sym (refused s p past o ms fine.something fine.apart) ∙ none
 
 -- the refusals of the first mark, and of the marks after it
-pub first_unrefused : (s : Setup) (n : ℕ) (k : Standing) (m : Mark) (ms : List Mark) → refusal_on s n k (m ∷ ms) ≡ None → mark_refusal k m ≡ None
+pub first_unrefused : (s : Setup) (n : ℕ) (k : ProcessView) (m : Mark) (ms : List Mark) → refusal_on s n k (m ∷ ms) ≡ None → mark_refusal k m ≡ None
 first_unrefused s n k m ms none = go (mark_refusal k m) refl
   where
     go : (r : Option MarkRefusal) → mark_refusal k m ≡ r → mark_refusal k m ≡ None
     go None h = h
     go (Some r) h = absurd (let both : Some r ≡ None = ap (λ x. refusal_or x (refusal_on s n (marked s n k m) ms)) (sym h) ∙ none in cc)
 
-pub rest_unrefused : (s : Setup) (n : ℕ) (k : Standing) (m : Mark) (ms : List Mark) → refusal_on s n k (m ∷ ms) ≡ None → refusal_on s n (marked s n k m) ms ≡ None
+pub rest_unrefused : (s : Setup) (n : ℕ) (k : ProcessView) (m : Mark) (ms : List Mark) → refusal_on s n k (m ∷ ms) ≡ None → refusal_on s n (marked s n k m) ms ≡ None
 rest_unrefused s n k m ms none = ap (λ x. refusal_or x (refusal_on s n (marked s n k m) ms)) (sym (first_unrefused s n k m ms none)) ∙ none
 
 -- The invariant of the state of a process, and of whether its call was cut.
@@ -63,7 +63,7 @@ cut_after cut (mark.Called c) = false
 cut_after cut mark.Failed = true
 cut_after cut _ = cut
 
-pub record IsSound (k : Standing) (is_cut : Bool) : Type 0 where
+pub record IsSound (k : ProcessView) (is_cut : Bool) : Type 0 where
   pub inside : k.passage.inside ≡ true → holds k.stage ≡ true
   pub cut : is_cut ≡ true → rests k.stage ≡ true
 
@@ -94,7 +94,7 @@ clash : (b : Bool) → b ≡ true → b ≡ false → ⊥
 clash b t f = true≢false (sym t ∙ f)
 
 -- each mark that is not refused keeps the invariant
-pub sound_marked : (s : Setup) (n : ℕ) (k : Standing) (m : Mark) (cut : Bool) → mark_refusal k m ≡ None → IsSound k cut → IsSound (marked s n k m) (cut_after cut m)
+pub sound_marked : (s : Setup) (n : ℕ) (k : ProcessView) (m : Mark) (cut : Bool) → mark_refusal k m ≡ None → IsSound k cut → IsSound (marked s n k m) (cut_after cut m)
 sound_marked s n k (mark.Called c) cut none sound =
     let rest = none_else (is_running k.stage) refusal.Busy _ none in
     record {
@@ -133,11 +133,11 @@ sound_marked s n k mark.Restarted cut none sound =
     let is : k.stage ≡ stage.Down = is_downs k.stage (not_not (is_down k.stage) (none_if (not (is_down k.stage)) refusal.NotDown _ none)) in
     record { inside = λ i. absurd (clash (holds k.stage) (sound.inside i) (ap holds is)); cut = λ h. refl }
 
-pub sound_accessed : (n : ℕ) (k : Standing) (o : Option Access) (cut : Bool) → IsSound k cut → IsSound (accessed_by n k o) cut
+pub sound_accessed : (n : ℕ) (k : ProcessView) (o : Option Access) (cut : Bool) → IsSound k cut → IsSound (accessed_by n k o) cut
 sound_accessed n k None cut sound = sound
 sound_accessed n k (Some a) cut sound = record { inside = sound.inside; cut = sound.cut }
 
-sound_all : (s : Setup) (n : ℕ) (ms : List Mark) (k : Standing) (cut : Bool) → refusal_on s n k ms ≡ None → IsSound k cut → IsSound (marked_all s n k ms) (fold cut_after cut ms)
+sound_all : (s : Setup) (n : ℕ) (ms : List Mark) (k : ProcessView) (cut : Bool) → refusal_on s n k ms ≡ None → IsSound k cut → IsSound (marked_all s n k ms) (fold cut_after cut ms)
 sound_all s n [] k cut none sound = sound
 sound_all s n (m ∷ ms) k cut none sound = sound_all s n ms (marked s n k m) (cut_after cut m) (rest_unrefused s n k m ms none) (sound_marked s n k m cut (first_unrefused s n k m ms none) sound)
 
@@ -177,29 +177,29 @@ cut_on p past o ms fine = go (list_any stands_alone ms) refl
 pub own-other : (q : ℕ) (e : Entry) (past : Past) → e.process ≢ q → own q (e ∷ past) ≡ own q past
 own-other q e past h = ap (λ b. cond b (e ∷ own q past) (own q past)) (ne_eqb e.process q h)
 
-pub all_sound : (s : Setup) (past : Past) → AllKeep s past → (p : ℕ) → IsSound (standing s p past) (is_cut p past)
+pub all_sound : (s : Setup) (past : Past) → AllKeep s past → (p : ℕ) → IsSound (process_view s p past) (is_cut p past)
 all_sound s [] all p = record { inside = λ i. absurd (true≢false (sym i)); cut = λ h. refl }
 all_sound s (e ∷ past) all p = go (cases_eq e.process p) (all_sound s past all.1 p)
   where
-    mine : IsSound (standing s e.process past) (is_cut e.process past) → IsSound (standing s e.process (e ∷ past)) (is_cut e.process (e ∷ past))
+    mine : IsSound (process_view s e.process past) (is_cut e.process past) → IsSound (process_view s e.process (e ∷ past)) (is_cut e.process (e ∷ past))
     mine before =
         let fine = orderly s past e.process e.access e.marks all.0.marks in
         let none = unrefused_on s past e.process e.access e.marks all.0.marks in
         subst (λ k. IsSound k (is_cut e.process (e ∷ past))) (stands_whole s e.process past e.access e.marks fine.apart none)
-        (subst (λ b. IsSound (marked_all s (length past) (accessed_by (length past) (standing s e.process past) e.access) e.marks) b) (sym (cut_on e.process past e.access e.marks fine))
-        (sound_all s (length past) e.marks (accessed_by (length past) (standing s e.process past) e.access) (is_cut e.process past) none
-        (sound_accessed (length past) (standing s e.process past) e.access (is_cut e.process past) before)))
+        (subst (λ b. IsSound (marked_all s (length past) (accessed_by (length past) (process_view s e.process past) e.access) e.marks) b) (sym (cut_on e.process past e.access e.marks fine))
+        (sound_all s (length past) e.marks (accessed_by (length past) (process_view s e.process past) e.access) (is_cut e.process past) none
+        (sound_accessed (length past) (process_view s e.process past) e.access (is_cut e.process past) before)))
 
-    go : (e.process ≡ p) ⊎ (e.process ≢ p) → IsSound (standing s p past) (is_cut p past) → IsSound (standing s p (e ∷ past)) (is_cut p (e ∷ past))
-    go (inl same) before = subst (λ q. IsSound (standing s q (e ∷ past)) (is_cut q (e ∷ past))) same (mine (subst (λ q. IsSound (standing s q past) (is_cut q past)) (sym same) before))
+    go : (e.process ≡ p) ⊎ (e.process ≢ p) → IsSound (process_view s p past) (is_cut p past) → IsSound (process_view s p (e ∷ past)) (is_cut p (e ∷ past))
+    go (inl same) before = subst (λ q. IsSound (process_view s q (e ∷ past)) (is_cut q (e ∷ past))) same (mine (subst (λ q. IsSound (process_view s q past) (is_cut q past)) (sym same) before))
     go (inr apart) before =
-        subst (λ k. IsSound k (is_cut p (e ∷ past))) (sym (standing-other s p e past (ne_eqb e.process p apart)))
-        (subst (λ b. IsSound (standing s p past) b) (sym (ap (λ l. list_any (has is_failed) (since is_called l)) (own-other p e past apart))) before)
+        subst (λ k. IsSound k (is_cut p (e ∷ past))) (sym (process_view-other s p e past (ne_eqb e.process p apart)))
+        (subst (λ b. IsSound (process_view s p past) b) (sym (ap (λ l. list_any (has is_failed) (since is_called l)) (own-other p e past apart))) before)
 
 -- A call that is answered.
 
 -- a call that is answered was not cut
-answered_at : (s : Setup) (n : ℕ) (ms : List Mark) (k : Standing) (cut : Bool) (i : ℕ) (a : Answer) → refusal_on s n k ms ≡ None → IsSound k cut → list_any stands_alone ms ≡ false →
+answered_at : (s : Setup) (n : ℕ) (ms : List Mark) (k : ProcessView) (cut : Bool) (i : ℕ) (a : Answer) → refusal_on s n k ms ≡ None → IsSound k cut → list_any stands_alone ms ≡ false →
     i < length ms → get_or ms i (mark.Answered a) ≡ mark.Answered a → cut ≡ false
 answered_at s n [] k cut i a none sound plain within is = absurd (omega arith)
 answered_at s n (m ∷ ms) k cut zero a none sound plain within is =
@@ -233,8 +233,8 @@ answered_plain o p ms i a fine within is = go (list_any stands_alone ms) refl
 pub answers_no_cut_call : (s : Setup) (past : Past) (e : Entry) → AllKeep s past → Keeps s past e → AnswersNoCutCall past e
 answers_no_cut_call s past e all kept a among =
     let fine = orderly s past e.process e.access e.marks kept.marks in
-    answered_at s (length past) e.marks (accessed_by (length past) (standing s e.process past) e.access) (is_cut e.process past) among.0 a
+    answered_at s (length past) e.marks (accessed_by (length past) (process_view s e.process past) e.access) (is_cut e.process past) among.0 a
     (unrefused_on s past e.process e.access e.marks kept.marks)
-    (sound_accessed (length past) (standing s e.process past) e.access (is_cut e.process past) (all_sound s past all e.process))
+    (sound_accessed (length past) (process_view s e.process past) e.access (is_cut e.process past) (all_sound s past all e.process))
     (answered_plain e.access e.process e.marks among.0 a fine among.1 among.2)
     among.1 among.2

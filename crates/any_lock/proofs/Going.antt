@@ -8,22 +8,22 @@ use Rattle.std.proofs.lemmas.List.Sums.{fold-append}
 use Rattle.plain_store.specs.{Reply, Setup, after, opening_store}
 use Rattle.model.specs.{Entry, Mark, Past, Taken, history, last_call, own, reply_taken, store_after, takings}
 use Rattle.model.specs.declared.marks.Mark.TheVariants as mark
-use Rattle.any_lock.specs.{KeptState, Knows, Standing, is_taken, is_taken_as, is_that, standing}
-use Rattle.any_lock.proofs.Steps.{standing-other}
+use Rattle.any_lock.specs.{LockRunState, Knows, ProcessView, is_taken, is_taken_as, is_that, process_view}
+use Rattle.any_lock.proofs.Steps.{process_view-other}
 
 -- an item of a list that was set
-slice_get-set_same : (xs : List Standing) (i : ℕ) (x : Standing) → i < length xs → slice_get (slice_set xs i x) i ≡ Some x
+slice_get-set_same : (xs : List ProcessView) (i : ℕ) (x : ProcessView) → i < length xs → slice_get (slice_set xs i x) i ≡ Some x
 slice_get-set_same xs i x within =
     slice_get-get_or (slice_set xs i x) i x (subst (λ n. i < n) (sym (length-set xs i x)) within) ∙ ap Some (get_or-set_same xs i x x within)
 
-slice_get-set_other : (xs : List Standing) (i j : ℕ) (x : Standing) → j ≢ i → slice_get (slice_set xs i x) j ≡ slice_get xs j
+slice_get-set_other : (xs : List ProcessView) (i j : ℕ) (x : ProcessView) → j ≢ i → slice_get (slice_set xs i x) j ≡ slice_get xs j
 slice_get-set_other xs i j x apart = elim (cases_lt j (length xs)) [
   | inl within ↦ slice_get-get_or (slice_set xs i x) j x (subst (λ n. j < n) (sym (length-set xs i x)) within)
       ∙ ap Some (get_or-set_other xs i j x x apart) ∙ sym (slice_get-get_or xs j x within)
   | inr past ↦ slice_get_past (slice_set xs i x) j (subst (λ n. n ≤ j) (sym (length-set xs i x)) past) ∙ sym (slice_get_past xs j past)
 ]
 
-pub slice_get-replicate : (n i : ℕ) (x : Standing) → i < n → slice_get (replicate n x) i ≡ Some x
+pub slice_get-replicate : (n i : ℕ) (x : ProcessView) → i < n → slice_get (replicate n x) i ≡ Some x
 slice_get-replicate n i x within = slice_get-get_or (replicate n x) i x (subst (λ m. i < m) (sym (length-replicate n x)) within) ∙ ap Some (get_or-replicate n i x x within)
 
 -- Marks that take a command.
@@ -54,38 +54,38 @@ pub history_with : (s : Setup) (past : Past) (e : Entry) → (o : Option Reply) 
 history_with s past e o h = ap (λ x. elim x as (λ _. List Taken) [ None ↦ history s past | Some r ↦ history s past ++ taken_now s e.process past r ∷ [] ]) h
 
 -- the kept state after an entry that takes nothing, or takes the command of its process
-abbrev pub kept_with : KeptState → ℕ → Standing → Standing → Bool → KeptState
+abbrev pub kept_with : LockRunState → ℕ → ProcessView → ProcessView → Bool → LockRunState
 kept_with k p before then takes = record {
   setup = k.setup;
-  standings = slice_set k.standings p then;
+  process_views = slice_set k.process_views p then;
   store = cond takes (after k.store before.command (record { process = p; number = before.number })) k.store;
   taken = cond takes (k.taken + 1) k.taken;
   entries = k.entries + 1;
 }
 
-pub knows_on : (k : KeptState) (past : Past) (e : Entry) (before then : Standing) (takes : Bool) → e.process < k.setup.processes →
-    slice_get k.standings e.process ≡ Some before → list_any is_taken e.marks ≡ takes → then ≡ standing k.setup e.process (e ∷ past) → Knows k past →
+pub knows_on : (k : LockRunState) (past : Past) (e : Entry) (before then : ProcessView) (takes : Bool) → e.process < k.setup.processes →
+    slice_get k.process_views e.process ≡ Some before → list_any is_taken e.marks ≡ takes → then ≡ process_view k.setup e.process (e ∷ past) → Knows k past →
     Knows (kept_with k e.process before then takes) (e ∷ past)
-knows_on k past e before then takes below there is stands knows = by takes is (reply_taken e.marks) refl
+knows_on k past e before then takes below there is view_of knows = by takes is (reply_taken e.marks) refl
   where
     s : Setup
     s = k.setup
 
-    was : before ≡ standing s e.process past
-    was = let both : Some before ≡ Some (standing s e.process past) = sym there ∙ knows.standings e.process below in cc
+    was : before ≡ process_view s e.process past
+    was = let both : Some before ≡ Some (process_view s e.process past) = sym there ∙ knows.process_views e.process below in cc
 
-    each : (q : ℕ) → q < s.processes → slice_get (slice_set k.standings e.process then) q ≡ Some (standing s q (e ∷ past))
+    each : (q : ℕ) → q < s.processes → slice_get (slice_set k.process_views e.process then) q ≡ Some (process_view s q (e ∷ past))
     each q inside = elim (cases_eq q e.process) [
-      | inl same ↦ ap (slice_get (slice_set k.standings e.process then)) same ∙ slice_get-set_same k.standings e.process then (slice_get_within k.standings e.process before there)
-          ∙ ap Some (stands ∙ ap (λ n. standing s n (e ∷ past)) (sym same))
-      | inr apart ↦ slice_get-set_other k.standings e.process q then apart ∙ knows.standings q inside
-          ∙ ap Some (sym (standing-other s q e past (ne_eqb e.process q (λ h. apart (sym h)))))
+      | inl same ↦ ap (slice_get (slice_set k.process_views e.process then)) same ∙ slice_get-set_same k.process_views e.process then (slice_get_within k.process_views e.process before there)
+          ∙ ap Some (view_of ∙ ap (λ n. process_view s n (e ∷ past)) (sym same))
+      | inr apart ↦ slice_get-set_other k.process_views e.process q then apart ∙ knows.process_views q inside
+          ∙ ap Some (sym (process_view-other s q e past (ne_eqb e.process q (λ h. apart (sym h)))))
     ]
 
     by : (b : Bool) → list_any is_taken e.marks ≡ b → (o : Option Reply) → reply_taken e.marks ≡ o → Knows (kept_with k e.process before then b) (e ∷ past)
     by true any None h = absurd (true≢false (sym any ∙ taken_reply e.marks ∙ ap is_some h))
     by true any (Some r) h = record {
-      standings = each;
+      process_views = each;
       store =
           ap (λ x. after x before.command (record { process = e.process; number = before.number })) knows.store
           ∙ ap (λ m. after (store_after s (history s past)) m.command (record { process = e.process; number = m.number })) was
@@ -95,12 +95,12 @@ knows_on k past e before then takes below there is stands knows = by takes is (r
       entries = ap (λ n. n + 1) knows.entries ∙ add-one (length past);
     }
     by false any None h = record {
-      standings = each;
+      process_views = each;
       store = knows.store ∙ ap (store_after s) (sym (history_with s past e None h));
       taken = knows.taken ∙ ap (λ (l : List Taken). length l) (sym (history_with s past e None h));
       entries = ap (λ n. n + 1) knows.entries ∙ add-one (length past);
     }
     by false any (Some r) h = absurd (true≢false (sym (ap is_some h) ∙ sym (taken_reply e.marks) ∙ any))
 
-pub kept_by_fields : (a b : KeptState) → a.setup ≡ b.setup → a.standings ≡ b.standings → a.store ≡ b.store → a.taken ≡ b.taken → a.entries ≡ b.entries → a ≡ b
-kept_by_fields a b setup standings store taken entries = λ i. record { setup = setup i; standings = standings i; store = store i; taken = taken i; entries = entries i }
+pub kept_by_fields : (a b : LockRunState) → a.setup ≡ b.setup → a.process_views ≡ b.process_views → a.store ≡ b.store → a.taken ≡ b.taken → a.entries ≡ b.entries → a ≡ b
+kept_by_fields a b setup process_views store taken entries = λ i. record { setup = setup i; process_views = process_views i; store = store i; taken = taken i; entries = entries i }

@@ -9,7 +9,7 @@ pub mod Going
 pub mod Unmarked
 pub mod StandsThere
 pub mod Rooms
-pub mod Told
+pub mod Reported
 pub mod Alone
 pub mod Cuts
 pub mod Headlines

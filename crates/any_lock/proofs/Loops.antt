@@ -3,7 +3,7 @@ use Rattle.std.proofs.Common.{◌≡◌, ℕ, suc, ◌+◌, ◌<◌, ◌≤◌, 
 use Rattle.std.proofs.lemmas.List.{drop_all}
 use Rattle.plain_store.specs.{Setup}
 use Rattle.model.specs.{Mark}
-use Rattle.any_lock.specs.{MarkRefusal, Standing, first_that, mark_refusal, marked, refusal_on}
+use Rattle.any_lock.specs.{MarkRefusal, ProcessView, first_that, mark_refusal, marked, refusal_on}
 
 -- the rest of a list is its first item, followed by a shorter rest
 pub dropped_more : {A : Type 0} (xs : List A) (i : ℕ) (x : A) → i < length xs → x ≡ get_or xs i x → drop i xs ≡ x ∷ drop (i + 1) xs
@@ -14,10 +14,10 @@ pub dropped_all : {A : Type 0} (xs : List A) (i : ℕ) → length xs ≤ i → d
 dropped_all xs i past = drop_all i xs past
 
 -- the refusal of the first mark, or of a later one
-pub refused_here : (s : Setup) (entry : ℕ) (k : Standing) (m : Mark) (marks : List Mark) (r : MarkRefusal) → mark_refusal k m ≡ Some r → refusal_on s entry k (m ∷ marks) ≡ Some r
+pub refused_here : (s : Setup) (entry : ℕ) (k : ProcessView) (m : Mark) (marks : List Mark) (r : MarkRefusal) → mark_refusal k m ≡ Some r → refusal_on s entry k (m ∷ marks) ≡ Some r
 refused_here s entry k m marks r h = ap (λ o. elim o as (λ _. Option MarkRefusal) [ Some q ↦ Some q | None ↦ refusal_on s entry (marked s entry k m) marks ]) h
 
-pub refused_later : (s : Setup) (entry : ℕ) (k : Standing) (m : Mark) (marks : List Mark) → mark_refusal k m ≡ None → refusal_on s entry k (m ∷ marks) ≡ refusal_on s entry (marked s entry k m) marks
+pub refused_later : (s : Setup) (entry : ℕ) (k : ProcessView) (m : Mark) (marks : List Mark) → mark_refusal k m ≡ None → refusal_on s entry k (m ∷ marks) ≡ refusal_on s entry (marked s entry k m) marks
 refused_later s entry k m marks h = ap (λ o. elim o as (λ _. Option MarkRefusal) [ Some q ↦ Some q | None ↦ refusal_on s entry (marked s entry k m) marks ]) h
 
 -- the first of two tables that refuses

@@ -8,9 +8,9 @@ use Rattle.model.specs.{Access, Entry, Mark, Past, Stage, call_number, called_in
 use Rattle.model.specs.declared.marks.Mark.TheVariants as mark
 use Rattle.model.specs.declared.stages.Stage.TheVariants as stages
 use Rattle.lock_stages.specs.{with_call, with_enter, with_wait, without_wait}
-use Rattle.any_lock.specs.{Passage, Standing, begun_by, first_that, has_access, is_withdrawal, left_open, mark_refusal, marked, opened, passage_in, reply_in, standing, stands_alone}
+use Rattle.any_lock.specs.{Passage, ProcessView, begun_by, first_that, has_access, is_withdrawal, left_open, mark_refusal, marked, opened, passage_in, reply_in, process_view, stands_alone}
 use Rattle.any_lock.specs.declared.refusals.MarkRefusal.TheVariants as refusal
-use Rattle.any_lock.proofs.Steps.{first_none, if_there, inside-mine, number-called, number-mine, opened-mine, own-mine, passage_by, stage-mine, standing_by, torn-mine}
+use Rattle.any_lock.proofs.Steps.{first_none, if_there, inside-mine, number-called, number-mine, opened-mine, own-mine, passage_by, stage-mine, view_by, torn-mine}
 
 -- Marks that need not be alone.
 
@@ -162,7 +162,7 @@ moved_on n at t m = record t {
   enters = first_of t.enters (if_there (is_entered m) n);
 }
 
-abbrev pub moved : ℕ → Standing → Mark → Standing
+abbrev pub moved : ℕ → ProcessView → Mark → ProcessView
 moved n k m = record k {
   stage = stage_after k.stage m;
   reply = reply_by k.reply m;
@@ -186,9 +186,9 @@ module _ (s : Setup) (p : ℕ) (o : Option Access) (ms : List Mark) (m : Mark) (
       (numbered-more p is_entered o ms m past plain is)
 
   moved_to : reply_in (since is_called (own p (with_marks p o (ms ++ m ∷ []) ∷ past))) ≡ reply_by (reply_in (since is_called (own p (with_marks p o ms ∷ past)))) m →
-      standing s p (with_marks p o (ms ++ m ∷ []) ∷ past) ≡ moved (length past) (standing s p (with_marks p o ms ∷ past)) m
+      process_view s p (with_marks p o (ms ++ m ∷ []) ∷ past) ≡ moved (length past) (process_view s p (with_marks p o ms ∷ past)) m
   moved_to reply =
-      standing_by (standing s p (with_marks p o (ms ++ m ∷ []) ∷ past)) (moved (length past) (standing s p (with_marks p o ms ∷ past)) m)
+      view_by (process_view s p (with_marks p o (ms ++ m ∷ []) ∷ past)) (moved (length past) (process_view s p (with_marks p o ms ∷ past)) m)
       stage_to
       (withdrawn-plain p o (ms ++ m ∷ []) past (plain-more ms m plain is) ∙ sym (withdrawn-plain p o ms past plain))
       (number-plain s p o (ms ++ m ∷ []) past (plain-more ms m plain is) ∙ sym (number-plain s p o ms past plain))
@@ -202,7 +202,7 @@ module _ (s : Setup) (p : ℕ) (o : Option Access) (ms : List Mark) (m : Mark) (
       passage_to
 
 -- A mark that is not refused.
-pub untaken : (k : Standing) (n : ℕ) (r : Reply) → mark_refusal k (mark.Taken n r) ≡ None → k.reply ≡ None
+pub untaken : (k : ProcessView) (n : ℕ) (r : Reply) → mark_refusal k (mark.Taken n r) ≡ None → k.reply ≡ None
 untaken k n r h = by k.passage.inside k.reply h
   where
     by : (i : Bool) (o : Option Reply) → first_that ((not i, refusal.NotInside) ∷ (is_some o, refusal.TakenBefore) ∷ []) ≡ None → o ≡ None
@@ -211,18 +211,18 @@ untaken k n r h = by k.passage.inside k.reply h
     by false o h = cc
 
 -- a process that leaves does not wait
-waits-left : (at : Stage) → is_waiting_stage (stage_after at mark.Left) ≡ false
-waits-left stages.Settling = refl
-waits-left _ = refl
+waits-remaining : (at : Stage) → is_waiting_stage (stage_after at mark.Left) ≡ false
+waits-remaining stages.Settling = refl
+waits-remaining _ = refl
 
 -- the state of p after that mark
-pub standing-marked : (s : Setup) (p : ℕ) (o : Option Access) (ms : List Mark) (m : Mark) (past : Past) → ArePlain ms → stands_alone m ≡ false →
-    mark_refusal (standing s p (with_marks p o ms ∷ past)) m ≡ None →
-    standing s p (with_marks p o (ms ++ m ∷ []) ∷ past) ≡ marked s (length past) (standing s p (with_marks p o ms ∷ past)) m
-standing-marked s p o ms m past plain is allowed = by m is allowed
+pub process_view-marked : (s : Setup) (p : ℕ) (o : Option Access) (ms : List Mark) (m : Mark) (past : Past) → ArePlain ms → stands_alone m ≡ false →
+    mark_refusal (process_view s p (with_marks p o ms ∷ past)) m ≡ None →
+    process_view s p (with_marks p o (ms ++ m ∷ []) ∷ past) ≡ marked s (length past) (process_view s p (with_marks p o ms ∷ past)) m
+process_view-marked s p o ms m past plain is allowed = by m is allowed
   where
-    k : Standing
-    k = standing s p (with_marks p o ms ∷ past)
+    k : ProcessView
+    k = process_view s p (with_marks p o ms ∷ past)
 
     t : Passage
     t = passage_in (with_marks p o ms ∷ past) p
@@ -231,7 +231,7 @@ standing-marked s p o ms m past plain is allowed = by m is allowed
     same : (then : Passage) → then.waits ≡ t.waits → then.enters ≡ t.enters → record then { waits = first_of t.waits None; enters = first_of t.enters None } ≡ then
     same then waits enters = passage_by (record then { waits = first_of t.waits None; enters = first_of t.enters None }) then refl refl refl (first_none t.waits ∙ sym waits) (first_none t.enters ∙ sym enters)
 
-    by : (m : Mark) → stands_alone m ≡ false → mark_refusal k m ≡ None → standing s p (with_marks p o (ms ++ m ∷ []) ∷ past) ≡ marked s (length past) k m
+    by : (m : Mark) → stands_alone m ≡ false → mark_refusal k m ≡ None → process_view s p (with_marks p o (ms ++ m ∷ []) ∷ past) ≡ marked s (length past) k m
     by (mark.Waiting n) is h = moved_to s p o ms (mark.Waiting n) past plain is (reply-same p o ms (mark.Waiting n) past plain is refl)
         ∙ ap (λ x. record k { stage = stages.Waiting; passage = record (with_wait (length past) t) { enters = x } }) (first_none t.enters)
     by mark.Entered is h = moved_to s p o ms mark.Entered past plain is (reply-same p o ms mark.Entered past plain is refl)
@@ -239,7 +239,7 @@ standing-marked s p o ms m past plain is allowed = by m is allowed
     by (mark.Taken n r) is h = moved_to s p o ms (mark.Taken n r) past plain is (reply-taken p o ms n r past plain (untaken k n r h))
         ∙ ap (λ x. record k { reply = Some r; passage = x }) (same t refl refl)
     by mark.Left is h = moved_to s p o ms mark.Left past plain is (reply-same p o ms mark.Left past plain is refl)
-        ∙ (λ i. record k { stage = stage_after k.stage mark.Left; passage = record t { inside = false; waiting = waits-left k.stage i; waits = first_none t.waits i; enters = first_none t.enters i } })
+        ∙ (λ i. record k { stage = stage_after k.stage mark.Left; passage = record t { inside = false; waiting = waits-remaining k.stage i; waits = first_none t.waits i; enters = first_none t.enters i } })
     by (mark.Answered a) is h = moved_to s p o ms (mark.Answered a) past plain is (reply-same p o ms (mark.Answered a) past plain is refl)
         ∙ ap (λ x. record k { stage = stages.Idle; passage = x }) (same (without_wait t) refl refl)
     by (mark.Settled v) is h = moved_to s p o ms (mark.Settled v) past plain is (reply-same p o ms (mark.Settled v) past plain is refl)
@@ -254,15 +254,15 @@ next-call : (b : Bool) (c : ℕ) → cond b (suc c) 0 ≡ cond b (cond b c 0 + 1
 next-call true c = sym (add-one c)
 next-call false c = refl
 
-pub standing-alone : (s : Setup) (p : ℕ) (m : Mark) (past : Past) → stands_alone m ≡ true → standing s p (with_marks p None (m ∷ []) ∷ past) ≡ marked s (length past) (standing s p past) m
-standing-alone s p m past is = by m is
+pub process_view-alone : (s : Setup) (p : ℕ) (m : Mark) (past : Past) → stands_alone m ≡ true → process_view s p (with_marks p None (m ∷ []) ∷ past) ≡ marked s (length past) (process_view s p past) m
+process_view-alone s p m past is = by m is
   where
-    k : Standing
-    k = standing s p past
+    k : ProcessView
+    k = process_view s p past
 
-    by : (m : Mark) → stands_alone m ≡ true → standing s p (with_marks p None (m ∷ []) ∷ past) ≡ marked s (length past) k m
+    by : (m : Mark) → stands_alone m ≡ true → process_view s p (with_marks p None (m ∷ []) ∷ past) ≡ marked s (length past) k m
     by (mark.Called c) h = let mine = own-mine p (with_marks p None (mark.Called c ∷ [])) past refl in
-        standing_by (standing s p (with_marks p None (mark.Called c ∷ []) ∷ past)) (marked s (length past) k (mark.Called c))
+        view_by (process_view s p (with_marks p None (mark.Called c ∷ []) ∷ past)) (marked s (length past) k (mark.Called c))
         (stage-mine p (with_marks p None (mark.Called c ∷ [])) past refl)
         (ap (λ l. list_any (has is_withdrawal) (since is_called l)) mine)
         (ap (call_number s) mine ∙ next-call (s.version == 2) (calls_in (own p past)))
@@ -284,7 +284,7 @@ standing-alone s p m past is = by m is
     by (mark.Settled v) h = absurd (true≢false (sym h))
     by mark.Down h = absurd (true≢false (sym h))
     by m h = let mine = own-mine p (with_marks p None (m ∷ [])) past refl in
-        standing_by (standing s p (with_marks p None (m ∷ []) ∷ past)) (marked s (length past) k m)
+        view_by (process_view s p (with_marks p None (m ∷ []) ∷ past)) (marked s (length past) k m)
         (stage-mine p (with_marks p None (m ∷ [])) past refl)
         (ap (λ l. list_any (has is_withdrawal) (since is_called l)) mine)
         (ap (call_number s) mine)

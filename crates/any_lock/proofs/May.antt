@@ -12,7 +12,7 @@ use Rattle.plain_store.specs.declared.Reply.TheVariants as reply
 use Rattle.plain_store.proofs.Changes.{same_value-Decides}
 use Rattle.model.specs.{Access, Entry, Mark, Past, begins_read, has, history, is_entered, moves_of, opening_bit, takings}
 use Rattle.model.specs.declared.marks.Mark.TheVariants as mark
-use Rattle.any_lock.specs.{AnyLockLaw, MarkRefusal, MaysKeepAllLaws, Remedy, Standing, accessed_by, breaks_access, breaks_history, breaks_marks, breaks_overtaken, breaks_safe, breaks_together, broken_inside, broken_later, change_of, changed, ends_with, ends_wrongly, first_broken, first_that, has_other_reply, is_in_doorway, is_leaving, is_reply, is_that, is_withdrawn, mark_refusal, mark_with, marked, other_ahead, other_inside, other_value, passage_in, refusal_of_marks, refusal_on, right_reply, same_reply, same_truth, standing, stands_alone, value_in, with_value}
+use Rattle.any_lock.specs.{AnyLockLaw, MarkRefusal, MaysKeepAllLaws, Remedy, ProcessView, accessed_by, breaks_access, breaks_history, breaks_marks, breaks_overtaken, breaks_safe, breaks_together, broken_inside, broken_later, change_of, changed, ends_with, ends_wrongly, first_broken, first_that, has_other_reply, is_in_doorway, is_leaving, is_reply, is_that, is_withdrawn, mark_refusal, mark_with, marked, other_ahead, other_inside, other_value, passage_in, refusal_of_marks, refusal_on, right_reply, same_reply, same_truth, process_view, stands_alone, value_in, with_value}
 use Rattle.any_lock.specs.declared.reasons.Remedy.TheVariants.{Value, Taking}
 use Rattle.any_lock.specs.declared.any_lock_law.AnyLockLaw.TheVariants as law
 use Rattle.any_lock.specs.declared.refusals.MarkRefusal.TheVariants as refusal
@@ -56,18 +56,18 @@ with_other_value s past e c breaks may = by e.access refl breaks may
     whole v safe later is = subst (λ (c : Remedy). first_broken s past (changed c e) ≡ None) is
         (subst (λ (x : Entry). first_broken s past x ≡ None) (sym (value_changed (not v) e)) (ap (λ b. if b then Some law.Safe else broken_later s past (with_value (not v) e)) safe ∙ later))
 
-    told : (v : Bool) → safe_of (ends_with (not v) e.access) ≡ false → (b : Bool) → is_none (broken_later s past (with_value (not v) e)) ≡ b → cond b (Some (Value (not v))) None ≡ Some c → first_broken s past (changed c e) ≡ None
-    told v safe true none may = let same : Value (not v) ≡ c = cc in whole v safe (unnone (broken_later s past (with_value (not v) e)) none) same
+    reported : (v : Bool) → safe_of (ends_with (not v) e.access) ≡ false → (b : Bool) → is_none (broken_later s past (with_value (not v) e)) ≡ b → cond b (Some (Value (not v))) None ≡ Some c → first_broken s past (changed c e) ≡ None
+    reported v safe true none may = let same : Value (not v) ≡ c = cc in whole v safe (unnone (broken_later s past (with_value (not v) e)) none) same
       where
         unnone : (o : Option AnyLockLaw) → is_none o ≡ true → o ≡ None
         unnone None is = refl
         unnone (Some l) is = absurd (true≢false (sym is))
-    told v safe false none may = absurd (cc)
+    reported v safe false none may = absurd (cc)
 
     ending : (a : Access) (m : Move) → a.how ≡ m → e.access ≡ Some a → ends_wrongly (opening_bit s a) (moves_of a past) m ≡ true →
         elim (elim m as (λ _. Option Bool) [ EndRead v ↦ Some v | BeginWrite v ↦ None | EndWrite ↦ None | BeginRead ↦ None | Settle v ↦ None ]) as (λ _. Option Remedy) [ None ↦ None | Some v ↦ cond (is_none (broken_later s past (with_value (not v) e))) (Some (Value (not v))) None ] ≡ Some c →
         first_broken s past (changed c e) ≡ None
-    ending a (EndRead v) how is breaks may = told v (ap (λ (o : Option Access). safe_of (ends_with (not v) o)) is ∙ other_is_right (opening_bit s a) (moves_of a past) v breaks) (is_none (broken_later s past (with_value (not v) e))) refl may
+    ending a (EndRead v) how is breaks may = reported v (ap (λ (o : Option Access). safe_of (ends_with (not v) o)) is ∙ other_is_right (opening_bit s a) (moves_of a past) v breaks) (is_none (broken_later s past (with_value (not v) e))) refl may
     ending a _ how is breaks may = absurd (true≢false (sym breaks))
 
     by : (o : Option Access) → e.access ≡ o → safe_of o ≡ true →
@@ -81,7 +81,7 @@ with_other_value s past e c breaks may = by e.access refl breaks may
 pub same_as_itself : (r : Reply) → same_reply r r ≡ true
 same_as_itself (reply.Value x) = (same_value-Decides x x).1 refl
 same_as_itself (reply.Sum n) = (Decides-int_eq n n).1 refl
-same_as_itself (reply.Kept x) = (same_value-Decides x x).1 refl
+same_as_itself (reply.LockRun x) = (same_value-Decides x x).1 refl
 same_as_itself (reply.Last n) = grind (arith, nat_tests)
 same_as_itself _ = refl
 
@@ -118,14 +118,14 @@ module _ (n : ℕ) (r : Reply) where
   put_taken (_ ∷ ms) = put_taken ms
 
   -- the state of its process, with this reply
-  abbrev replied : Standing → Standing
+  abbrev replied : ProcessView → ProcessView
   replied k = record k { reply = Some r }
 
   -- a mark after the one that takes a command is refused no more than before
-  abbrev GoesOnSo : Setup → ℕ → Standing → Mark → Type 0
+  abbrev GoesOnSo : Setup → ℕ → ProcessView → Mark → Type 0
   GoesOnSo s j k m = (mark_refusal (replied k) (put m) ≡ None) × (marked s j (replied k) (put m) ≡ replied (marked s j k m)) × ((marked s j k m).reply ≡ k.reply)
 
-  answers_so : (k : Standing) (q q0 : Reply) → k.reply ≡ Some q0 → mark_refusal k (mark.Answered (answer.Reply q)) ≡ None → mark_refusal (replied k) (mark.Answered (answer.Reply r)) ≡ None
+  answers_so : (k : ProcessView) (q q0 : Reply) → k.reply ≡ Some q0 → mark_refusal k (mark.Answered (answer.Reply q)) ≡ None → mark_refusal (replied k) (mark.Answered (answer.Reply r)) ≡ None
   answers_so k q q0 some none =
       let a = none_if (not (is_in_doorway k.stage || is_leaving k.stage)) refusal.NotLeaving _ none in
       let rest = none_else (not (is_in_doorway k.stage || is_leaving k.stage)) refusal.NotLeaving _ none in
@@ -138,14 +138,14 @@ module _ (n : ℕ) (r : Reply) where
       ∙ ap (λ t. if not t then Some refusal.OtherReply else first_that ((false, refusal.NotTaken) ∷ (not k.withdrawn && false, refusal.NotWithdrawn) ∷ (is_some k.opened, refusal.AccessOpen) ∷ [])) (same_as_itself r)
       ∙ rest'''
 
-  never : (k : Standing) (a : Answer) (q0 : Reply) → k.reply ≡ Some q0 → is_reply a ≡ false → mark_refusal k (mark.Answered a) ≡ None → ⊥
+  never : (k : ProcessView) (a : Answer) (q0 : Reply) → k.reply ≡ Some q0 → is_reply a ≡ false → mark_refusal k (mark.Answered a) ≡ None → ⊥
   never k a q0 some other none =
       let rest = none_else (not (is_in_doorway k.stage || is_leaving k.stage)) refusal.NotLeaving _ none in
       let rest' = none_else (k.withdrawn && not (is_withdrawn a)) refusal.WasWithdrawn _ rest in
       let nothing : k.reply ≡ None = unreplied k.reply a other (none_if (has_other_reply k.reply a) refusal.OtherReply _ rest') in
       let both : Some q0 ≡ None = sym some ∙ nothing in cc
 
-  goes_on_so : (s : Setup) (j : ℕ) (k : Standing) (q0 : Reply) (m : Mark) → k.reply ≡ Some q0 → stands_alone m ≡ false → mark_refusal k m ≡ None → GoesOnSo s j k m
+  goes_on_so : (s : Setup) (j : ℕ) (k : ProcessView) (q0 : Reply) (m : Mark) → k.reply ≡ Some q0 → stands_alone m ≡ false → mark_refusal k m ≡ None → GoesOnSo s j k m
   goes_on_so s j k q0 (mark.Called c) some plain none = absurd (true≢false plain)
   goes_on_so s j k q0 (mark.Taken i q) some plain none = let both : Some q0 ≡ None = sym some ∙ untaken k i q none in absurd (cc)
   goes_on_so s j k q0 (mark.Answered (answer.Reply q)) some plain none = (answers_so k q q0 some none, refl, refl)
@@ -157,7 +157,7 @@ module _ (n : ℕ) (r : Reply) where
   goes_on_so s j k q0 mark.Restarted some plain none = absurd (true≢false plain)
   goes_on_so s j k q0 _ some plain none = (none, refl, refl)
 
-  marks_after : (s : Setup) (j : ℕ) (ms : List Mark) (k : Standing) (q0 : Reply) → k.reply ≡ Some q0 → ArePlain ms → refusal_on s j k ms ≡ None → refusal_on s j (replied k) (map put ms) ≡ None
+  marks_after : (s : Setup) (j : ℕ) (ms : List Mark) (k : ProcessView) (q0 : Reply) → k.reply ≡ Some q0 → ArePlain ms → refusal_on s j k ms ≡ None → refusal_on s j (replied k) (map put ms) ≡ None
   marks_after s j [] k q0 some plain none = refl
   marks_after s j (m ∷ ms) k q0 some plain none =
       let so = goes_on_so s j k q0 m some (or_left (stands_alone m) (list_any stands_alone ms) plain) (first_unrefused s j k m ms none) in
@@ -165,7 +165,7 @@ module _ (n : ℕ) (r : Reply) where
       refused_later s j (replied k) (put m) (map put ms) so.0 ∙ ap (λ x. refusal_on s j x (map put ms)) so.1 ∙ rest
 
   -- a mark before that one is refused no more than before
-  marks_before : (s : Setup) (j : ℕ) (ms : List Mark) (k : Standing) (cut : Bool) → IsSound k cut → ArePlain ms → refusal_on s j k ms ≡ None → (takings ms ≡ [] → ⊥) → refusal_on s j k (map put ms) ≡ None
+  marks_before : (s : Setup) (j : ℕ) (ms : List Mark) (k : ProcessView) (cut : Bool) → IsSound k cut → ArePlain ms → refusal_on s j k ms ≡ None → (takings ms ≡ [] → ⊥) → refusal_on s j k (map put ms) ≡ None
   marks_before s j [] k cut sound plain none takes = refl
   marks_before s j (m ∷ ms) k cut sound plain none takes =
       by (λ (x : Mark) first more. marks_before s j ms (marked s j k x) (cut_after cut x) (sound_marked s j k x cut first sound) (or_right (stands_alone m) (list_any stands_alone ms) plain) more)
@@ -234,18 +234,18 @@ with_right_taking s past e all breaks =
     entered : has is_entered (changed (Taking (length (history s past)) (right_reply s past e.process)) e) ≡ has is_entered e
     entered = put_any (length (history s past)) (right_reply s past e.process) is_entered (entered_same (length (history s past)) (right_reply s past e.process)) e.marks
 
-    unrefused_with : Orderly e.access e.process e.marks → (takings e.marks ≡ [] → ⊥) → refusal_on s (length past) (accessed_by (length past) (standing s e.process past) e.access) e.marks ≡ None →
+    unrefused_with : Orderly e.access e.process e.marks → (takings e.marks ≡ [] → ⊥) → refusal_on s (length past) (accessed_by (length past) (process_view s e.process past) e.access) e.marks ≡ None →
         refusal_of_marks s past (changed (Taking (length (history s past)) (right_reply s past e.process)) e) ≡ None
     unrefused_with fine takes none =
         let m = length (history s past) in
         let q = right_reply s past e.process in
         let long : length (map (mark_with (Taking m q)) e.marks) ≡ length e.marks = length-map e.marks (mark_with (Taking m q)) in
         let alone : list_any stands_alone (map (mark_with (Taking m q)) e.marks) ≡ list_any stands_alone e.marks = put_any m q stands_alone (alone_same m q) e.marks in
-        let k : Standing = accessed_by (length past) (standing s e.process past) e.access in
+        let k : ProcessView = accessed_by (length past) (process_view s e.process past) e.access in
         refused s e.process past e.access (map (mark_with (Taking m q)) e.marks)
         (ap (λ l. is_none e.access && (l == 0)) long ∙ fine.something)
         (ap (λ b. b && not (is_none e.access && (length (map (mark_with (Taking m q)) e.marks) == 1))) alone ∙ ap (λ l. list_any stands_alone e.marks && not (is_none e.access && (l == 1))) long ∙ fine.apart)
-        ∙ marks_before m q s (length past) e.marks k (is_cut e.process past) (sound_accessed (length past) (standing s e.process past) e.access (is_cut e.process past) (all_sound s past all e.process))
+        ∙ marks_before m q s (length past) e.marks k (is_cut e.process past) (sound_accessed (length past) (process_view s e.process past) e.access (is_cut e.process past) (all_sound s past all e.process))
         (plain (list_any stands_alone e.marks) refl) none takes
       where
         plain : (b : Bool) → list_any stands_alone e.marks ≡ b → list_any stands_alone e.marks ≡ false

@@ -9,28 +9,28 @@ use Rattle.model.specs.{Access, Entry, Mark, Past, PlacesKeepOrder, Stage, all_t
 use Rattle.model.specs.declared.marks.Mark.TheVariants as mark
 use Rattle.model.specs.declared.stages.Stage.TheVariants as stage
 use Rattle.any_lock.specs.declared.refusals.MarkRefusal.TheVariants as refusal
-use Rattle.any_lock.specs.{Standing, accessed_by, is_in_doorway, is_leaving, is_settling, mark_refusal, marked, marked_all, refusal_on, standing}
+use Rattle.any_lock.specs.{ProcessView, accessed_by, is_in_doorway, is_leaving, is_settling, mark_refusal, marked, marked_all, refusal_on, process_view}
 use Rattle.any_lock.proofs.Alone.{AllKeep, Keeps, takes_its_place}
 use Rattle.any_lock.proofs.Breaks.{none_else, none_if}
 use Rattle.any_lock.proofs.Cuts.{IsSound, all_sound, answers_not, cut_after, first_unrefused, is_cut, orderly, own-other, rest_unrefused, rests, sound_accessed, sound_marked, unrefused_on}
 use Rattle.any_lock.proofs.Going.{history_with}
 use Rattle.any_lock.proofs.Markings.{or_left, or_right}
 use Rattle.any_lock.proofs.Once.{own-append}
-use Rattle.any_lock.proofs.Steps.{own-mine, standing-other}
+use Rattle.any_lock.proofs.Steps.{own-mine, process_view-other}
 use Rattle.any_lock.proofs.Took.{outside}
 use Rattle.any_lock.proofs.Whole.{stands_whole}
 
 -- A call whose span has ended takes no more commands.
 
 -- the process is not inside, and no call runs
-record IsOver (k : Standing) : Type 0 where
+record IsOver (k : ProcessView) : Type 0 where
   pub rest : rests k.stage ≡ true
   pub out : k.passage.inside ≡ false
 
 clash : (b : Bool) → b ≡ true → b ≡ false → ⊥
 clash b t f = true≢false (sym t ∙ f)
 
-over_accessed : (n : ℕ) (k : Standing) (o : Option Access) → IsOver k → IsOver (accessed_by n k o)
+over_accessed : (n : ℕ) (k : ProcessView) (o : Option Access) → IsOver k → IsOver (accessed_by n k o)
 over_accessed n k None over = over
 over_accessed n k (Some a) over = record { rest = over.rest; out = over.out }
 
@@ -48,7 +48,7 @@ never_chooses stage.Down is = refl
 never_chooses _ is = absurd (true≢false (sym is))
 
 -- after a mark that begins no call the span is still over, and the mark takes nothing
-over_marked : (s : Setup) (n : ℕ) (k : Standing) (m : Mark) → is_called m ≡ false → mark_refusal k m ≡ None → IsOver k → IsOver (marked s n k m) × (takings (m ∷ []) ≡ [])
+over_marked : (s : Setup) (n : ℕ) (k : ProcessView) (m : Mark) → is_called m ≡ false → mark_refusal k m ≡ None → IsOver k → IsOver (marked s n k m) × (takings (m ∷ []) ≡ [])
 over_marked s n k (mark.Called c) uncalled none over = absurd (true≢false uncalled)
 over_marked s n k (mark.Waiting t) uncalled none over = absurd (clash (not (is_in_doorway k.stage)) (never_chooses k.stage over.rest) (none_if (not (is_in_doorway k.stage)) refusal.NotInDoorway _ none))
 over_marked s n k mark.Entered uncalled none over = absurd (clash (not (is_waiting_stage k.stage)) (never_waits k.stage over.rest) (none_if (not (is_waiting_stage k.stage)) refusal.NotWaiting _ none))
@@ -64,7 +64,7 @@ takings_more : (m : Mark) (ms : List Mark) → takings (m ∷ ms) ≡ takings (m
 takings_more (mark.Taken j r) ms = refl
 takings_more _ ms = refl
 
-over_all : (s : Setup) (n : ℕ) (ms : List Mark) (k : Standing) → list_any is_called ms ≡ false → refusal_on s n k ms ≡ None → IsOver k → IsOver (marked_all s n k ms) × (takings ms ≡ [])
+over_all : (s : Setup) (n : ℕ) (ms : List Mark) (k : ProcessView) → list_any is_called ms ≡ false → refusal_on s n k ms ≡ None → IsOver k → IsOver (marked_all s n k ms) × (takings ms ≡ [])
 over_all s n [] k uncalled none over = (over, refl)
 over_all s n (m ∷ ms) k uncalled none over =
     let first = over_marked s n k m (or_left (is_called m) (list_any is_called ms) uncalled) (first_unrefused s n k m ms none) over in
@@ -72,7 +72,7 @@ over_all s n (m ∷ ms) k uncalled none over =
     (rest.0, takings_more m ms ∙ ap (λ (l : List (ℕ × Reply)). l ++ takings ms) first.1 ∙ rest.1)
 
 -- after marks that end the span of a call, the call is over
-ends_all : (s : Setup) (n : ℕ) (ms : List Mark) (k : Standing) (cut : Bool) → list_any is_called ms ≡ false → list_any ends_span ms ≡ true → refusal_on s n k ms ≡ None → IsSound k cut → IsOver (marked_all s n k ms)
+ends_all : (s : Setup) (n : ℕ) (ms : List Mark) (k : ProcessView) (cut : Bool) → list_any is_called ms ≡ false → list_any ends_span ms ≡ true → refusal_on s n k ms ≡ None → IsSound k cut → IsOver (marked_all s n k ms)
 ends_all s n [] k cut uncalled ends none sound = absurd (true≢false (sym ends))
 ends_all s n (m ∷ ms) k cut uncalled ends none sound =
     by (λ (x : Mark) ends first rest. ends_all s n ms (marked s n k x) (cut_after cut x) (or_right (is_called m) (list_any is_called ms) uncalled) ends rest (sound_marked s n k x cut first sound))
@@ -99,28 +99,28 @@ ends_all s n (m ∷ ms) k cut uncalled ends none sound =
     by on mark.Restarted ends uncalled first rest = on mark.Restarted ends first rest
 
 -- an entry of the process, whose call is over, takes nothing and leaves it over
-over_entry : (s : Setup) (past : Past) (e : Entry) → Keeps s past e → has is_called e ≡ false → IsOver (standing s e.process past) → IsOver (standing s e.process (e ∷ past)) × (takings e.marks ≡ [])
+over_entry : (s : Setup) (past : Past) (e : Entry) → Keeps s past e → has is_called e ≡ false → IsOver (process_view s e.process past) → IsOver (process_view s e.process (e ∷ past)) × (takings e.marks ≡ [])
 over_entry s past e kept uncalled over =
     let fine = orderly s past e.process e.access e.marks kept.marks in
     let none = unrefused_on s past e.process e.access e.marks kept.marks in
-    let all = over_all s (length past) e.marks (accessed_by (length past) (standing s e.process past) e.access) uncalled none (over_accessed (length past) (standing s e.process past) e.access over) in
+    let all = over_all s (length past) e.marks (accessed_by (length past) (process_view s e.process past) e.access) uncalled none (over_accessed (length past) (process_view s e.process past) e.access over) in
     (subst IsOver (stands_whole s e.process past e.access e.marks fine.apart none) all.0, all.1)
 
-ends_entry : (s : Setup) (past : Past) (e : Entry) → AllKeep s past → Keeps s past e → has is_called e ≡ false → has ends_span e ≡ true → IsOver (standing s e.process (e ∷ past))
+ends_entry : (s : Setup) (past : Past) (e : Entry) → AllKeep s past → Keeps s past e → has is_called e ≡ false → has ends_span e ≡ true → IsOver (process_view s e.process (e ∷ past))
 ends_entry s past e before kept uncalled ends =
     let fine = orderly s past e.process e.access e.marks kept.marks in
     let none = unrefused_on s past e.process e.access e.marks kept.marks in
-    let sound = sound_accessed (length past) (standing s e.process past) e.access (is_cut e.process past) (all_sound s past before e.process) in
+    let sound = sound_accessed (length past) (process_view s e.process past) e.access (is_cut e.process past) (all_sound s past before e.process) in
     subst IsOver (stands_whole s e.process past e.access e.marks fine.apart none)
-    (ends_all s (length past) e.marks (accessed_by (length past) (standing s e.process past) e.access) (is_cut e.process past) uncalled ends none sound)
+    (ends_all s (length past) e.marks (accessed_by (length past) (process_view s e.process past) e.access) (is_cut e.process past) uncalled ends none sound)
 
 -- the state of p after the span of its call has ended, until its next call
-is_over : (s : Setup) (p : ℕ) (later rest : Past) → AllKeep s (later ++ rest) → list_any (has is_called) (own p later) ≡ false → list_any (has ends_span) (own p later) ≡ true → IsOver (standing s p (later ++ rest))
+is_over : (s : Setup) (p : ℕ) (later rest : Past) → AllKeep s (later ++ rest) → list_any (has is_called) (own p later) ≡ false → list_any (has ends_span) (own p later) ≡ true → IsOver (process_view s p (later ++ rest))
 is_over s p [] rest all uncalled ends = absurd (true≢false (sym ends))
 is_over s p (e ∷ later) rest all uncalled ends = go (is_over s p later rest all.1) (cases_eq e.process p)
   where
-    mine : (list_any (has is_called) (own p later) ≡ false → list_any (has ends_span) (own p later) ≡ true → IsOver (standing s p (later ++ rest))) → e.process ≡ p → list_any (has is_called) (e ∷ own p later) ≡ false → list_any (has ends_span) (e ∷ own p later) ≡ true → IsOver (standing s p (e ∷ (later ++ rest)))
-    mine before same uncalled ends = subst (λ q. IsOver (standing s q (e ∷ (later ++ rest)))) same (by (list_any (has ends_span) (own p later)) refl ends)
+    mine : (list_any (has is_called) (own p later) ≡ false → list_any (has ends_span) (own p later) ≡ true → IsOver (process_view s p (later ++ rest))) → e.process ≡ p → list_any (has is_called) (e ∷ own p later) ≡ false → list_any (has ends_span) (e ∷ own p later) ≡ true → IsOver (process_view s p (e ∷ (later ++ rest)))
+    mine before same uncalled ends = subst (λ q. IsOver (process_view s q (e ∷ (later ++ rest)))) same (by (list_any (has ends_span) (own p later)) refl ends)
       where
         e_no : has is_called e ≡ false
         e_no = or_left (has is_called e) (list_any (has is_called) (own p later)) uncalled
@@ -129,15 +129,15 @@ is_over s p (e ∷ later) rest all uncalled ends = go (is_over s p later rest al
         here true is h = is
         here false is h = absurd (true≢false (sym h))
 
-        by : (b : Bool) → list_any (has ends_span) (own p later) ≡ b → (has ends_span e || b) ≡ true → IsOver (standing s e.process (e ∷ (later ++ rest)))
+        by : (b : Bool) → list_any (has ends_span) (own p later) ≡ b → (has ends_span e || b) ≡ true → IsOver (process_view s e.process (e ∷ (later ++ rest)))
         by true ended h =
-            (over_entry s (later ++ rest) e all.0 e_no (subst (λ q. IsOver (standing s q (later ++ rest))) (sym same)
+            (over_entry s (later ++ rest) e all.0 e_no (subst (λ q. IsOver (process_view s q (later ++ rest))) (sym same)
             (before (or_right (has is_called e) (list_any (has is_called) (own p later)) uncalled) ended))).0
         by false ended h = ends_entry s (later ++ rest) e all.1 all.0 e_no (here (has ends_span e) refl h)
 
-    go : (list_any (has is_called) (own p later) ≡ false → list_any (has ends_span) (own p later) ≡ true → IsOver (standing s p (later ++ rest))) → (e.process ≡ p) ⊎ (e.process ≢ p) → IsOver (standing s p (e ∷ (later ++ rest)))
+    go : (list_any (has is_called) (own p later) ≡ false → list_any (has ends_span) (own p later) ≡ true → IsOver (process_view s p (later ++ rest))) → (e.process ≡ p) ⊎ (e.process ≢ p) → IsOver (process_view s p (e ∷ (later ++ rest)))
     go before (inl same) = mine before same (ap (list_any (has is_called)) (sym (own-mine p e later same)) ∙ uncalled) (ap (list_any (has ends_span)) (sym (own-mine p e later same)) ∙ ends)
-    go before (inr apart) = subst IsOver (sym (standing-other s p e (later ++ rest) (ne_eqb e.process p apart)))
+    go before (inr apart) = subst IsOver (sym (process_view-other s p e (later ++ rest) (ne_eqb e.process p apart)))
         (before (ap (list_any (has is_called)) (sym (own-other p e later apart)) ∙ uncalled) (ap (list_any (has ends_span)) (sym (own-other p e later apart)) ∙ ends))
 
 -- The entries of a call.
@@ -177,8 +177,8 @@ takes_no_more s p (e ∷ newer) between rest all ended = go (cases_eq e.process 
         ∙ ap (λ b. list_any (has ends_span) (own p newer) || b) (ap (list_any (has ends_span)) (sym (until_none (own p between) (none_here none))) ∙ ended)
         ∙ or_true (list_any (has ends_span) (own p newer))
 
-    over : list_any (has is_called) l ≡ false → IsOver (standing s p (newer ++ (between ++ rest)))
-    over none = subst (λ (x : Past). IsOver (standing s p x)) (append_assoc newer between rest)
+    over : list_any (has is_called) l ≡ false → IsOver (process_view s p (newer ++ (between ++ rest)))
+    over none = subst (λ (x : Past). IsOver (process_view s p x)) (append_assoc newer between rest)
         (is_over s p (newer ++ between) rest (subst (AllKeep s) (sym (append_assoc newer between rest)) all.1) none (ends none))
 
     mine : e.process ≡ p → takings_of_call p (newer ++ between) ≡ takings_of_call p between → (b : Bool) → list_any (has is_called) (e ∷ l) ≡ b →
@@ -187,7 +187,7 @@ takes_no_more s p (e ∷ newer) between rest all ended = go (cases_eq e.process 
     mine same before false none =
         let e_no = or_left (has is_called e) (list_any (has is_called) l) none in
         let l_no = or_right (has is_called e) (list_any (has is_called) l) none in
-        let nothing = (over_entry s (newer ++ (between ++ rest)) e all.0 e_no (subst (λ q. IsOver (standing s q (newer ++ (between ++ rest)))) (sym same) (over l_no))).1 in
+        let nothing = (over_entry s (newer ++ (between ++ rest)) e all.0 e_no (subst (λ q. IsOver (process_view s q (newer ++ (between ++ rest)))) (sym same) (over l_no))).1 in
         ap (λ (x : List (ℕ × Reply)). all_takings l ++ x) nothing ∙ append-nil (all_takings l) ∙ ap all_takings (sym (until_none l l_no)) ∙ before
 
     go : (e.process ≡ p) ⊎ (e.process ≢ p) → takings_of_call p (newer ++ between) ≡ takings_of_call p between → takings_of_call p (e ∷ (newer ++ between)) ≡ takings_of_call p between

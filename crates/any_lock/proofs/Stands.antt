@@ -8,10 +8,10 @@ use Rattle.std.proofs.lemmas.List.{take-append-le}
 use Rattle.std.proofs.Math.Seq.{take-append_seam}
 use Rattle.plain_store.specs.declared.Answer.TheVariants as answer
 use Rattle.plain_store.specs.{Reply, Setup, reply_to}
-use Rattle.model.specs.{Access, Call, Entry, Mark, Past, StandsAt, StandsInHistory, Taken, caller, history, is_called, last_call, own, reply_taken, since, store_after, takings}
+use Rattle.model.specs.{Access, Call, Entry, Mark, Past, StandsAt, IsInHistory, Taken, caller, history, is_called, last_call, own, reply_taken, since, store_after, takings}
 use Rattle.model.specs.declared.marks.Mark.TheVariants as mark
 use Rattle.any_lock.specs.declared.refusals.MarkRefusal.TheVariants as refusal
-use Rattle.any_lock.specs.{Standing, accessed_by, has_other_reply, is_in_doorway, is_leaving, is_reply, is_withdrawn, its_call, mark_refusal, marked, marked_all, refusal_on, reply_in, same_reply, standing, stands_alone}
+use Rattle.any_lock.specs.{ProcessView, accessed_by, has_other_reply, is_in_doorway, is_leaving, is_reply, is_withdrawn, its_call, mark_refusal, marked, marked_all, refusal_on, reply_in, same_reply, process_view, stands_alone}
 use Rattle.any_lock.proofs.Alone.{AllKeep, Keeps, not_not, same_is, takes_its_place}
 use Rattle.any_lock.proofs.Breaks.{none_else, none_if}
 use Rattle.any_lock.proofs.Cuts.{Orderly, answered_plain, first_unrefused, orderly, own-other, rest_unrefused, unrefused_on}
@@ -143,7 +143,7 @@ replied : (o : Option Reply) (r : Reply) → has_other_reply o (answer.Reply r) 
 replied None r other none = absurd (true≢false none)
 replied (Some q) r other none = ap Some (sym (same_is r q (not_not (same_reply r q) other)))
 
-answered_reply : (k : Standing) (r : Reply) → mark_refusal k (mark.Answered (answer.Reply r)) ≡ None → k.reply ≡ Some r
+answered_reply : (k : ProcessView) (r : Reply) → mark_refusal k (mark.Answered (answer.Reply r)) ≡ None → k.reply ≡ Some r
 answered_reply k r none =
     let a = none_else (not (is_in_doorway k.stage || is_leaving k.stage)) refusal.NotLeaving _ none in
     let b = none_else (k.withdrawn && not (is_withdrawn (answer.Reply r))) refusal.WasWithdrawn _ a in
@@ -151,7 +151,7 @@ answered_reply k r none =
     replied k.reply r (none_if (has_other_reply k.reply (answer.Reply r)) refusal.OtherReply _ b) (none_if (is_none k.reply && is_reply (answer.Reply r)) refusal.NotTaken _ d)
 
 -- the reply is unchanged by later marks
-reply_stays : (s : Setup) (n : ℕ) (ms : List Mark) (k : Standing) (r : Reply) → refusal_on s n k ms ≡ None → list_any stands_alone ms ≡ false → k.reply ≡ Some r → (marked_all s n k ms).reply ≡ Some r
+reply_stays : (s : Setup) (n : ℕ) (ms : List Mark) (k : ProcessView) (r : Reply) → refusal_on s n k ms ≡ None → list_any stands_alone ms ≡ false → k.reply ≡ Some r → (marked_all s n k ms).reply ≡ Some r
 reply_stays s n [] k r none plain is = is
 reply_stays s n (m ∷ ms) k r none plain is =
     reply_stays s n ms (marked s n k m) r (rest_unrefused s n k m ms none) (or_right (stands_alone m) (list_any stands_alone ms) plain)
@@ -170,7 +170,7 @@ reply_stays s n (m ∷ ms) k r none plain is =
     one mark.Withdrew first apart = absurd (true≢false apart)
     one mark.Restarted first apart = absurd (true≢false apart)
 
-pub answered_in : (s : Setup) (n : ℕ) (ms : List Mark) (k : Standing) (i : ℕ) (r : Reply) → refusal_on s n k ms ≡ None → list_any stands_alone ms ≡ false →
+pub answered_in : (s : Setup) (n : ℕ) (ms : List Mark) (k : ProcessView) (i : ℕ) (r : Reply) → refusal_on s n k ms ≡ None → list_any stands_alone ms ≡ false →
     i < length ms → get_or ms i (mark.Answered (answer.Reply r)) ≡ mark.Answered (answer.Reply r) → (marked_all s n k ms).reply ≡ Some r
 answered_in s n [] k i r none plain within is = absurd (omega arith)
 answered_in s n (m ∷ ms) k zero r none plain within is =
@@ -179,13 +179,13 @@ answered_in s n (m ∷ ms) k zero r none plain within is =
 answered_in s n (m ∷ ms) k (suc i) r none plain within is =
     answered_in s n ms (marked s n k m) i r (rest_unrefused s n k m ms none) (or_right (stands_alone m) (list_any stands_alone ms) plain) (omega arith) is
 
-pub stands_in_history : (s : Setup) (past : Past) (e : Entry) → AllKeep s past → Keeps s past e → StandsInHistory s past e
+pub stands_in_history : (s : Setup) (past : Past) (e : Entry) → AllKeep s past → Keeps s past e → IsInHistory s past e
 stands_in_history s past e all kept r among =
     let fine = orderly s past e.process e.access e.marks kept.marks in
     let none = unrefused_on s past e.process e.access e.marks kept.marks in
     let plain = answered_plain e.access e.process e.marks among.0 (answer.Reply r) fine among.1 among.2 in
-    let k : Standing = accessed_by (length past) (standing s e.process past) e.access in
+    let k : ProcessView = accessed_by (length past) (process_view s e.process past) e.access in
     let reply : reply_in (its_call e.process (e ∷ past)) ≡ Some r =
-    ap (λ (x : Standing). x.reply) (sym (stands_whole s e.process past e.access e.marks fine.apart none)) ∙ answered_in s (length past) e.marks k among.0 r none plain among.1 among.2 in
+    ap (λ (x : ProcessView). x.reply) (sym (stands_whole s e.process past e.access e.marks fine.apart none)) ∙ answered_in s (length past) e.marks k among.0 r none plain among.1 among.2 in
     let at = all_stand s (e ∷ past) (kept, all) e.process r reply in
     (at.0, subst (λ c. StandsAt s (history s (e ∷ past)) c r at.0) (call-plain s e.process e.access e.marks past plain) at.1)

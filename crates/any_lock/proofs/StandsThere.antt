@@ -2,14 +2,14 @@
 use Rattle.std.proofs.Common.{◌≡◌, ℕ, ◌<◌, get_or, length, option_map, slice_get, ap, subst, ◌∙◌}
 use Rattle.model.specs.{Past}
 use Rattle.lock_stages.specs.{HavePassages}
-use Rattle.any_lock.specs.{KeptState, Knows, Standing, passage_in, standing}
+use Rattle.any_lock.specs.{LockRunState, Knows, ProcessView, passage_in, process_view}
 use Rattle.any_lock.proofs.Unmarked.{given_at}
 
-pub stands_there : (k now : KeptState) (past : Past) (i p : ℕ) (x : Standing) → k ≡ now → i ≡ p → p < now.setup.processes → x ≡ get_or k.standings i x → Knows now past →
-    x ≡ standing now.setup p past
+pub stands_there : (k now : LockRunState) (past : Past) (i p : ℕ) (x : ProcessView) → k ≡ now → i ≡ p → p < now.setup.processes → x ≡ get_or k.process_views i x → Knows now past →
+    x ≡ process_view now.setup p past
 stands_there k now past i p x is same below read knows =
-    read ∙ given_at k.standings i x (standing now.setup p past) ((λ j. slice_get (is j).standings (same j)) ∙ knows.standings p below)
+    read ∙ given_at k.process_views i x (process_view now.setup p past) ((λ j. slice_get (is j).process_views (same j)) ∙ knows.process_views p below)
 
 -- the passages of the kept states are those of the past
-pub passages_known : (k : KeptState) (past : Past) → length k.standings ≡ k.setup.processes → Knows k past → HavePassages (λ (x : Standing). x.passage) k.standings (passage_in past)
-passages_known k past size knows q below = ap (option_map (λ (x : Standing). x.passage)) (knows.standings q (subst (λ n. q < n) size below))
+pub passages_known : (k : LockRunState) (past : Past) → length k.process_views ≡ k.setup.processes → Knows k past → HavePassages (λ (x : ProcessView). x.passage) k.process_views (passage_in past)
+passages_known k past size knows q below = ap (option_map (λ (x : ProcessView). x.passage)) (knows.process_views q (subst (λ n. q < n) size below))

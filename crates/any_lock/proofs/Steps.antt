@@ -4,14 +4,14 @@ use Rattle.std.specs.List.{list_any}
 use Rattle.plain_store.specs.{Setup}
 use Rattle.model.specs.{Access, Entry, Past, call_number, first_of, has, inside, inside_after, is_called, is_entered, is_failed, is_waiting, is_waiting_stage, last_command, number_in_call, own, since, stage as stage_at, stage_after}
 use Rattle.lock_stages.specs.{with_access}
-use Rattle.any_lock.specs.{Begun, Passage, Standing, accessed_by, at_rest, begun_by, has_access, is_withdrawal, left_open, opened, passage_in, reply_in, standing, torn, torn_after, write_of}
+use Rattle.any_lock.specs.{BegunAccess, Passage, ProcessView, accessed_by, at_rest, begun_by, has_access, is_withdrawal, left_open, opened, passage_in, reply_in, process_view, torn, torn_after, write_of}
 
 -- States by their fields.
 
 -- two states with the same fields are equal
-pub standing_by : (k : Standing) (m : Standing) → k.stage ≡ m.stage → k.withdrawn ≡ m.withdrawn → k.number ≡ m.number → k.command ≡ m.command →
+pub view_by : (k : ProcessView) (m : ProcessView) → k.stage ≡ m.stage → k.withdrawn ≡ m.withdrawn → k.number ≡ m.number → k.command ≡ m.command →
     k.reply ≡ m.reply → k.opened ≡ m.opened → k.torn ≡ m.torn → k.passage ≡ m.passage → k ≡ m
-standing_by k m a c d e f g h i = λ x. record {
+view_by k m a c d e f g h i = λ x. record {
   stage = a x;
   withdrawn = c x;
   number = d x;
@@ -32,16 +32,16 @@ no_calls : (b : Bool) → ◌≡◌ {A = ℕ} (cond b 0 0) 0
 no_calls true = refl
 no_calls false = refl
 
-pub at_first : (s : Setup) (p : ℕ) → standing s p [] ≡ at_rest
-at_first s p = standing_by (standing s p []) at_rest refl refl (no_calls (s.version == 2)) refl refl refl refl refl
+pub at_first : (s : Setup) (p : ℕ) → process_view s p [] ≡ at_rest
+at_first s p = view_by (process_view s p []) at_rest refl refl (no_calls (s.version == 2)) refl refl refl refl refl
 
 -- Another process's entry.
 
-pub standing-other : (s : Setup) (q : ℕ) (e : Entry) (past : Past) → (e.process == q) ≡ false → standing s q (e ∷ past) ≡ standing s q past
-standing-other s q e past h =
+pub process_view-other : (s : Setup) (q : ℕ) (e : Entry) (past : Past) → (e.process == q) ≡ false → process_view s q (e ∷ past) ≡ process_view s q past
+process_view-other s q e past h =
     let mine : own q (e ∷ past) ≡ own q past = ap (λ b. cond b (e ∷ own q past) (own q past)) h in
     let same : stage_at q (e ∷ past) ≡ stage_at q past = ap (λ b. cond b (fold stage_after (stage_at q past) e.marks) (stage_at q past)) h in
-    standing_by (standing s q (e ∷ past)) (standing s q past)
+    view_by (process_view s q (e ∷ past)) (process_view s q past)
     same
     (ap (λ l. list_any (has is_withdrawal) (since is_called l)) mine)
     (ap (call_number s) mine)
@@ -72,11 +72,11 @@ opened-mine p e past h = ap (λ b. cond b (fold left_open (begun_by (length past
 
 pub torn-mine : (p : ℕ) (e : Entry) (past : Past) → e.process ≡ p → (b : Bool) → has is_failed e ≡ b → torn p (e ∷ past) ≡ cond b (write_of (opened p past)) (torn_after e.access (torn p past))
 torn-mine p e past h true failed =
-    ap (λ b. cond b (elim (has is_failed e) as (λ _. Option Begun) [ true ↦ write_of (opened p past) | false ↦ torn_after e.access (torn p past) ]) (torn p past)) (eq-eqb e.process p h)
-    ∙ ap (λ b. elim b as (λ _. Option Begun) [ true ↦ write_of (opened p past) | false ↦ torn_after e.access (torn p past) ]) failed
+    ap (λ b. cond b (elim (has is_failed e) as (λ _. Option BegunAccess) [ true ↦ write_of (opened p past) | false ↦ torn_after e.access (torn p past) ]) (torn p past)) (eq-eqb e.process p h)
+    ∙ ap (λ b. elim b as (λ _. Option BegunAccess) [ true ↦ write_of (opened p past) | false ↦ torn_after e.access (torn p past) ]) failed
 torn-mine p e past h false failed =
-    ap (λ b. cond b (elim (has is_failed e) as (λ _. Option Begun) [ true ↦ write_of (opened p past) | false ↦ torn_after e.access (torn p past) ]) (torn p past)) (eq-eqb e.process p h)
-    ∙ ap (λ b. elim b as (λ _. Option Begun) [ true ↦ write_of (opened p past) | false ↦ torn_after e.access (torn p past) ]) failed
+    ap (λ b. cond b (elim (has is_failed e) as (λ _. Option BegunAccess) [ true ↦ write_of (opened p past) | false ↦ torn_after e.access (torn p past) ]) (torn p past)) (eq-eqb e.process p h)
+    ∙ ap (λ b. elim b as (λ _. Option BegunAccess) [ true ↦ write_of (opened p past) | false ↦ torn_after e.access (torn p past) ]) failed
 
 -- the number of an entry, if a test holds
 abbrev pub if_there : Bool → ℕ → Option ℕ
@@ -114,10 +114,10 @@ first_none (Some k) = refl
 abbrev pub bare : ℕ → Option Access → Entry
 bare p o = record { process = p; access = o; marks = [] }
 
-pub standing-access : (s : Setup) (p : ℕ) (o : Option Access) (past : Past) → standing s p (bare p o ∷ past) ≡ accessed_by (length past) (standing s p past) o
-standing-access s p None past =
+pub process_view-access : (s : Setup) (p : ℕ) (o : Option Access) (past : Past) → process_view s p (bare p o ∷ past) ≡ accessed_by (length past) (process_view s p past) o
+process_view-access s p None past =
     let mine = own-mine p (bare p None) past refl in
-    standing_by (standing s p (bare p None ∷ past)) (standing s p past)
+    view_by (process_view s p (bare p None ∷ past)) (process_view s p past)
     (stage-mine p (bare p None) past refl)
     (ap (λ l. list_any (has is_withdrawal) (since is_called l)) mine)
     (ap (call_number s) mine)
@@ -131,9 +131,9 @@ standing-access s p None past =
     (number-mine p has_access (bare p None) past refl refl false refl ∙ first_none (number_in_call p has_access past))
     (number-mine p (has is_waiting) (bare p None) past refl refl false refl ∙ first_none (number_in_call p (has is_waiting) past))
     (number-mine p (has is_entered) (bare p None) past refl refl false refl ∙ first_none (number_in_call p (has is_entered) past)))
-standing-access s p (Some a) past =
+process_view-access s p (Some a) past =
     let mine = own-mine p (bare p (Some a)) past refl in
-    standing_by (standing s p (bare p (Some a) ∷ past)) (accessed_by (length past) (standing s p past) (Some a))
+    view_by (process_view s p (bare p (Some a) ∷ past)) (accessed_by (length past) (process_view s p past) (Some a))
     (stage-mine p (bare p (Some a)) past refl)
     (ap (λ l. list_any (has is_withdrawal) (since is_called l)) mine)
     (ap (call_number s) mine)

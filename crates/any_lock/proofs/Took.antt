@@ -10,7 +10,7 @@ use Rattle.model.specs.{Access, Entry, IsAnswerTo, Mark, Past, all_takings, is_c
 use Rattle.model.specs.declared.marks.Mark.TheVariants as mark
 use Rattle.model.specs.declared.stages.Stage.TheVariants as stage
 use Rattle.any_lock.specs.declared.refusals.MarkRefusal.TheVariants as refusal
-use Rattle.any_lock.specs.{AnswersWhatItTook, Standing, accessed_by, has_other_reply, is_in_doorway, is_leaving, is_reply, is_settling, is_withdrawn, its_call, mark_refusal, marked, marked_all, refusal_on, reply_in, standing, stands_alone}
+use Rattle.any_lock.specs.{AnswersWhatItTook, ProcessView, accessed_by, has_other_reply, is_in_doorway, is_leaving, is_reply, is_settling, is_withdrawn, its_call, mark_refusal, marked, marked_all, refusal_on, reply_in, process_view, stands_alone}
 use Rattle.any_lock.proofs.Alone.{AllKeep, Keeps}
 use Rattle.any_lock.proofs.Breaks.{none_else, none_if}
 use Rattle.any_lock.proofs.Cuts.{IsSound, Orderly, all_sound, answered_plain, answers_not, cut_after, first_unrefused, holds, is_cut, orderly, own-other, rest_unrefused, sound_accessed, sound_marked, unrefused_on}
@@ -27,7 +27,7 @@ Takes None ts = ts ≡ []
 Takes (Some r) ts = (k : ℕ) × (ts ≡ (k, r) ∷ [])
 
 -- after a taken command no other is taken
-takes_no_more : (s : Setup) (n : ℕ) (ms : List Mark) (k : Standing) (r : Reply) → refusal_on s n k ms ≡ None → ArePlain ms → k.reply ≡ Some r → (takings ms ≡ []) × (reply_taken ms ≡ None)
+takes_no_more : (s : Setup) (n : ℕ) (ms : List Mark) (k : ProcessView) (r : Reply) → refusal_on s n k ms ≡ None → ArePlain ms → k.reply ≡ Some r → (takings ms ≡ []) × (reply_taken ms ≡ None)
 takes_no_more s n [] k r none plain is = (refl, refl)
 takes_no_more s n (mark.Waiting t ∷ ms) k r none plain is = takes_no_more s n ms (marked s n k (mark.Waiting t)) r (rest_unrefused s n k (mark.Waiting t) ms none) plain is
 takes_no_more s n (mark.Entered ∷ ms) k r none plain is = takes_no_more s n ms (marked s n k mark.Entered) r (rest_unrefused s n k mark.Entered ms none) plain is
@@ -39,7 +39,7 @@ takes_no_more s n (mark.Down ∷ ms) k r none plain is = takes_no_more s n ms (m
 takes_no_more s n (_ ∷ ms) k r none plain is = absurd (true≢false plain)
 
 -- otherwise at most one is taken
-takes_one : (s : Setup) (n : ℕ) (ms : List Mark) (k : Standing) → refusal_on s n k ms ≡ None → ArePlain ms → Takes (reply_taken ms) (takings ms)
+takes_one : (s : Setup) (n : ℕ) (ms : List Mark) (k : ProcessView) → refusal_on s n k ms ≡ None → ArePlain ms → Takes (reply_taken ms) (takings ms)
 takes_one s n [] k none plain = refl
 takes_one s n (mark.Waiting t ∷ ms) k none plain = takes_one s n ms (marked s n k (mark.Waiting t)) (rest_unrefused s n k (mark.Waiting t) ms none) plain
 takes_one s n (mark.Entered ∷ ms) k none plain = takes_one s n ms (marked s n k mark.Entered) (rest_unrefused s n k mark.Entered ms none) plain
@@ -56,17 +56,17 @@ takes_one s n (_ ∷ ms) k none plain = absurd (true≢false plain)
 abbrev pub CallTakes : ℕ → Past → Type 0
 CallTakes p past = Takes (reply_in (its_call p past)) (all_takings (its_call p past))
 
-same_reply_kept : (n : ℕ) (k : Standing) (o : Option Access) → (accessed_by n k o).reply ≡ k.reply
+same_reply_kept : (n : ℕ) (k : ProcessView) (o : Option Access) → (accessed_by n k o).reply ≡ k.reply
 same_reply_kept n k None = refl
 same_reply_kept n k (Some a) = refl
 
 -- with plain marks
-call_plain : (s : Setup) (past : Past) (p : ℕ) (o : Option Access) (ms : List Mark) → refusal_on s (length past) (accessed_by (length past) (standing s p past) o) ms ≡ None → ArePlain ms → CallTakes p past → CallTakes p (with_marks p o ms ∷ past)
+call_plain : (s : Setup) (past : Past) (p : ℕ) (o : Option Access) (ms : List Mark) → refusal_on s (length past) (accessed_by (length past) (process_view s p past) o) ms ≡ None → ArePlain ms → CallTakes p past → CallTakes p (with_marks p o ms ∷ past)
 call_plain s past p o ms none plain before =
     subst (λ l. Takes (reply_in l) (all_takings l)) (sym (since-mine p o ms past plain)) (by (reply_in (its_call p past)) refl before)
   where
-    k : Standing
-    k = accessed_by (length past) (standing s p past) o
+    k : ProcessView
+    k = accessed_by (length past) (process_view s p past) o
 
     by : (q : Option Reply) → reply_in (its_call p past) ≡ q → Takes (reply_in (its_call p past)) (all_takings (its_call p past)) →
         Takes (reply_or (reply_taken ms) (reply_in (its_call p past))) (all_takings (its_call p past) ++ takings ms)
@@ -75,7 +75,7 @@ call_plain s past p o ms none plain before =
         subst (λ x. Takes x (all_takings (its_call p past) ++ takings ms)) (sym (ap (reply_or (reply_taken ms)) h ∙ reply_nil (reply_taken ms)))
         (subst (λ l. Takes (reply_taken ms) (l ++ takings ms)) (sym nothing) (takes_one s (length past) ms k none plain))
     by (Some r) h before =
-        let rest = takes_no_more s (length past) ms k r none plain (same_reply_kept (length past) (standing s p past) o ∙ h) in
+        let rest = takes_no_more s (length past) ms k r none plain (same_reply_kept (length past) (process_view s p past) o ∙ h) in
         let one : (j : ℕ) × (all_takings (its_call p past) ≡ (j, r) ∷ []) = subst (λ x. Takes x (all_takings (its_call p past))) h before in
         subst (λ x. Takes x (all_takings (its_call p past) ++ takings ms)) (sym (ap (λ x. reply_or x (reply_in (its_call p past))) rest.1 ∙ h))
         (one.0, ap (λ l. all_takings (its_call p past) ++ l) rest.0 ∙ append-nil (all_takings (its_call p past)) ∙ one.1)
@@ -113,7 +113,7 @@ all_take s (e ∷ past) all p = go (cases_eq e.process p) (all_take s past all.1
 -- An answer that is not a reply.
 
 -- no mark follows at rest
-pub at_rest_none : (s : Setup) (n : ℕ) (k : Standing) (ms : List Mark) → k.stage ≡ stage.Idle → k.passage.inside ≡ false → refusal_on s n k ms ≡ None → ArePlain ms → ms ≡ []
+pub at_rest_none : (s : Setup) (n : ℕ) (k : ProcessView) (ms : List Mark) → k.stage ≡ stage.Idle → k.passage.inside ≡ false → refusal_on s n k ms ≡ None → ArePlain ms → ms ≡ []
 at_rest_none s n k [] idle out none plain = refl
 at_rest_none s n k (m ∷ ms) idle out none plain = absurd (by m (first_unrefused s n k m ms none) (or_left (stands_alone m) (list_any stands_alone ms) plain))
   where
@@ -138,14 +138,14 @@ unreplied (Some q) (answer.TicketsFull j) not_reply other = absurd (true≢false
 unreplied (Some q) answer.StampsFull not_reply other = absurd (true≢false other)
 unreplied (Some q) answer.Withdrawn not_reply other = absurd (true≢false other)
 
-pub outside : (k : Standing) (cut : Bool) → IsSound k cut → holds k.stage ≡ false → k.passage.inside ≡ false
+pub outside : (k : ProcessView) (cut : Bool) → IsSound k cut → holds k.stage ≡ false → k.passage.inside ≡ false
 outside k cut sound h = by k.passage.inside refl
   where
     by : (b : Bool) → k.passage.inside ≡ b → k.passage.inside ≡ false
     by false is = is
     by true is = absurd (true≢false (sym (sound.inside is) ∙ h))
 
-answered_none : (s : Setup) (n : ℕ) (ms : List Mark) (k : Standing) (cut : Bool) (i : ℕ) (a : Answer) → refusal_on s n k ms ≡ None → IsSound k cut → ArePlain ms →
+answered_none : (s : Setup) (n : ℕ) (ms : List Mark) (k : ProcessView) (cut : Bool) (i : ℕ) (a : Answer) → refusal_on s n k ms ≡ None → IsSound k cut → ArePlain ms →
     i < length ms → get_or ms i (mark.Answered a) ≡ mark.Answered a → is_reply a ≡ false → (marked_all s n k ms).reply ≡ None
 answered_none s n [] k cut i a none sound plain within is not_reply = absurd (omega arith)
 answered_none s n (m ∷ ms) k cut zero a none sound plain within is not_reply =
@@ -167,26 +167,26 @@ answers_what_it_took s past e all kept a among = by a among (all_take s (e ∷ p
     fine : Orderly e.access e.process e.marks
     fine = orderly s past e.process e.access e.marks kept.marks
 
-    k : Standing
-    k = accessed_by (length past) (standing s e.process past) e.access
+    k : ProcessView
+    k = accessed_by (length past) (process_view s e.process past) e.access
 
-    none : refusal_on s (length past) (accessed_by (length past) (standing s e.process past) e.access) e.marks ≡ None
+    none : refusal_on s (length past) (accessed_by (length past) (process_view s e.process past) e.access) e.marks ≡ None
     none = unrefused_on s past e.process e.access e.marks kept.marks
 
-    whole : marked_all s (length past) (accessed_by (length past) (standing s e.process past) e.access) e.marks ≡ standing s e.process (e ∷ past)
+    whole : marked_all s (length past) (accessed_by (length past) (process_view s e.process past) e.access) e.marks ≡ process_view s e.process (e ∷ past)
     whole = stands_whole s e.process past e.access e.marks fine.apart none
 
-    sound : IsSound (accessed_by (length past) (standing s e.process past) e.access) (is_cut e.process past)
-    sound = sound_accessed (length past) (standing s e.process past) e.access (is_cut e.process past) (all_sound s past all e.process)
+    sound : IsSound (accessed_by (length past) (process_view s e.process past) e.access) (is_cut e.process past)
+    sound = sound_accessed (length past) (process_view s e.process past) e.access (is_cut e.process past) (all_sound s past all e.process)
 
     other : (a : Answer) → is_reply a ≡ false → (i : ℕ) → i < length e.marks → get_or e.marks i (mark.Answered a) ≡ mark.Answered a → reply_in (its_call e.process (e ∷ past)) ≡ None
-    other a not_reply i within is = ap (λ (x : Standing). x.reply) (sym whole)
-        ∙ answered_none s (length past) e.marks (accessed_by (length past) (standing s e.process past) e.access) (is_cut e.process past) i a none sound (answered_plain e.access e.process e.marks i a fine within is) within is not_reply
+    other a not_reply i within is = ap (λ (x : ProcessView). x.reply) (sym whole)
+        ∙ answered_none s (length past) e.marks (accessed_by (length past) (process_view s e.process past) e.access) (is_cut e.process past) i a none sound (answered_plain e.access e.process e.marks i a fine within is) within is not_reply
 
     by : (a : Answer) → Contains e.marks (mark.Answered a) → CallTakes e.process (e ∷ past) → IsAnswerTo a (all_takings (its_call e.process (e ∷ past)))
     by (answer.Reply r) among takes = subst (λ x. Takes x (all_takings (its_call e.process (e ∷ past))))
-        (ap (λ (x : Standing). x.reply) (sym whole)
-        ∙ answered_in s (length past) e.marks (accessed_by (length past) (standing s e.process past) e.access) among.0 r none (answered_plain e.access e.process e.marks among.0 (answer.Reply r) fine among.1 among.2) among.1 among.2) takes
+        (ap (λ (x : ProcessView). x.reply) (sym whole)
+        ∙ answered_in s (length past) e.marks (accessed_by (length past) (process_view s e.process past) e.access) among.0 r none (answered_plain e.access e.process e.marks among.0 (answer.Reply r) fine among.1 among.2) among.1 among.2) takes
     by (answer.TicketsFull j) among takes = subst (λ x. Takes x (all_takings (its_call e.process (e ∷ past)))) (other (answer.TicketsFull j) refl among.0 among.1 among.2) takes
     by answer.StampsFull among takes = subst (λ x. Takes x (all_takings (its_call e.process (e ∷ past)))) (other answer.StampsFull refl among.0 among.1 among.2) takes
     by answer.Withdrawn among takes = subst (λ x. Takes x (all_takings (its_call e.process (e ∷ past)))) (other answer.Withdrawn refl among.0 among.1 among.2) takes

@@ -9,7 +9,7 @@ use Rattle.lock_stages.specs.{overtakes_another, joins_another}
 use Rattle.any_lock.specs.declared.any_lock_law.AnyLockLaw.{AnyLockLaw}
 use Rattle.any_lock.specs.declared.any_lock_law.AnyLockLaw.TheVariants as law
 use Rattle.any_lock.specs.Refusals.{first_that, refusal_of_access, refusal_of_marks, same_reply, same_truth}
-use Rattle.any_lock.specs.Standings.{passage_in, standing}
+use Rattle.any_lock.specs.Standings.{passage_in, process_view}
 
 -- after these moves of a bit a read ends with a wrong value: no write overlapped the read, and another value was written last before it began
 abbrev pub ends_wrongly : Bool → List Move → Move → Bool
@@ -38,7 +38,7 @@ breaks_overtaken s past e = overtakes_another (passage_in past) s.processes e.pr
 
 -- the sequential store's reply to p's command, after the history
 abbrev pub right_reply : Setup → Past → ℕ → Reply
-right_reply s past p = let k = standing s p past in reply_to (store_after s (history s past)) k.command (record { process = p; number = k.number })
+right_reply s past p = let k = process_view s p past in reply_to (store_after s (history s past)) k.command (record { process = p; number = k.number })
 
 -- the position and the reply are these
 abbrev pub is_that : ℕ → Reply → ℕ × Reply → Bool
@@ -73,4 +73,4 @@ first_broken s past e = if breaks_safe s past e then Some law.Safe else broken_l
 
 -- this is the first law that the entry breaks, if it is known whether the entry keeps the law `Safe`
 abbrev pub IsFirst : Bool → Option AnyLockLaw → Setup → Past → Entry → Type 0
-IsFirst is_safe told s past e = breaks_safe s past e ≡ not is_safe → told ≡ first_broken s past e
+IsFirst is_safe reported s past e = breaks_safe s past e ≡ not is_safe → reported ≡ first_broken s past e

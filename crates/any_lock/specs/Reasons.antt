@@ -9,13 +9,13 @@ use Rattle.any_lock.specs.declared.reasons.Remedy.TheVariants.{Value, Taking}
 use Rattle.any_lock.specs.declared.reasons.Reasons.{Reasons}
 use Rattle.any_lock.specs.declared.reasons.Refused.{Refused}
 use Rattle.any_lock.specs.declared.reasons.Refused.TheVariants as by
-use Rattle.any_lock.specs.declared.standings.Begun.{Begun}
-use Rattle.any_lock.specs.declared.standings.Standing.{Standing}
+use Rattle.any_lock.specs.declared.process_views.BegunAccess.{BegunAccess}
+use Rattle.any_lock.specs.declared.process_views.ProcessView.{ProcessView}
 use Rattle.any_lock.specs.declared.any_lock_law.AnyLockLaw.{AnyLockLaw}
 use Rattle.any_lock.specs.declared.any_lock_law.AnyLockLaw.TheVariants as law
 use Rattle.any_lock.specs.Laws.{broken_later, right_reply}
 use Rattle.any_lock.specs.Refusals.{refusal_of_access, refusal_of_marks}
-use Rattle.any_lock.specs.Standings.{has_access, passage_in, standing}
+use Rattle.any_lock.specs.Standings.{has_access, passage_in, process_view}
 
 -- the refusal of an entry by the table of accesses, or otherwise by that of marks, for any law
 abbrev pub refused : Setup → Past → Entry → Option Refused
@@ -25,30 +25,30 @@ refused s past e = elim (refusal_of_access s past e) [
 ]
 
 -- the state of a process, if the process exists
-abbrev pub stands : Setup → Past → ℕ → Option Standing
-stands s past p = cond (nat_lt p s.processes) (Some (standing s p past)) None
+abbrev pub view_of : Setup → Past → ℕ → Option ProcessView
+view_of s past p = cond (nat_lt p s.processes) (Some (process_view s p past)) None
 
 -- a part of the state of a process, if the process exists
-abbrev pub of_standing : {A : Type 0} → (Standing → Option A) → Option Standing → Option A
-of_standing f None = None
-of_standing f (Some k) = f k
+abbrev pub part_of_view : {A : Type 0} → (ProcessView → Option A) → Option ProcessView → Option A
+part_of_view f None = None
+part_of_view f (Some k) = f k
 
 -- the entry with which an access began
-abbrev pub entry_of : Option Begun → Option ℕ
+abbrev pub entry_of : Option BegunAccess → Option ℕ
 entry_of None = None
 entry_of (Some b) = Some b.entry
 
 -- the stage of a process
 abbrev pub stage_of : Setup → Past → ℕ → Option Stage
-stage_of s past p = of_standing (λ (k : Standing). Some k.stage) (stands s past p)
+stage_of s past p = part_of_view (λ (k : ProcessView). Some k.stage) (view_of s past p)
 
 -- the entry that began the access which a process has open
 abbrev pub opened_by : Setup → Past → ℕ → Option ℕ
-opened_by s past p = of_standing (λ (k : Standing). entry_of k.opened) (stands s past p)
+opened_by s past p = part_of_view (λ (k : ProcessView). entry_of k.opened) (view_of s past p)
 
 -- the entry that began the write of the torn bit of a process
 abbrev pub torn_by : Setup → Past → ℕ → Option ℕ
-torn_by s past p = of_standing (λ (k : Standing). entry_of k.torn) (stands s past p)
+torn_by s past p = part_of_view (λ (k : ProcessView). entry_of k.torn) (view_of s past p)
 
 -- a process and an entry, if there is one
 abbrev pub since : ℕ → Option ℕ → Option (ℕ × ℕ)
@@ -56,24 +56,24 @@ since q None = None
 since q (Some entry) = Some (q, entry)
 
 -- q, and the entry of its call with which it entered
-abbrev pub entered : ℕ → Standing → Option (ℕ × ℕ)
+abbrev pub entered : ℕ → ProcessView → Option (ℕ × ℕ)
 entered q k = since q k.passage.enters
 
 -- the lowest process other than p that is inside, and the entry with which it entered
 abbrev pub inside_since : Setup → Past → ℕ → Option (ℕ × ℕ)
-inside_since s past p = elim (other_inside (passage_in past) s.processes p) [ None ↦ None | Some q ↦ entered q (standing s q past) ]
+inside_since s past p = elim (other_inside (passage_in past) s.processes p) [ None ↦ None | Some q ↦ entered q (process_view s q past) ]
 
 -- the entry of q's `wait`, if q is ahead of p
 abbrev pub wait_ahead : Setup → Past → ℕ → ℕ → Option ℕ
 wait_ahead s past p q = cond (nat_lt p s.processes) (ahead_since (passage_in past) s.processes p q) None
 
 -- the entry with which the doorway of a process in this state began, in the past or with the access of entry e
-abbrev pub doorway_with : Past → Entry → Standing → Option ℕ
+abbrev pub doorway_with : Past → Entry → ProcessView → Option ℕ
 doorway_with past e k = first_of k.passage.doorway (cond (has_access e) (Some (length past)) None)
 
 -- that entry for the process of e, if the process exists
 abbrev pub doorway_of : Setup → Past → Entry → Option ℕ
-doorway_of s past e = of_standing (doorway_with past e) (stands s past e.process)
+doorway_of s past e = part_of_view (doorway_with past e) (view_of s past e.process)
 
 -- the value with which an access ends a read
 abbrev pub value_in : Option Access → Option Bool

@@ -14,9 +14,9 @@ use Rattle.any_lock.specs.declared.refusals.AccessRefusal.{AccessRefusal}
 use Rattle.any_lock.specs.declared.refusals.AccessRefusal.TheVariants as access
 use Rattle.any_lock.specs.declared.refusals.MarkRefusal.{MarkRefusal}
 use Rattle.any_lock.specs.declared.refusals.MarkRefusal.TheVariants as mark
-use Rattle.any_lock.specs.declared.standings.Begun.{Begun}
-use Rattle.any_lock.specs.declared.standings.Standing.{Standing}
-use Rattle.any_lock.specs.Standings.{settles, standing}
+use Rattle.any_lock.specs.declared.process_views.BegunAccess.{BegunAccess}
+use Rattle.any_lock.specs.declared.process_views.ProcessView.{ProcessView}
+use Rattle.any_lock.specs.Standings.{settles, process_view}
 
 -- the first value whose test holds
 abbrev pub first_that : {R : Type 0} → List (Bool × R) → Option R
@@ -86,12 +86,12 @@ abbrev pub may_move : Stage → Move → Bool
 may_move at how = settles how || is_running at || (is_settling at && not (reads how))
 
 -- this began an access to the same bit
-abbrev pub is_of_bit : Option Begun → Access → Bool
+abbrev pub is_of_bit : Option BegunAccess → Access → Bool
 is_of_bit None a = false
 is_of_bit (Some b) a = same_bit b.access a
 
 -- this began the access that ends here
-abbrev pub is_end_of : Option Begun → Access → Bool
+abbrev pub is_end_of : Option BegunAccess → Access → Bool
 is_end_of None a = false
 is_end_of (Some b) a = same_bit b.access a && same_truth (reads a.how) (reads b.access.how)
 
@@ -104,7 +104,7 @@ maker_refusals s p a =
     ∷ (reads a.how && not (a.reader == p), access.NotReader)
     ∷ []
 
-abbrev pub move_refusals : Standing → Access → List (Bool × AccessRefusal)
+abbrev pub move_refusals : ProcessView → Access → List (Bool × AccessRefusal)
 move_refusals k a =
     (settles a.how && not (is_settling k.stage), access.NotSettling)
     ∷ (not (may_move k.stage a.how), access.NotRunning)
@@ -115,7 +115,7 @@ move_refusals k a =
     ∷ []
 
 -- the refusal of an access that p makes in this state
-abbrev pub access_refusal : Setup → ℕ → Standing → Access → Option AccessRefusal
+abbrev pub access_refusal : Setup → ℕ → ProcessView → Access → Option AccessRefusal
 access_refusal s p k a = first_that (maker_refusals s p a ++ move_refusals k a)
 
 -- Answers.
@@ -126,7 +126,7 @@ same_reply (reply.Value x) (reply.Value y) = same_value x y
 same_reply reply.Done reply.Done = true
 same_reply (reply.Sum m) (reply.Sum n) = int_eq m n
 same_reply reply.Swapped reply.Swapped = true
-same_reply (reply.Kept x) (reply.Kept y) = same_value x y
+same_reply (reply.LockRun x) (reply.LockRun y) = same_value x y
 same_reply reply.NoName reply.NoName = true
 same_reply reply.NotCounter reply.NotCounter = true
 same_reply reply.Overflow reply.Overflow = true
@@ -155,7 +155,7 @@ has_other_reply None a = false
 has_other_reply (Some r) a = not (is_the_reply a r)
 
 -- The table of refusals of each mark, if its process is in this state.
-abbrev pub mark_refusal : Standing → Mark → Option MarkRefusal
+abbrev pub mark_refusal : ProcessView → Mark → Option MarkRefusal
 mark_refusal k (Called c) = first_that (
     (is_running k.stage, mark.Busy)
     ∷ (is_settling k.stage || is_down k.stage, mark.IsDown)
@@ -216,7 +216,7 @@ is_crowded e = list_any stands_alone e.marks && not (has_one_mark e)
 abbrev pub refusal_of_access : Setup → Past → Entry → Option AccessRefusal
 refusal_of_access s past e = elim e.access [
   | None ↦ first_that ((not (nat_lt e.process s.processes), access.NoProcess) ∷ [])
-  | Some a ↦ access_refusal s e.process (standing s e.process past) a
+  | Some a ↦ access_refusal s e.process (process_view s e.process past) a
 ]
 
 -- an entry with these marks in place of its own
@@ -226,7 +226,7 @@ up_to e marks = record { process = e.process; access = e.access; marks = marks }
 -- the first refused mark after the earlier marks
 abbrev pub refusal_behind : Setup → Past → Entry → List Mark → List Mark → Option MarkRefusal
 refusal_behind s past e earlier [] = None
-refusal_behind s past e earlier (m ∷ later) = elim (mark_refusal (standing s e.process (up_to e earlier ∷ past)) m) [
+refusal_behind s past e earlier (m ∷ later) = elim (mark_refusal (process_view s e.process (up_to e earlier ∷ past)) m) [
   | Some r ↦ Some r
   | None ↦ refusal_behind s past e (earlier ++ m ∷ []) later
 ]

@@ -4,11 +4,11 @@ ghost use Rattle.plain_store.specs.{checked};
 ghost use Rattle.any_lock.specs.Refusals.{access_refusal, begins_write, ends, first_that, is_end_of, is_of_bit, is_running as runs, is_settling as stage_settles, is_there as bit_is_there, maker_refusals, may_move, move_refusals, reads};
 
 use crate::refusals::AccessRefusal;
-use crate::standings::{Begun, Standing, is_settling};
+use crate::process_views::{BegunAccess, ProcessView, is_settling};
 use plain_store::Setup;
 use model::{Access, Move, Stage, width_of};
 
-impl Standing {
+impl ProcessView {
     /// Returns why an access of its process, with this number, is refused, if it is.
     #[inline]
     pub(crate) fn refuses_access(
@@ -131,7 +131,7 @@ fn is_there(setup: &Setup, access: &Access) -> bool
 
 /// Returns whether an access is of the same bit as another.
 #[inline]
-fn is_of_bit(begun: &Option<Begun>, access: &Access) -> bool
+fn is_of_bit(begun: &Option<BegunAccess>, access: &Access) -> bool
     ensures { result ≡ is_of_bit begun.now access.now }
 {
     match begun {
@@ -142,7 +142,7 @@ fn is_of_bit(begun: &Option<Begun>, access: &Access) -> bool
 
 /// Returns whether an access ends the one that began here.
 #[inline]
-fn is_end_of(begun: &Option<Begun>, access: &Access) -> bool
+fn is_end_of(begun: &Option<BegunAccess>, access: &Access) -> bool
     ensures { result ≡ is_end_of begun.now access.now }
 {
     match begun {

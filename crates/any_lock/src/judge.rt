@@ -2,14 +2,14 @@ ghost use Rattle.std.specs.Prelude.{◌≡◌, ◌+◌, ◌-◌, ◌^◌, ◌<�
 ghost use Rattle.plain_store.specs.{checked};
 ghost use Rattle.safe_monitor.specs.{entry_by};
 ghost use Rattle.any_lock.specs.Headline.{SaysHeadline};
-ghost use Rattle.any_lock.specs.Judging.{HasJudged, HearOn, IsExplained, JudgesOn, OfJudged, TellsReasons, Finds};
+ghost use Rattle.any_lock.specs.Judging.{HasJudged, ObserveOn, IsExplained, JudgesOn, OfJudged, ReportsReasons, Finds};
 ghost use Rattle.any_lock.specs.Verdicts.{verdict_of};
 
 use crate::any_lock_law::AnyLockLaw;
-use crate::kept::Kept;
+use crate::lock_run::LockRun;
 use crate::reasons::Reasons;
 use plain_store::{NestedTypes, Setup};
-use safe_monitor::{Audited, Verdict, Watch};
+use safe_monitor::{Audited, Verdict, SafeMonitor};
 use model::{Access, Mark};
 use std::alloc::{AllocError, Global};
 use std::marker::Model;
@@ -18,34 +18,34 @@ use std::marker::Model;
 /// looks back at, the state of each process, one store, two counts, the verdict and its reasons. So it needs the same memory
 /// however long the record is.
 #[derive(Drop)]
-pub struct Judge {
-    watch: Watch,
-    kept: Kept,
+pub struct AnyLockJudge {
+    monitor: SafeMonitor,
+    kept: LockRun,
     verdict: Verdict<AnyLockLaw>,
     entries: u64,
     reasons: Option<Reasons>,
 }
 
-impl Model for Judge {
+impl Model for AnyLockJudge {
     ghost use Rattle.std.specs.Prelude.{◌≤◌};
     ghost use Rattle.any_lock.specs.Judging.{JudgeState};
 
     ghost Value = { JudgeState };
 
-    ghost view = { λ j. record { watch = j.watch; kept = j.kept; verdict = j.verdict; entries = j.entries; reasons = j.reasons } };
+    ghost view = { λ j. record { monitor = j.monitor; kept = j.kept; verdict = j.verdict; entries = j.entries; reasons = j.reasons } };
 
     ghost invariant = { λ j. j.kept.entries ≤ j.entries };
 }
 
-impl Judge {
+impl AnyLockJudge {
     /// Creates a judge before the first entry. Fails only if an allocation fails; no later call allocates.
-    pub fn new(alloc: Global, setup: &Setup) -> Result<Judge, AllocError>
+    pub fn new(alloc: Global, setup: &Setup) -> Result<AnyLockJudge, AllocError>
         requires { checked setup.now ≡ Ok tt }
         ensures { IfOk result (λ judge. HasJudged judge setup.now []) }
     {
-        Ok(Judge {
-            watch: Watch::new(alloc, setup)?,
-            kept: Kept::new(alloc, setup)?,
+        Ok(AnyLockJudge {
+            monitor: SafeMonitor::new(alloc, setup)?,
+            kept: LockRun::new(alloc, setup)?,
             verdict: Verdict::Good,
             entries: 0,
             reasons: None,
@@ -53,9 +53,9 @@ impl Judge {
     }
 
     /// Observes one more entry, which may be any, by its parts. It does not allocate.
-    pub fn hear(&mut self, process: u8, access: &Option<Access>, marks: &[Mark])
+    pub fn observe(&mut self, process: u8, access: &Option<Access>, marks: &[Mark])
         requires { self.old.entries < 2 ^ 64 - 1 }
-        ensures heard { JudgesOn self.old (entry_by process access.now marks.now) self.new }
+        ensures observed { JudgesOn self.old (entry_by process access.now marks.now) self.new }
         ensures count { self.new.entries ≡ self.old.entries + 1 }
     {
         let number = self.entries;
@@ -76,13 +76,13 @@ impl Judge {
         requires few { self.old.kept.entries < self.old.entries }
         ensures verdict { self.new.verdict ≡ self.old.verdict }
         ensures entries { self.new.entries ≡ self.old.entries }
-        ensures heard { Finds self.old number (entry_by process access.now marks.now) result }
-        ensures reasons { TellsReasons self.old (entry_by process access.now marks.now) self.new }
-        ensures goes_on { HearOn self.old (entry_by process access.now marks.now) result self.new }
+        ensures observed { Finds self.old number (entry_by process access.now marks.now) result }
+        ensures reasons { ReportsReasons self.old (entry_by process access.now marks.now) self.new }
+        ensures goes_on { ObserveOn self.old (entry_by process access.now marks.now) result self.new }
     {
         let _nested: NestedTypes = None;
-        let is_safe = self.watch.hear(access);
-        let law = self.kept.hear(is_safe, process, access, marks);
+        let is_safe = self.monitor.observe(access);
+        let law = self.kept.observe(is_safe, process, access, marks);
         self.reasons = self.kept.reasons_of(law, process, access, marks);
         Verdict::found(number, law)
     }

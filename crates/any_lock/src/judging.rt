@@ -5,7 +5,7 @@ ghost use Rattle.any_lock.specs.Headline.{GoodSaysTheHeadline, SaysHeadline};
 ghost use Rattle.any_lock.specs.Verdicts.{verdict_of};
 
 use crate::any_lock_law::AnyLockLaw;
-use crate::judge::Judge;
+use crate::judge::AnyLockJudge;
 use plain_store::Setup;
 use safe_monitor::{Audited, parts};
 use model::Entry;
@@ -23,10 +23,10 @@ pub fn judge_all(
     ensures entries { IfOk result (λ judged. judged.entries ≡ length entries.now) }
     ensures headline { IfOk result (λ judged. SaysHeadline judged.verdict setup.now entries.now) }
 {
-    let mut judge = Judge::new(alloc, setup)?;
+    let mut judge = AnyLockJudge::new(alloc, setup)?;
     for entry in entries {
         let (process, access, marks) = parts(entry);
-        judge.hear(process, access, marks);
+        judge.observe(process, access, marks);
     }
     Ok(judge.judged())
 }

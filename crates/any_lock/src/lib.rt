@@ -6,21 +6,21 @@
 mod access_rules;
 mod any_lock_law;
 mod changes;
-mod hearing;
+mod observing;
 mod judge;
 mod judging;
-mod kept;
+mod lock_run;
 mod mark_rules;
 mod reasons;
 mod refusals;
 mod shown;
-mod standings;
+mod process_views;
 
 pub use any_lock_law::AnyLockLaw;
 pub use changes::changed;
-pub use judge::Judge;
+pub use judge::AnyLockJudge;
 pub use judging::{changed_entries_keep_all_laws, good_says_the_headline, judge_all};
 pub use safe_monitor::{Audited, NamedLaw, Verdict, parts};
 pub use reasons::{Reasons, Refused, Remedy};
 pub use refusals::{AccessRefusal, MarkRefusal};
-pub use standings::{Begun, Standing};
+pub use process_views::{BegunAccess, ProcessView};

@@ -8,14 +8,14 @@ ghost use Rattle.any_lock.specs.Refusals.{first_that, has_other_reply, is_down, 
 
 use crate::access_rules::{is_running, settles};
 use crate::refusals::MarkRefusal;
-use crate::standings::Standing;
+use crate::process_views::ProcessView;
 use plain_store::{Answer, NestedTypes, Reply};
 use model::{Mark, Stage};
 
 /// The most calls of a process in version 2.
 const MOST_CALLS: u16 = 65_535;
 
-impl Standing {
+impl ProcessView {
     /// Returns why a mark of its process is refused, if it is.
     pub(crate) fn refuses_mark(&self, mark: &Mark) -> Option<MarkRefusal>
         ensures { result ≡ mark_refusal self.now mark.now }

@@ -2,14 +2,14 @@
 ghost use Rattle.std.specs.Prelude.{◌≡◌, None};
 ghost use Rattle.lock_stages.specs.{AreSince};
 ghost use Rattle.any_lock.specs.declared.any_lock_law.AnyLockLaw.TheVariants as broken;
-ghost use Rattle.any_lock.specs.Judging.{AreReasonsBy, AreReasonsIf, TellsDoorway, TellsEntered};
+ghost use Rattle.any_lock.specs.Judging.{AreReasonsBy, AreReasonsIf, ReportsDoorway, ReportsEntered};
 ghost use Rattle.any_lock.specs.Keeping.{IsOfAccess, IsOfEntry, IsOfProcess, OfEntry, OfPast};
-ghost use Rattle.any_lock.specs.Reasons.{change_of, doorway_by, doorway_of, entry_of as began_at, inside_by, inside_since, opened_by, other_value, refused, since, stage_of, stands, torn_by, wait_ahead, wait_by};
+ghost use Rattle.any_lock.specs.Reasons.{change_of, doorway_by, doorway_of, entry_of as began_at, inside_by, inside_since, opened_by, other_value, refused, since, stage_of, view_of, torn_by, wait_ahead, wait_by};
 
 use crate::any_lock_law::AnyLockLaw;
-use crate::kept::Kept;
+use crate::lock_run::LockRun;
 use crate::refusals::{AccessRefusal, MarkRefusal};
-use crate::standings::{Begun, Standing};
+use crate::process_views::{BegunAccess, ProcessView};
 use lock_stages::MOST_PROCESSES;
 use plain_store::{NestedTypes, Reply};
 use model::{Access, Mark, Move, Stage};
@@ -52,7 +52,7 @@ pub struct Reasons {
     pub doorway: Option<u64>,
 }
 
-impl Kept {
+impl LockRun {
     /// Returns the reasons of an entry that breaks this law first, if it breaks one.
     #[inline]
     pub(crate) fn reasons_of(
@@ -96,11 +96,11 @@ impl Kept {
     }
 
     /// Returns the state of a process, if the process exists.
-    fn looked_up(&self, process: u8) -> Option<Standing>
-        ensures { OfPast self.now (λ s past. result ≡ stands s past process) }
+    fn looked_up(&self, process: u8) -> Option<ProcessView>
+        ensures { OfPast self.now (λ s past. result ≡ view_of s past process) }
     {
         if process < self.processes() {
-            Some(self.stands(process))
+            Some(self.view_of(process))
         } else {
             None
         }
@@ -112,7 +112,7 @@ impl Kept {
     {
         match self.looked_up(process) {
             None => None,
-            Some(standing) => Some(standing.stage),
+            Some(process_view) => Some(process_view.stage),
         }
     }
 
@@ -122,7 +122,7 @@ impl Kept {
     {
         match self.looked_up(process) {
             None => None,
-            Some(standing) => entry_of(&standing.opened),
+            Some(process_view) => entry_of(&process_view.opened),
         }
     }
 
@@ -132,7 +132,7 @@ impl Kept {
     {
         match self.looked_up(process) {
             None => None,
-            Some(standing) => entry_of(&standing.torn),
+            Some(process_view) => entry_of(&process_view.torn),
         }
     }
 
@@ -186,15 +186,15 @@ impl Kept {
     fn other_value(&self, process: u8, access: &Option<Access>, marks: &[Mark]) -> Option<Remedy>
         ensures { IsOfEntry result other_value self.now process access.now marks.now }
     {
-        let Some(told) = access else {
+        let Some(reported) = access else {
             return None;
         };
-        let Move::EndRead(value) = told.how else {
+        let Move::EndRead(value) = reported.how else {
             return None;
         };
         let turned = Access {
             how: Move::EndRead(!value),
-            ..*told
+            ..*reported
         };
         match self.after(process, &Some(turned), marks) {
             Ok(_) => Some(Remedy::Value(!value)),
@@ -224,11 +224,11 @@ impl Kept {
 
     /// Returns a process, and the entry of its call with which it entered.
     fn entered(&self, process: u8) -> Option<(u8, u64)>
-        ensures { TellsEntered self.now process result }
+        ensures { ReportsEntered self.now process result }
     {
         match self.looked_up(process) {
             None => None,
-            Some(standing) => since(process, standing.passage.enters),
+            Some(process_view) => since(process, process_view.passage.enters),
         }
     }
 
@@ -268,15 +268,15 @@ impl Kept {
     {
         match self.looked_up(process) {
             None => None,
-            Some(standing) => self.doorway_of(&standing, access),
+            Some(process_view) => self.doorway_of(&process_view, access),
         }
     }
 
     /// Returns the entry with which the doorway of a process in this state began, before this access or with it.
-    fn doorway_of(&self, standing: &Standing, access: &Option<Access>) -> Option<u64>
-        ensures { TellsDoorway self.now access.now standing.now result }
+    fn doorway_of(&self, process_view: &ProcessView, access: &Option<Access>) -> Option<u64>
+        ensures { ReportsDoorway self.now access.now process_view.now result }
     {
-        match standing.passage.doorway {
+        match process_view.passage.doorway {
             Some(entry) => Some(entry),
             None if access.is_some() => Some(self.entries()),
             None => None,
@@ -295,7 +295,7 @@ fn since(process: u8, entry: Option<u64>) -> Option<(u8, u64)>
 }
 
 /// Returns the entry with which an access began.
-fn entry_of(begun: &Option<Begun>) -> Option<u64>
+fn entry_of(begun: &Option<BegunAccess>) -> Option<u64>
     ensures { result ≡ began_at begun.now }
 {
     match begun {

@@ -3,16 +3,16 @@ use Rattle.std.proofs.Common.{◌≡◌, ℕ, suc, ◌<◌, Bool, true, false, L
 use Rattle.std.proofs.lemmas.List.{reverse-append, length-reverse, length-take-le}
 use Rattle.plain_store.specs.{Setup}
 use Rattle.model.specs.{Entry, Past}
-use Rattle.safe_monitor.specs.Safe.{TellsSafe}
+use Rattle.safe_monitor.specs.Safe.{ReportsSafe}
 use Rattle.auditor.specs.{AllKeep, BreaksFirst, BreaksNext, IsBadAt, Keeps, Law, number_of}
 use Rattle.safe_monitor.specs.declared.verdicts.Law.TheVariants as law
 use Rattle.auditor.proofs.Entries.{entries_split}
 
-pub breaks_safe : (s : Setup) (past : Past) (e : Entry) (told : Bool) → told ≡ false → TellsSafe told s past e → BreaksFirst law.Safe s past e
+pub breaks_safe : (s : Setup) (past : Past) (e : Entry) (reported : Bool) → reported ≡ false → ReportsSafe reported s past e → BreaksFirst law.Safe s past e
 breaks_safe s past e true is wrong = absurd (cc)
 breaks_safe s past e false is wrong = record { broken = wrong; before = λ k l. absurd (omega (arith, l)) }
 
-pub breaks_then : (s : Setup) (past : Past) (e : Entry) (l : Law) (told : Bool) → told ≡ true → TellsSafe told s past e → BreaksNext l s past e → BreaksFirst l s past e
+pub breaks_then : (s : Setup) (past : Past) (e : Entry) (l : Law) (reported : Bool) → reported ≡ true → ReportsSafe reported s past e → BreaksNext l s past e → BreaksFirst l s past e
 breaks_then s past e l false is safe next = absurd (cc)
 breaks_then s past e l true is safe next = record { broken = next.broken; before = before }
   where

@@ -14,14 +14,14 @@ use Rattle.safe_monitor.proofs.laws.SafeRecords.{ends_as_it_may}
 use Rattle.world.proofs.history_laws_proofs.Headlines.{alone, history_is_one, in_turn}
 use Rattle.world.proofs.WorldShows.{past-after}
 use Rattle.safe_monitor.specs.declared.verdicts.Law.TheVariants as law
-use Rattle.auditor.specs.{IsMade, IsOfEvent, KeepsAll, KeepsProgram, KeepsUnit, KeepsTogether, OwesAt, tells_event}
+use Rattle.auditor.specs.{IsMade, IsOfEvent, KeepsAll, KeepsProgram, KeepsUnit, KeepsTogether, OwesAt, reports_event}
 
 -- an entry of a step is made by that step
 pub made_by : (s : Setup) (past : Past) (e : Entry) (p : ℕ) (flick : Bool) → e.process ≡ p → stepped s past p flick ≡ Some e → IsMade s past e
 made_by s past e p flick is h = (flick, e, ap (λ q. stepped s past q flick) is ∙ h, record { process = refl; access = refl; marks = refl })
 
-marks_only : (e x : Entry) → Some x ≡ Some e → has tells_event x ≡ true → has tells_event e ≡ false → ⊥
-marks_only e x h shown none = let is : x ≡ e = cc in true≢false (sym shown ∙ ap (has tells_event) is ∙ none)
+marks_only : (e x : Entry) → Some x ≡ Some e → has reports_event x ≡ true → has reports_event e ≡ false → ⊥
+marks_only e x h shown none = let is : x ≡ e = cc in true≢false (sym shown ∙ ap (has reports_event) is ∙ none)
 
 -- the entry of a step that is not refused is owed
 owed : (s : Setup) (past : Past) (e : Entry) (p : ℕ) (flick : Bool) (x : Stage) → refused_at (event.Step p flick) x ≡ None → IsMade s past e → OwesAt x s past e
@@ -34,7 +34,7 @@ owed s past e p flick stages.Inside h m = m
 owed s past e p flick stages.Leaving h m = m
 
 program_kept : (s : Setup) → IsGood s → (events : List Event) (what : Event) (e : Entry) → entry_of s (past_of s events) what ≡ Some e → KeepsProgram s (past_of s events) e
-program_kept s g events what e is = (acc.below, go (has tells_event e) refl)
+program_kept s g events what e is = (acc.below, go (has reports_event e) refl)
   where
     past : Past
     past = past_of s events
@@ -42,14 +42,14 @@ program_kept s g events what e is = (acc.below, go (has tells_event e) refl)
     acc : Accepted s past what e
     acc = accepted s g events what e is
 
-    by : (w : Event) → e.process ≡ process_of w → refused_at w (stage (process_of w) past) ≡ None → added s past w ≡ Some e → has tells_event e ≡ false → OwesAt (stage e.process past) s past e
+    by : (w : Event) → e.process ≡ process_of w → refused_at w (stage (process_of w) past) ≡ None → added s past w ≡ Some e → has reports_event e ≡ false → OwesAt (stage e.process past) s past e
     by (event.Call p c) i r h k = absurd (marks_only e _ h refl k)
     by (event.Fail p) i r h k = absurd (marks_only e _ h refl k)
     by (event.Withdraw p) i r h k = absurd (marks_only e _ h refl k)
     by (event.Restart p) i r h k = absurd (marks_only e _ h refl k)
     by (event.Step p flick) i r h k = subst (λ q. OwesAt (stage q past) s past e) (sym i) (owed s past e p flick (stage p past) r (made_by s past e p flick i h))
 
-    go : (b : Bool) → has tells_event e ≡ b → elim b as (λ _. Type 0) [ true ↦ IsOfEvent s past e | false ↦ OwesAt (stage e.process past) s past e ]
+    go : (b : Bool) → has reports_event e ≡ b → elim b as (λ _. Type 0) [ true ↦ IsOfEvent s past e | false ↦ OwesAt (stage e.process past) s past e ]
     go true k = (what, is)
     go false k = let a = entry-accepted s past what e is in by what acc.process a.1 a.2 k
 

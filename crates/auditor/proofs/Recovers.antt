@@ -8,7 +8,7 @@ use Rattle.model.specs.declared.refusals.Refusal.TheVariants.{NoProcess}
 use Rattle.model.specs.declared.stages.Stage.TheVariants as stages
 use Rattle.model.proofs.Local.{option_map-some}
 use Rattle.safe_monitor.specs.declared.verdicts.Law.TheVariants as law
-use Rattle.auditor.specs.{IsAlike, IsMade, IsOfEvent, KeepsAll, OwesAt, tells_event}
+use Rattle.auditor.specs.{IsAlike, IsMade, IsOfEvent, KeepsAll, OwesAt, reports_event}
 use Rattle.auditor.proofs.Marks.{same_marks}
 
 -- the entry that a step makes has its process, and its marks have their position
@@ -68,7 +68,7 @@ makes s past e stages.Inside h unit = h
 makes s past e stages.Leaving h unit = h
 
 pub recovers : (s : Setup) (past : Past) (e : Entry) → KeepsAll s past e → IsOfEvent s past e
-recovers s past e kept = go (has tells_event e) (kept law.Program).1
+recovers s past e kept = go (has reports_event e) (kept law.Program).1
   where
     go : (b : Bool) → elim b as (λ _. Type 0) [ true ↦ IsOfEvent s past e | false ↦ OwesAt (stage e.process past) s past e ] → IsOfEvent s past e
     go true h = h

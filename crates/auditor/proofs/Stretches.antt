@@ -7,7 +7,7 @@ use Rattle.world.specs.choices.{FlickState, after_flick, flick_of, flicks_after}
 use Rattle.world.specs.{CoreState, CoreWalks, with_history}
 use Rattle.world.specs.Shows.{Shows, WorldState}
 use Rattle.world.specs.Walks.{Walks}
-use Rattle.auditor.specs.{AuditorState, HasHeard, IsCount, steps_on}
+use Rattle.auditor.specs.{AuditorState, HasObserved, IsCount, steps_on}
 
 -- n steps take n flicks
 pub walks-flicks : (n : ℕ) (newest : Access) (overlapped : ℕ) (old new : WorldState) (f g : FlickState) (p : ℕ) → Walks old f p n newest overlapped new g → g ≡ flicks_after n f
@@ -33,9 +33,9 @@ steps-alike s p f (suc n) x y same =
     ap (λ (past : Past). elim (entry_of s past (Step p (flick_of (flicks_after n f)))) as (λ _. Past) [ None ↦ past | Some e ↦ e ∷ past ]) (steps-alike s p f n x y same)
 
 -- the auditor has observed the steps that it has made
-pub heard-steps : (a : AuditorState) (new : CoreState) (f g : FlickState) (p n : ℕ) (newest : Access) (overlapped : ℕ) → CoreWalks a.core f p n newest overlapped new g → (events : List Event) → HasHeard a (past_of a.core.setup events) →
-    HasHeard (record { core = new; taken = a.taken }) (past_of a.core.setup (steps_on p f n events))
-heard-steps a new f g p n newest overlapped runs events h = record {
+pub observed-steps : (a : AuditorState) (new : CoreState) (f g : FlickState) (p n : ℕ) (newest : Access) (overlapped : ℕ) → CoreWalks a.core f p n newest overlapped new g → (events : List Event) → HasObserved a (past_of a.core.setup events) →
+    HasObserved (record { core = new; taken = a.taken }) (past_of a.core.setup (steps_on p f n events))
+observed-steps a new f g p n newest overlapped runs events h = record {
   events = steps_on p f n h.events;
   past_is = now;
   shows = subst (λ (taken : List Taken). Shows (with_history new taken) (steps_on p f n h.events)) taken_is shown;

@@ -10,10 +10,10 @@ use Rattle.model.specs.declared.refusals.Refusal.TheVariants.{NoProcess}
 use Rattle.model.specs.declared.stages.Stage.TheVariants as stages
 use Rattle.model.proofs.Width.{is_good}
 use Rattle.model.proofs.World.{entry-accepted}
-use Rattle.auditor.specs.{AreAt, BreaksNext, IsAlike, IsMade, IsOfEvent, Keeps, KeepsAll, KeepsProgram, Law, OwesAt, event_in, flick_in, number_of, tells_event}
+use Rattle.auditor.specs.{AreAt, BreaksNext, IsAlike, IsMade, IsOfEvent, Keeps, KeepsAll, KeepsProgram, Law, OwesAt, event_in, flick_in, number_of, reports_event}
 use Rattle.safe_monitor.specs.declared.verdicts.Law.TheVariants as law
-use Rattle.auditor.proofs.Events.{IsNoStep, calls, fails, withdraws, restarts, step-tells-none, tells-it}
-use Rattle.auditor.proofs.ToldAgain.{told_again}
+use Rattle.auditor.proofs.Events.{IsNoStep, calls, fails, withdraws, restarts, step-reports-none, reports-it}
+use Rattle.auditor.proofs.ReportedAgain.{reported_again}
 use Rattle.auditor.proofs.Marks.{same_marks}
 use Rattle.auditor.proofs.Obeys.{obeys}
 use Rattle.auditor.proofs.Recovers.{StepIs, makes, owes, step_is}
@@ -50,7 +50,7 @@ same_step : (s : Setup) (events : List Event) (e m : Entry) → IsTried s events
 same_step s events e m t flick made is acc =
     let known = tried s events e m t in
     let again : stepped s (past_of s events) e.process (flick_in made.access) ≡ Some made =
-    told_again s (is_good s t.good) events e.process flick made (any-flick e.process (flick_in e.access) flick (stage e.process (past_of s events)) known.1) is in
+    reported_again s (is_good s t.good) events e.process flick made (any-flick e.process (flick_in e.access) flick (stage e.process (past_of s events)) known.1) is in
     let both : Some made ≡ Some m = sym again ∙ ap (λ a. stepped s (past_of s events) e.process (flick_in a)) (sym acc) ∙ known.2 in
     cc
 
@@ -66,7 +66,7 @@ not_of_event s events e m t wrong none (w, is) = by w (entry-accepted s past w e
     past = past_of s events
 
     other : (w : Event) → IsNoStep w → added s past w ≡ Some e → ⊥
-    other w n h = let f : None ≡ Some w = sym none ∙ tells-it s past e w n h in cc
+    other w n h = let f : None ≡ Some w = sym none ∙ reports-it s past e w n h in cc
 
     by : (w : Event) → added s past w ≡ Some e → ⊥
     by (event.Call p c) h = other _ (calls p c) h
@@ -98,7 +98,7 @@ only-program s past e kept law.History a b = absurd (omega (arith, b))
 -- An entry whose step is refused, and that determines no other event.
 pub refused_step : (s : Setup) → checked s ≡ Ok tt → (events : List Event) (e : Entry) (r : Refusal) → refused s (past_of s events) (event.Step e.process (flick_in e.access)) ≡ Some r → event_in e ≡ None →
     BreaksNext law.Program s (past_of s events) e
-refused_step s good events e r wrong none = breaks-program s past e (λ kept. go (has tells_event e) kept.0 kept.1)
+refused_step s good events e r wrong none = breaks-program s past e (λ kept. go (has reports_event e) kept.0 kept.1)
   where
     past : Past
     past = past_of s events
@@ -113,7 +113,7 @@ refused_step s good events e r wrong none = breaks-program s past e (λ kept. go
         here false k o l = absurd (cc)
 
     other : (w : Event) → IsNoStep w → added s past w ≡ Some e → ⊥
-    other w n h = let f : None ≡ Some w = sym none ∙ tells-it s past e w n h in cc
+    other w n h = let f : None ≡ Some w = sym none ∙ reports-it s past e w n h in cc
 
     by : (w : Event) → refused_at w (stage (process_of w) past) ≡ None → added s past w ≡ Some e → e.process < s.processes → ⊥
     by (event.Call p c) ok h below = other _ (calls p c) h
@@ -127,12 +127,12 @@ refused_step s good events e r wrong none = breaks-program s past e (λ kept. go
     go false below h = free false below (owes s past e (stage e.process past) h false)
 
 -- An entry that determines an event which is refused.
-pub refused_event : (s : Setup) (past : Past) (e : Entry) (w : Event) (r : Refusal) → event_in e ≡ Some w → refused s past w ≡ Some r → has tells_event e ≡ true → BreaksNext law.Program s past e
-refused_event s past e w r is wrong tells = breaks-program s past e (λ kept. go (has tells_event e) tells kept.1)
+pub refused_event : (s : Setup) (past : Past) (e : Entry) (w : Event) (r : Refusal) → event_in e ≡ Some w → refused s past w ≡ Some r → has reports_event e ≡ true → BreaksNext law.Program s past e
+refused_event s past e w r is wrong reports = breaks-program s past e (λ kept. go (has reports_event e) reports kept.1)
   where
     other : (v : Event) → IsNoStep v → added s past v ≡ Some e → entry_of s past v ≡ Some e → ⊥
     other v n h l =
-        let both : Some v ≡ Some w = sym (tells-it s past e v n h) ∙ is in
+        let both : Some v ≡ Some w = sym (reports-it s past e v n h) ∙ is in
         let same : v ≡ w = cc in
         let f : None ≡ Some e = sym (ap (λ o. elim o as (λ _. Option Entry) [ Some r ↦ None | None ↦ added s past w ]) wrong) ∙ ap (entry_of s past) (sym same) ∙ l in
         cc
@@ -142,15 +142,15 @@ refused_event s past e w r is wrong tells = breaks-program s past e (λ kept. go
     by (event.Fail p) h l = other _ (fails p) h l
     by (event.Withdraw p) h l = other _ (withdraws p) h l
     by (event.Restart p) h l = other _ (restarts p) h l
-    by (event.Step p flick) h l = let f : None ≡ Some w = sym (step-tells-none s past p flick e h) ∙ is in cc
+    by (event.Step p flick) h l = let f : None ≡ Some w = sym (step-reports-none s past p flick e h) ∙ is in cc
 
     go : (b : Bool) → b ≡ true → elim b as (λ _. Type 0) [ true ↦ IsOfEvent s past e | false ↦ OwesAt (stage e.process past) s past e ] → ⊥
     go true k (v, l) = by v (entry-accepted s past v e l).2 l
     go false k h = true≢false (sym k)
 
 -- An entry that is not alike to that of the tried step.
-pub wrong_step : (s : Setup) (events : List Event) (e m : Entry) → IsTried s events e m → (IsAlike e m → ⊥) → has tells_event e ≡ false → (stage e.process (past_of s events) ≡ stages.Settling → ⊥) → BreaksNext law.Program s (past_of s events) e
-wrong_step s events e m t wrong plain runs = breaks-program s past e (λ kept. go (has tells_event e) plain kept.1)
+pub wrong_step : (s : Setup) (events : List Event) (e m : Entry) → IsTried s events e m → (IsAlike e m → ⊥) → has reports_event e ≡ false → (stage e.process (past_of s events) ≡ stages.Settling → ⊥) → BreaksNext law.Program s (past_of s events) e
+wrong_step s events e m t wrong plain runs = breaks-program s past e (λ kept. go (has reports_event e) plain kept.1)
   where
     past : Past
     past = past_of s events
@@ -162,10 +162,10 @@ wrong_step s events e m t wrong plain runs = breaks-program s past e (λ kept. g
 owed-settling : (s : Setup) (past : Past) (e : Entry) (x : Stage) → x ≡ stages.Settling → OwesAt x s past e
 owed-settling s past e x h = subst (λ x. OwesAt x s past e) (sym h) tt
 
-plain-program : (s : Setup) (past : Past) (e : Entry) → e.process < s.processes → has tells_event e ≡ false → OwesAt (stage e.process past) s past e → KeepsProgram s past e
+plain-program : (s : Setup) (past : Past) (e : Entry) → e.process < s.processes → has reports_event e ≡ false → OwesAt (stage e.process past) s past e → KeepsProgram s past e
 plain-program s past e below plain owed = (below, subst (λ b. elim b as (λ _. Type 0) [ true ↦ IsOfEvent s past e | false ↦ OwesAt (stage e.process past) s past e ]) (sym plain) owed)
 
-pub wrong_unit : (s : Setup) (events : List Event) (e m : Entry) → IsTried s events e m → (IsAlike e m → ⊥) → has tells_event e ≡ false → stage e.process (past_of s events) ≡ stages.Settling → BreaksNext law.Unit s (past_of s events) e
+pub wrong_unit : (s : Setup) (events : List Event) (e m : Entry) → IsTried s events e m → (IsAlike e m → ⊥) → has reports_event e ≡ false → stage e.process (past_of s events) ≡ stages.Settling → BreaksNext law.Unit s (past_of s events) e
 wrong_unit s events e m t wrong plain st = record {
   later = omega arith;
   broken = λ kept. not_made s events e m t wrong (kept st);
@@ -176,8 +176,8 @@ wrong_unit s events e m t wrong plain st = record {
     past = past_of s events
 
 -- An entry with the mark of an event, which is the entry of no event.
-pub wrong_event : (s : Setup) (events : List Event) (e m : Entry) → IsTried s events e m → (e ≡ m → ⊥) → event_in e ≡ None → has tells_event e ≡ true → BreaksNext law.Program s (past_of s events) e
-wrong_event s events e m t wrong none tells = breaks-program s past e (λ kept. go (has tells_event e) tells kept.1)
+pub wrong_event : (s : Setup) (events : List Event) (e m : Entry) → IsTried s events e m → (e ≡ m → ⊥) → event_in e ≡ None → has reports_event e ≡ true → BreaksNext law.Program s (past_of s events) e
+wrong_event s events e m t wrong none reports = breaks-program s past e (λ kept. go (has reports_event e) reports kept.1)
   where
     past : Past
     past = past_of s events
@@ -218,7 +218,7 @@ all-but-history s past e p u t o law.History a b = absurd (omega (arith, b))
 given-step : (s : Setup) (events : List Event) (p : ℕ) (flick : Bool) → AreGiven s events → AreGiven s (event.Step p flick ∷ events)
 given-step s events p flick g = record { opening = g.opening; commands = g.commands }
 
-pub wrong_place : (s : Setup) (events : List Event) (e m : Entry) → IsTried s events e m → IsAlike e m → has tells_event e ≡ false → (AreAt (length (history s (past_of s events))) e.marks → ⊥) → BreaksNext law.History s (past_of s events) e
+pub wrong_place : (s : Setup) (events : List Event) (e m : Entry) → IsTried s events e m → IsAlike e m → has reports_event e ≡ false → (AreAt (length (history s (past_of s events))) e.marks → ⊥) → BreaksNext law.History s (past_of s events) e
 wrong_place s events e m t alike plain wrong = record {
   later = omega arith;
   broken = λ kept. wrong (λ k r c. (kept k r c).0);

@@ -6,7 +6,7 @@ use Rattle.model.specs.{AreGiven, Entry, Event, KeepsHeadlineThroughout, Past, e
 use Rattle.model.proofs.Width.{is_good}
 use Rattle.safe_monitor.proofs.laws.HeldThere.{access_there}
 use Rattle.world.proofs.WorldShows.{past-after}
-use Rattle.auditor.specs.{AllKeep, AuditorState, GoodAccessesAreThere, GoodIsOfEvents, HasHeard, IsGoodOfEvents, IsOfEvent, IsTrueRecord, IsVerdict, OfEventsIsGood, Law, Verdict}
+use Rattle.auditor.specs.{AllKeep, AuditorState, GoodAccessesAreThere, GoodIsOfEvents, HasObserved, IsGoodOfEvents, IsOfEvent, IsTrueRecord, IsVerdict, OfEventsIsGood, Law, Verdict}
 use Rattle.world.proofs.history_laws_proofs.Given.{given_before}
 use Rattle.world.proofs.history_laws_proofs.Headlines.{throughout}
 use Rattle.auditor.proofs.Obeys.{obeys}
@@ -21,16 +21,16 @@ of_events s (e ∷ past) kept =
     (here.0 ∷ before.0, past-after s before.0 here.0 e (ap (λ l. entry_of s l here.0) before.1 ∙ here.1) ∙ ap (λ l. e ∷ l) before.1)
 
 -- A record of which an auditor has observed all entries is that of the events that its core shows.
-pub true_record : (a : AuditorState) (s : Setup) (entries : List Entry) → a.core.setup ≡ s → HasHeard a (reverse entries) → IsTrueRecord s entries
-true_record a s entries same heard = subst (λ s. IsTrueRecord s entries) same (record {
-  events = reverse heard.events;
-  record_is = ap (λ l. reverse (past_of a.core.setup l)) twice ∙ ap reverse heard.past_is ∙ reverse-reverse entries;
-  given = subst (AreGiven a.core.setup) (sym twice) heard.shows.given;
-  headline = subst (KeepsHeadlineThroughout a.core.setup) heard.past_is (throughout a.core.setup heard.shows.good heard.events heard.shows.given);
+pub true_record : (a : AuditorState) (s : Setup) (entries : List Entry) → a.core.setup ≡ s → HasObserved a (reverse entries) → IsTrueRecord s entries
+true_record a s entries same observed = subst (λ s. IsTrueRecord s entries) same (record {
+  events = reverse observed.events;
+  record_is = ap (λ l. reverse (past_of a.core.setup l)) twice ∙ ap reverse observed.past_is ∙ reverse-reverse entries;
+  given = subst (AreGiven a.core.setup) (sym twice) observed.shows.given;
+  headline = subst (KeepsHeadlineThroughout a.core.setup) observed.past_is (throughout a.core.setup observed.shows.good observed.events observed.shows.given);
 })
   where
-    twice : reverse (reverse heard.events) ≡ heard.events
-    twice = reverse-reverse heard.events
+    twice : reverse (reverse observed.events) ≡ observed.events
+    twice = reverse-reverse observed.events
 
 pub is_good_of : GoodIsOfEvents
 is_good_of s good past kept = of_events s past kept

@@ -3,13 +3,13 @@ use Rattle.std.proofs.Common.{◌≡◌, ◌<◌, ℕ, Bool, false, true≢false
 use Rattle.std.specs.Prelude.{unwrap_or}
 use Rattle.model.specs.{Access, Entry, Past, Taken, history}
 use Rattle.model.specs.declared.events.Event.TheVariants as event
-use Rattle.world.specs.process.declared.told.StepTold.TheVariants.{Nothing}
-use Rattle.world.specs.{CoreAddsQuietly, CoreState, MakesQuietly, left_in, with_history}
+use Rattle.world.specs.process.declared.outcomes.StepOutcome.TheVariants.{Nothing}
+use Rattle.world.specs.{CoreAddsQuietly, CoreState, MakesQuietly, remaining_in, with_history}
 use Rattle.world.specs.Walks.{AddsQuietly}
 use Rattle.world.proofs.WithinStages.{within-unsettled}
 use Rattle.safe_monitor.specs.declared.verdicts.Law.TheVariants as law
-use Rattle.auditor.specs.{AuditorState, BreaksNext, HasHeard, IsHeard, flick_in}
-use Rattle.auditor.proofs.Hearing.{heard_on, heard_wrong}
+use Rattle.auditor.specs.{AuditorState, BreaksNext, HasObserved, IsObserved, flick_in}
+use Rattle.auditor.proofs.Observing.{observed_on, observed_wrong}
 
 -- the facts about a step within a register access that the auditor has made
 abbrev pub MadeWithin : CoreState → ℕ → Bool → Access → Bool → CoreState → Type 0
@@ -24,7 +24,7 @@ access_entry p access = record { process = p; access = Some access; marks = [] }
 
 -- the facts about the next access, which is not made yet
 pub record IsNextWithin (core : CoreState) (p : ℕ) (flick : Bool) (next : Access) : Type 0 where
-  pub within : 0 < left_in core.seats p
+  pub within : 0 < remaining_in core.seats p
   pub adds : CoreAddsQuietly core p flick next
 
 -- one entry has one access
@@ -32,23 +32,23 @@ same_access : (p : ℕ) (a b : Access) → Some (access_entry p a) ≡ Some (acc
 same_access p a b both = ap (λ (o : Option Entry). elim o as (λ _. Access) [ None ↦ a | Some e ↦ unwrap_or e.access a ]) both
 
 -- the access that is made is the next one
-next_made : (a : AuditorState) (past : Past) (p : ℕ) (flick overlapped : Bool) (next made : Access) (new : CoreState) → IsNextWithin a.core p flick next → MadeWithin a.core p flick made overlapped new → HasHeard a past → made ≡ next
+next_made : (a : AuditorState) (past : Past) (p : ℕ) (flick overlapped : Bool) (next made : Access) (new : CoreState) → IsNextWithin a.core p flick next → MadeWithin a.core p flick made overlapped new → HasObserved a past → made ≡ next
 next_made a past p flick overlapped next made new is m h =
     let before : List Taken = history a.core.setup past in
     same_access p made next (sym (made_adds a.core new p flick overlapped made m before h.events h.shows) ∙ is.adds before h.events h.shows)
 
 -- the entry of that step is observed
-pub heard_within : (a : AuditorState) (past : Past) (p : ℕ) (overlapped : Bool) (access next made : Access) (new : CoreState) → IsNextWithin a.core p (flick_in (Some access)) next → next ≡ access → MadeWithin a.core p (flick_in (Some access)) made overlapped new → HasHeard a past →
-    IsHeard a.core.setup past (access_entry p access) (record { core = new; taken = a.taken }) None
-heard_within a past p overlapped access next made new is same m h =
+pub observed_within : (a : AuditorState) (past : Past) (p : ℕ) (overlapped : Bool) (access next made : Access) (new : CoreState) → IsNextWithin a.core p (flick_in (Some access)) next → next ≡ access → MadeWithin a.core p (flick_in (Some access)) made overlapped new → HasObserved a past →
+    IsObserved a.core.setup past (access_entry p access) (record { core = new; taken = a.taken }) None
+observed_within a past p overlapped access next made new is same m h =
     let before : List Taken = history a.core.setup past in
     let flick : Bool = flick_in (Some access) in
-    subst (λ x. IsHeard a.core.setup past (access_entry p x) (record { core = new; taken = a.taken }) None) (next_made a past p flick overlapped next made new is m h ∙ same)
-    (heard_on a.core new a.taken a.taken past h (event.Step p flick) (access_entry p made) before (m before).steps.setup (made_adds a.core new p flick overlapped made m before h.events h.shows) ((m before).steps.shows h.events h.shows) h.counted)
+    subst (λ x. IsObserved a.core.setup past (access_entry p x) (record { core = new; taken = a.taken }) None) (next_made a past p flick overlapped next made new is m h ∙ same)
+    (observed_on a.core new a.taken a.taken past h (event.Step p flick) (access_entry p made) before (m before).steps.setup (made_adds a.core new p flick overlapped made m before h.events h.shows) ((m before).steps.shows h.events h.shows) h.counted)
 
 -- an entry with another access breaks a law
-pub other_heard : (a : AuditorState) (past : Past) (p : ℕ) (access next : Access) → IsNextWithin a.core p (flick_in (Some access)) next → HasHeard a past → (next ≡ access → ⊥) → BreaksNext law.Program a.core.setup past (access_entry p access)
-other_heard a past p access next is h wrong =
-    heard_wrong a past (access_entry p access) next Nothing (record { heard = h; none = refl; adds = is.adds }) false
+pub other_observed : (a : AuditorState) (past : Past) (p : ℕ) (access next : Access) → IsNextWithin a.core p (flick_in (Some access)) next → HasObserved a past → (next ≡ access → ⊥) → BreaksNext law.Program a.core.setup past (access_entry p access)
+other_observed a past p access next is h wrong =
+    observed_wrong a past (access_entry p access) next Nothing (record { observed = h; none = refl; adds = is.adds }) false
     (λ alike. let both : Some access ≡ Some next = alike.access in wrong (cc))
     (λ below. (λ yes. absurd (true≢false (sym yes)), λ settling. absurd (within-unsettled (with_history a.core (history a.core.setup past)) h.events p h.shows is.within settling)))

@@ -13,12 +13,12 @@ use Rattle.safe_monitor.specs.declared.verdicts.Verdict.TheVariants.{Good, Bad}
 -- The laws.
 
 -- the mark is that of an event other than a step
-abbrev pub tells_event : Mark → Bool
-tells_event (Called c) = true
-tells_event Failed = true
-tells_event Withdrew = true
-tells_event Restarted = true
-tells_event _ = false
+abbrev pub reports_event : Mark → Bool
+reports_event (Called c) = true
+reports_event Failed = true
+reports_event Withdrew = true
+reports_event Restarted = true
+reports_event _ = false
 
 -- two entries are equal, except for the positions of commands taken
 pub record IsAlike (e other : Entry) : Type 0 where
@@ -43,7 +43,7 @@ OwesAt _ s past e = IsMade s past e
 
 -- A process that exists makes what its local program prescribes, and nothing else. The mark of a call, a failure, a withdrawal or a restart is alone in its entry, and that event is not refused.
 abbrev pub KeepsProgram : Setup → Past → Entry → Type 0
-KeepsProgram s past e = (e.process < s.processes) × elim (has tells_event e) as (λ _. Type 0) [ true ↦ IsOfEvent s past e | false ↦ OwesAt (stage e.process past) s past e ]
+KeepsProgram s past e = (e.process < s.processes) × elim (has reports_event e) as (λ _. Type 0) [ true ↦ IsOfEvent s past e | false ↦ OwesAt (stage e.process past) s past e ]
 
 -- The memory unit of a process that failed makes what the failure rule prescribes.
 abbrev pub KeepsUnit : Setup → Past → Entry → Type 0

@@ -1,13 +1,13 @@
 ghost use Rattle.std.specs.Prelude.{◌≡◌, IfOk, Ok, reverse};
 ghost use Rattle.plain_store.specs.{checked};
-ghost use Rattle.safe_monitor.specs.Safe.{TellsSafe};
-ghost use Rattle.auditor.specs.Hearing.{BreaksNext};
+ghost use Rattle.safe_monitor.specs.Safe.{ReportsSafe};
+ghost use Rattle.auditor.specs.Observing.{BreaksNext};
 ghost use Rattle.safe_monitor.specs.declared.verdicts.Verdict.TheVariants.{Good};
 ghost use Rattle.auditor.specs.Verdicts.{AllKeep, BreaksFirst, IsGoodOfEvents, IsTrueRecord, IsVerdict};
 
 use crate::auditor::Auditor;
 use plain_store::Setup;
-use safe_monitor::{Law, Verdict, Watch, parts};
+use safe_monitor::{Law, Verdict, SafeMonitor, parts};
 use model::{Entry, Record};
 use std::alloc::{AllocError, Global};
 
@@ -32,7 +32,7 @@ fn audit_all(alloc: Global, setup: &Setup, entries: &[Entry]) -> Result<Verdict,
     let mut auditor = Auditor::new(alloc, setup)?;
     for (number, entry) in entries.iter().enumerate() {
         let (process, access, marks) = parts(entry);
-        if let Some(law) = auditor.hear(process, access, marks) {
+        if let Some(law) = auditor.observe(process, access, marks) {
             let before = &entries[..number];
             let first = first_law(alloc, setup, before, entry, law)?;
             return Ok(Verdict::Bad(number as u64, first));
@@ -62,7 +62,7 @@ fn first_law(
     }
 }
 
-/// Returns whether an entry keeps the law `Safe`, after entries that keep all laws. A [`Watch`] observes them all.
+/// Returns whether an entry keeps the law `Safe`, after entries that keep all laws. A [`SafeMonitor`] observes them all.
 fn is_safe(
     alloc: Global,
     setup: &Setup,
@@ -71,13 +71,13 @@ fn is_safe(
 ) -> Result<bool, AllocError>
     requires good { checked setup.now ≡ Ok tt }
     requires kept { AllKeep setup.now (reverse before.now) }
-    ensures { IfOk result (λ told. TellsSafe told setup.now (reverse before.now) entry.now) }
+    ensures { IfOk result (λ reported. ReportsSafe reported setup.now (reverse before.now) entry.now) }
 {
-    let mut watch = Watch::new(alloc, setup)?;
+    let mut monitor = SafeMonitor::new(alloc, setup)?;
     for earlier in before {
         let (_, access, _) = parts(earlier);
-        watch.hear(access);
+        monitor.observe(access);
     }
     let (_, access, _) = parts(entry);
-    Ok(watch.hear(access))
+    Ok(monitor.observe(access))
 }

@@ -5,7 +5,7 @@
 //! let mut auditor = Auditor::new(alloc, setup)?;
 //! for (number, entry) in entries.iter().enumerate() {
 //!     let (process, access, marks) = parts(entry);
-//!     if let Some(law) = auditor.hear(process, access, marks) {
+//!     if let Some(law) = auditor.observe(process, access, marks) {
 //! ```
 #![tactic(auto)]
 
@@ -21,7 +21,7 @@ pub use laws_of_verdicts::{
     good_records_access_what_is_there, good_records_are_of_events, records_have_one_verdict,
     records_of_events_are_good,
 };
-pub use matching::{event_in, tells_event};
-pub use safe_monitor::{Audited, Law, NamedLaw, Verdict, Watch, parts};
+pub use matching::{event_in, reports_event};
+pub use safe_monitor::{Audited, Law, NamedLaw, Verdict, SafeMonitor, parts};
 pub use model::{Entry, Record};
 pub use world::{Core, Flicks, World};

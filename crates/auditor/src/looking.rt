@@ -2,7 +2,7 @@
 ghost use Rattle.std.specs.Prelude.{◌≡◌};
 ghost use Rattle.model.specs.{refused};
 ghost use Rattle.world.specs.{stage_in};
-ghost use Rattle.auditor.specs.Hearing.{IsAddedByStep, OfHeard};
+ghost use Rattle.auditor.specs.Observing.{IsAddedByStep, OfObserved};
 
 use crate::auditor::Auditor;
 use plain_store::NestedTypes;
@@ -19,14 +19,14 @@ impl Auditor {
 
     /// Returns the stage of a process, or `None` if there is no such process.
     pub fn stage(&self, process: u8) -> Option<Stage>
-        ensures { OfHeard self.now (λ s past. result ≡ stage_in s past process) }
+        ensures { OfObserved self.now (λ s past. result ≡ stage_in s past process) }
     {
         self.core.stage(process)
     }
 
     /// Returns why an event is refused, or `None` if it is accepted.
     pub fn refusal(&self, event: &Event) -> Option<Refusal>
-        ensures { OfHeard self.now (λ s past. result ≡ refused s past event.now) }
+        ensures { OfObserved self.now (λ s past. result ≡ refused s past event.now) }
     {
         self.core.refusal(event)
     }

@@ -2,16 +2,16 @@
 ghost use Rattle.std.specs.Prelude.{◌≡◌, ◌↔◌, ℕ, true, false, IsTrue, Option, Some, None, map};
 ghost use Rattle.std.specs.List.{list_any};
 ghost use Rattle.model.specs.{placed};
-ghost use Rattle.world.specs.process.{marks_told};
-ghost use Rattle.auditor.specs.Hearing.{CountsOn, IsCount, TellsAlike, event_in, flick_in};
-ghost use Rattle.auditor.specs.Verdicts.{tells_event};
-ghost use Rattle.auditor.specs.Hearing.{AreAt};
+ghost use Rattle.world.specs.process.{marks_reported};
+ghost use Rattle.auditor.specs.Observing.{CountsOn, IsCount, ReportsAlike, event_in, flick_in};
+ghost use Rattle.auditor.specs.Verdicts.{reports_event};
+ghost use Rattle.auditor.specs.Observing.{AreAt};
 ghost use Rattle.safe_monitor.specs.{entry_by};
 
 use plain_store::{Answer, Command, Name, Reply, Text, Value};
 use model::{Access, Entry, Event, Field, Mark, Move};
 use std::alloc::Global;
-use world::{StepTold, step_marks};
+use world::{StepOutcome, step_marks};
 
 /// Returns the flick that an access determines, or false if there is no access.
 #[inline]
@@ -53,8 +53,8 @@ pub fn event_in(process: u8, access: &Option<Access>, marks: &[Mark]) -> Option<
 }
 
 /// Returns whether one of the marks is that of an event other than a step.
-pub fn tells_event(marks: &[Mark]) -> bool
-    ensures { result ≡ list_any tells_event marks.now }
+pub fn reports_event(marks: &[Mark]) -> bool
+    ensures { result ≡ list_any reports_event marks.now }
 {
     marks.iter().any(|mark| {
         matches!(
@@ -65,27 +65,27 @@ pub fn tells_event(marks: &[Mark]) -> bool
 }
 
 /// Returns whether an entry with this access and these marks is, except for positions, that of a step which made the access
-/// `made` and leads to `told`.
+/// `made` and leads to `reported`.
 #[inline]
 pub(crate) fn is_alike(
     alloc: Global,
     access: &Option<Access>,
     marks: &[Mark],
     made: &Access,
-    told: &StepTold,
+    reported: &StepOutcome,
 ) -> bool
-    ensures { TellsAlike access.now marks.now made.now told.now result }
+    ensures { ReportsAlike access.now marks.now made.now reported.now result }
 {
-    is_access(access, made) && are_told(alloc, marks, told)
+    is_access(access, made) && are_reported(alloc, marks, reported)
 }
 
 /// Returns whether an entry's access exists and equals `access`.
-fn is_access(told: &Option<Access>, access: &Access) -> bool
-    ensures { IsTrue result ↔ (told.now ≡ Some access.now) }
+fn is_access(reported: &Option<Access>, access: &Access) -> bool
+    ensures { IsTrue result ↔ (reported.now ≡ Some access.now) }
 {
-    match told {
+    match reported {
         None => false,
-        Some(told) => is_that(*told, *access),
+        Some(reported) => is_that(*reported, *access),
     }
 }
 
@@ -99,22 +99,22 @@ pub(crate) fn is_that(access: Access, that: Access) -> bool
 
 /// Returns whether the marks are those that a step leads to, except for positions.
 #[inline]
-fn are_told(alloc: Global, marks: &[Mark], told: &StepTold) -> bool
-    ensures { IsTrue result ↔ (map (placed 0) marks.now ≡ map (placed 0) (marks_told told.now)) }
+fn are_reported(alloc: Global, marks: &[Mark], reported: &StepOutcome) -> bool
+    ensures { IsTrue result ↔ (map (placed 0) marks.now ≡ map (placed 0) (marks_reported reported.now)) }
 {
-    match told {
-        StepTold::Nothing => marks.is_empty(),
-        _ => are_those_of(alloc, marks, told),
+    match reported {
+        StepOutcome::Nothing => marks.is_empty(),
+        _ => are_those_of(alloc, marks, reported),
     }
 }
 
 /// Returns whether the marks are those that a step leads to, except for positions, if it leads to something. Few steps do,
 /// and for the others no room should be made for marks.
 #[inline(never)]
-fn are_those_of(alloc: Global, marks: &[Mark], told: &StepTold) -> bool
-    ensures { IsTrue result ↔ (map (placed 0) marks.now ≡ map (placed 0) (marks_told told.now)) }
+fn are_those_of(alloc: Global, marks: &[Mark], reported: &StepOutcome) -> bool
+    ensures { IsTrue result ↔ (map (placed 0) marks.now ≡ map (placed 0) (marks_reported reported.now)) }
 {
-    are_alike(marks, &step_marks(alloc, told, 0))
+    are_alike(marks, &step_marks(alloc, reported, 0))
 }
 
 /// Returns whether two lists of marks are equal, except for positions.
@@ -176,10 +176,10 @@ pub(crate) fn are_at(marks: &[Mark], taken: Option<u64>) -> bool
 
 /// Returns how many commands were taken, after what a step leads to.
 #[inline]
-pub(crate) fn more(taken: Option<u64>, told: &StepTold) -> Option<u64>
-    ensures { CountsOn taken told.now result }
+pub(crate) fn more(taken: Option<u64>, reported: &StepOutcome) -> Option<u64>
+    ensures { CountsOn taken reported.now result }
 {
-    if told.reply().is_none() {
+    if reported.reply().is_none() {
         return taken;
     }
     match taken {

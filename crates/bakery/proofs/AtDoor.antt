@@ -7,7 +7,7 @@ use Rattle.plain_store.specs.{Command}
 use Rattle.model.specs.Parts.{Part, Raises, Asks, TakesTicket, Lowers, Refuses, Waits, AsksCommit, AsksStamp, AsksImage, WritesImage, WritesStamp, WritesCommit, Clears, Over, first_marks, last_marks, part_after, stage_of, to_b, to_d, to_e}
 use Rattle.process.specs.laws.{runs}
 use Rattle.process.specs.{full_at, stage_doing, ticket_at}
-use Rattle.bakery.specs.Doors.{goes_on, marks_told, tells_wait, told_at}
+use Rattle.bakery.specs.Doors.{goes_on, marks_reported, reports_wait, reported_at}
 
 -- a part of the doorway or of the waiting
 pub data AtDoor : Part → Type 0 where
@@ -57,9 +57,9 @@ stage-runs command number at = by at.part
 
 -- the result of an access from a part to a stage, with these marks
 pub record IsSaid (before : Stage) (part : Part) (next : Stage) (made : List Mark) : Type 0 where
-  pub going : is_queued next ≡ goes_on (told_at next (ticket_at part) (full_at part))
-  pub waiting : is_waiting_stage next ≡ tells_wait (told_at next (ticket_at part) (full_at part))
-  pub marks : made ≡ marks_told before (told_at next (ticket_at part) (full_at part))
+  pub going : is_queued next ≡ goes_on (reported_at next (ticket_at part) (full_at part))
+  pub waiting : is_waiting_stage next ≡ reports_wait (reported_at next (ticket_at part) (full_at part))
+  pub marks : made ≡ marks_reported before (reported_at next (ticket_at part) (full_at part))
 
 -- within a number access
 said-within : (part : Part) → AtDoor part → (before fresh : Bool) → IsSaid (stage_of part before) part (stage_of part fresh) []

@@ -8,7 +8,7 @@ use Rattle.model.specs.Parts.{Part, Raises, Asks, TakesTicket, Lowers, Refuses, 
 use Rattle.process.specs.laws.{Doing, Rests, Lies, Runs, Closes, call, runs}
 use Rattle.process.specs.{ProcessState, answer_at, answer_of, change_of, changes_at, changes_read, marks_on, may_step, stepped}
 use Rattle.bakery.specs.{SectionProgress}
-use Rattle.bakery.specs.Sections.{goes, goes_on, is_going, is_of_data, marks_told, progress_on, told_at}
+use Rattle.bakery.specs.Sections.{goes, goes_on, is_going, is_of_data, marks_reported, progress_on, reported_at}
 
 -- a part from E to G
 data OfData : Part → Type 0 where
@@ -36,12 +36,12 @@ of-data (Clears a) is = absurd (cc)
 of-data Over is = absurd (cc)
 
 -- the result of an access from a part to the next one
-abbrev told_to : Call → (part next : Part) → SectionProgress
-told_to c part next = told_at (changes_at part) (answer_at next) (is_some (pending_at c next))
+abbrev outcome_before : Call → (part next : Part) → SectionProgress
+outcome_before c part next = reported_at (changes_at part) (answer_at next) (is_some (pending_at c next))
 
 record IsSaid (c : Call) (part next : Part) (made : List Mark) : Type 0 where
-  going : is_of_data next ≡ goes_on (told_to c part next)
-  marks : marks_told (told_to c part next) ≡ made
+  going : is_of_data next ≡ goes_on (outcome_before c part next)
+  marks : marks_reported (outcome_before c part next) ≡ made
   live : is_over next ≡ false
 
 -- within a number access
@@ -104,30 +104,30 @@ going-by (Runs command number at) going = refl
 going-by (Closes command number at) going = absurd (cc)
 
 -- the result of its step
-pub record IsTold (now : ProcessState) (flick v : Bool) : Type 0 where
+pub record IsReported (now : ProcessState) (flick v : Bool) : Type 0 where
   pub going : is_going (stepped now flick v) ≡ goes_on (progress_on now (stepped now flick v))
-  pub marks : marks_told (progress_on now (stepped now flick v)) ≡ marks_on now flick v
+  pub marks : marks_reported (progress_on now (stepped now flick v)) ≡ marks_on now flick v
 
-told-by : (now : ProcessState) (d : Doing) (flick v : Bool) → goes d ≡ true → IsTold (record now { doing = d }) flick v
-told-by now Rests flick v going = absurd (cc)
-told-by now Lies flick v going = absurd (cc)
-told-by now (Closes command number at) flick v going = absurd (cc)
-told-by now (Runs command number at) flick v going =
+reported-by : (now : ProcessState) (d : Doing) (flick v : Bool) → goes d ≡ true → IsReported (record now { doing = d }) flick v
+reported-by now Rests flick v going = absurd (cc)
+reported-by now Lies flick v going = absurd (cc)
+reported-by now (Closes command number at) flick v going = absurd (cc)
+reported-by now (Runs command number at) flick v going =
     let c : Call = call now.setup now.process command number in
     let s = said c at v (of-data at.part going) in
     let runs-on : runs command number (place_after c at v) ≡ Runs command number (place_after c at v) = ap (λ b. cond b Rests (Runs command number (place_after c at v))) s.live in
     let before : ProcessState = record now { doing = Runs command number at } in
     record {
       going = subst (λ d. goes d ≡ goes_on (progress_on before (record now { doing = d }))) (sym runs-on) s.going;
-      marks = subst (λ d. marks_told (progress_on before (record now { doing = d })) ≡ marks_of c at v) (sym runs-on) s.marks;
+      marks = subst (λ d. marks_reported (progress_on before (record now { doing = d })) ≡ marks_of c at v) (sym runs-on) s.marks;
     }
 
-pub told : (now : ProcessState) (flick v : Bool) → is_going now ≡ true → IsTold now flick v
-told now flick v going = told-by now now.doing flick v going
+pub reported : (now : ProcessState) (flick v : Bool) → is_going now ≡ true → IsReported now flick v
+reported now flick v going = reported-by now now.doing flick v going
 
 -- the result as the code computes it
-pub told-is : {changes : ℕ} {a : Option Answer} {writes : Bool} (now place then : ProcessState) (flick v : Bool) → place ≡ now → then ≡ stepped now flick v → changes ≡ changes_read place.doing → a ≡ answer_of then.doing → writes ≡ is_some (change_of then.setup then.process then.doing) →
-    told_at changes a writes ≡ progress_on now (stepped now flick v)
-told-is now place then flick v same goes changes a writes =
-    (λ i. told_at (changes i) (a i) (writes i))
-    ∙ (λ i. told_at (changes_read (same i).doing) (answer_of (goes i).doing) (is_some (change_of (goes i).setup (goes i).process (goes i).doing)))
+pub reported-is : {changes : ℕ} {a : Option Answer} {writes : Bool} (now place then : ProcessState) (flick v : Bool) → place ≡ now → then ≡ stepped now flick v → changes ≡ changes_read place.doing → a ≡ answer_of then.doing → writes ≡ is_some (change_of then.setup then.process then.doing) →
+    reported_at changes a writes ≡ progress_on now (stepped now flick v)
+reported-is now place then flick v same goes changes a writes =
+    (λ i. reported_at (changes i) (a i) (writes i))
+    ∙ (λ i. reported_at (changes_read (same i).doing) (answer_of (goes i).doing) (is_some (change_of (goes i).setup (goes i).process (goes i).doing)))

@@ -8,13 +8,13 @@ use Rattle.model.specs.declared.Mark.TheVariants as mark
 use Rattle.model.specs.Closings.{Closing, Withdraws, Settles, Frees, Lowers, Quit, Ended, closing_after, closing_next, freeing, is_last_settled, is_last_written, no_ticket, settled_marks}
 use Rattle.process.specs.laws.{Doing, Closes, call, closes}
 use Rattle.process.specs.{ProcessState, may_step, next_at, stepped, unit_with}
-use Rattle.bakery.specs.Units.{marks_told, remains, unit_at, work_at}
+use Rattle.bakery.specs.Units.{marks_reported, remains, unit_at, work_at}
 
 -- a unit's step at a closing
 pub record IsUnit (c : Call) (at : Closing) (flick : Bool) : Type 0 where
   pub access : option_map (λ (n : Next). n.access) (closing_next c at flick) ≡ Some (next_at (unit_at c at) flick)
   pub after : stepped (unit_at c at) flick false ≡ unit_at c (closing_after c at flick)
-  pub marks : option_map (λ (n : Next). n.marks) (closing_next c at flick) ≡ Some (marks_told at flick (remains (unit_at c at).doing) (remains (stepped (unit_at c at) flick false).doing))
+  pub marks : option_map (λ (n : Next). n.marks) (closing_next c at flick) ≡ Some (marks_reported at flick (remains (unit_at c at).doing) (remains (stepped (unit_at c at) flick false).doing))
 
 abbrev does : Call → Doing → ProcessState
 does c d = record { setup = c.setup; process = c.process; doing = d; command = Ask; number = 0 }
@@ -32,7 +32,7 @@ unit-by c (Settles field bit begun taken inside t) flick going =
     after false = refl
 
     marks : (b : Bool) → (let all : List Mark = cond b (settled_marks begun taken (settled_at t flick)) [] in
-        Some all ≡ Some (marks_told (Settles field bit begun taken inside t) flick (remains (work_at (Settles field bit begun taken inside t))) (remains (closes Ask 0 (cond b (freeing c false) (Settles field bit false None false (settle_after t (settled_at t flick))))))))
+        Some all ≡ Some (marks_reported (Settles field bit begun taken inside t) flick (remains (work_at (Settles field bit begun taken inside t))) (remains (closes Ask 0 (cond b (freeing c false) (Settles field bit false None false (settle_after t (settled_at t flick))))))))
     marks true = refl
     marks false = refl
 unit-by c (Frees inside w) flick going =
@@ -43,7 +43,7 @@ unit-by c (Frees inside w) flick going =
     after true = refl
     after false = refl
 
-    marks : (b : Bool) → option_map (λ (n : Next). n.marks) (closing_next c (Frees inside w) flick) ≡ Some (marks_told (Frees inside w) flick (remains (work_at (Frees inside w))) (remains (closes Ask 0 (cond b (Lowers (new_write 1)) (Frees false (write_moved c.setup.processes (no_ticket c) w))))))
+    marks : (b : Bool) → option_map (λ (n : Next). n.marks) (closing_next c (Frees inside w) flick) ≡ Some (marks_reported (Frees inside w) flick (remains (work_at (Frees inside w))) (remains (closes Ask 0 (cond b (Lowers (new_write 1)) (Frees false (write_moved c.setup.processes (no_ticket c) w))))))
     marks true = refl
     marks false = refl
 unit-by c (Lowers w) flick going =
@@ -55,7 +55,7 @@ unit-by c (Lowers w) flick going =
     after false = refl
 
     marks : (b : Bool) → (let all : List Mark = cond b (mark.Down ∷ []) [] in
-        Some all ≡ Some (marks_told (Lowers w) flick (remains (work_at (Lowers w))) (remains (closes Ask 0 (cond b Ended (Lowers (write_moved c.setup.processes (false ∷ []) w)))))))
+        Some all ≡ Some (marks_reported (Lowers w) flick (remains (work_at (Lowers w))) (remains (closes Ask 0 (cond b Ended (Lowers (write_moved c.setup.processes (false ∷ []) w)))))))
     marks true = refl
     marks false = refl
 

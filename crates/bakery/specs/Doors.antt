@@ -8,7 +8,7 @@ use Rattle.model.specs.declared.stages.Stage.TheVariants as stage
 use Rattle.process.specs.laws.{Runs, reads_of, runs}
 use Rattle.process.specs.{ProcessState, full_of, next_at, stage_doing, ticket_of}
 use Rattle.bakery.specs.declared.door_progress.DoorProgress.{DoorProgress}
-use Rattle.bakery.specs.declared.door_progress.DoorProgress.TheVariants as told
+use Rattle.bakery.specs.declared.door_progress.DoorProgress.TheVariants as reported
 use Rattle.bakery.specs.Locks.{LockRows, CanAccess, answered, lock_of, locks_without_reads, row_in}
 
 -- the process is in its doorway, or waits
@@ -33,33 +33,33 @@ dropped d locks = elim (reads_of d.setup d.process d.doing) [ None ↦ locks | S
 -- THE RESULTS OF ACCESSES
 
 -- the result, by the stage after the access; before it the process had this ticket, or was refused for the ticket of another process
-abbrev pub told_at : Stage → (ticket full : Option ℕ) → DoorProgress
-told_at stage.Waiting (Some t) full = told.Waiting t
-told_at stage.Inside (Some t) full = told.Inside t
-told_at stage.Idle ticket (Some full) = told.Full full
-told_at _ _ _ = told.Doorway
+abbrev pub reported_at : Stage → (ticket full : Option ℕ) → DoorProgress
+reported_at stage.Waiting (Some t) full = reported.Waiting t
+reported_at stage.Inside (Some t) full = reported.Inside t
+reported_at stage.Idle ticket (Some full) = reported.Full full
+reported_at _ _ _ = reported.Doorway
 
 abbrev pub progress_on : ProcessState → ProcessState → DoorProgress
-progress_on d then = told_at (stage_doing then.doing) (ticket_of d.doing) (full_of d.doing)
+progress_on d then = reported_at (stage_doing then.doing) (ticket_of d.doing) (full_of d.doing)
 
 -- the door has further accesses after this result
 abbrev pub goes_on : DoorProgress → Bool
-goes_on told.Doorway = true
-goes_on (told.Waiting t) = true
+goes_on reported.Doorway = true
+goes_on (reported.Waiting t) = true
 goes_on _ = false
 
 -- the process waits after this result
-abbrev pub tells_wait : DoorProgress → Bool
-tells_wait (told.Waiting t) = true
-tells_wait _ = false
+abbrev pub reports_wait : DoorProgress → Bool
+reports_wait (reported.Waiting t) = true
+reports_wait _ = false
 
 -- the marks of an access with this result, by the stage before it
-abbrev pub marks_told : Stage → DoorProgress → List Mark
-marks_told stage.Doorway (told.Waiting t) = mark.Waiting t ∷ []
-marks_told stage.Doorway (told.Inside t) = mark.Waiting t ∷ mark.Entered ∷ []
-marks_told stage.Doorway (told.Full full) = mark.Answered (answer.TicketsFull full) ∷ []
-marks_told stage.Waiting (told.Inside t) = mark.Entered ∷ []
-marks_told _ _ = []
+abbrev pub marks_reported : Stage → DoorProgress → List Mark
+marks_reported stage.Doorway (reported.Waiting t) = mark.Waiting t ∷ []
+marks_reported stage.Doorway (reported.Inside t) = mark.Waiting t ∷ mark.Entered ∷ []
+marks_reported stage.Doorway (reported.Full full) = mark.Answered (answer.TicketsFull full) ∷ []
+marks_reported stage.Waiting (reported.Inside t) = mark.Entered ∷ []
+marks_reported _ _ = []
 
 -- ANY CALL
 
@@ -81,7 +81,7 @@ CallGoesOn d v then = (c : Call) (at : Place) → d ≡ door_at c at → then �
 
 -- the marks of that access follow from its result
 abbrev pub MarksOfCall : ProcessState → Bool → DoorProgress → Type 0
-MarksOfCall d v progress = (c : Call) (at : Place) → d ≡ door_at c at → marks_of c at v ≡ marks_told (stage_at at) progress
+MarksOfCall d v progress = (c : Call) (at : Place) → d ≡ door_at c at → marks_of c at v ≡ marks_reported (stage_at at) progress
 
 -- a halt before it tears this bit, or none
 abbrev pub CallTears : ProcessState → Option TornBit → Type 0

@@ -1,7 +1,7 @@
 pub use Rattle.process.specs as process
 pub mod Doors
 pub mod Leavings
-pub mod Lending
+pub mod Borrowing
 pub mod Locks
 pub mod Memory
 pub mod Newest

@@ -7,7 +7,7 @@ use Rattle.model.specs.declared.marks.Mark.TheVariants as mark
 use Rattle.process.specs.laws.{Doing, Runs, reads_of}
 use Rattle.process.specs.{ProcessState, answer_of, change_of, changes_read}
 use Rattle.bakery.specs.declared.section_progress.SectionProgress.{SectionProgress}
-use Rattle.bakery.specs.declared.section_progress.SectionProgress.TheVariants as told
+use Rattle.bakery.specs.declared.section_progress.SectionProgress.TheVariants as reported
 use Rattle.bakery.specs.Registers.{DataRow, is_data, without_reads_at}
 
 -- a part from E to G
@@ -45,22 +45,22 @@ dropped section row = elim (reads_of section.setup section.process section.doing
 -- THE RESULTS OF ACCESSES
 
 -- the result, by the answer of the call, if it has one, and by whether it writes a change; `changes` is the greatest stamp read before the access
-abbrev pub told_at : (changes : ℕ) → Option Answer → (writes : Bool) → SectionProgress
-told_at changes None true = told.Writing
-told_at changes None false = told.Reading
-told_at changes (Some (answer.Reply reply)) writes = told.Taken reply changes
-told_at changes (Some _) writes = told.NoStamp
+abbrev pub reported_at : (changes : ℕ) → Option Answer → (writes : Bool) → SectionProgress
+reported_at changes None true = reported.Writing
+reported_at changes None false = reported.Reading
+reported_at changes (Some (answer.Reply reply)) writes = reported.Taken reply changes
+reported_at changes (Some _) writes = reported.NoStamp
 
 abbrev pub progress_on : ProcessState → ProcessState → SectionProgress
-progress_on section then = told_at (changes_read section.doing) (answer_of then.doing) (is_some (change_of then.setup then.process then.doing))
+progress_on section then = reported_at (changes_read section.doing) (answer_of then.doing) (is_some (change_of then.setup then.process then.doing))
 
 -- the section has further accesses after this result
 abbrev pub goes_on : SectionProgress → Bool
-goes_on told.Reading = true
-goes_on told.Writing = true
+goes_on reported.Reading = true
+goes_on reported.Writing = true
 goes_on _ = false
 
 -- the marks of an access with this result; the place in the history is open here, and written as 0
-abbrev pub marks_told : SectionProgress → List Mark
-marks_told (told.Taken reply changes) = mark.Taken 0 reply ∷ []
-marks_told _ = []
+abbrev pub marks_reported : SectionProgress → List Mark
+marks_reported (reported.Taken reply changes) = mark.Taken 0 reply ∷ []
+marks_reported _ = []

@@ -46,12 +46,12 @@ settled_by (Settles field bit begun taken inside t) flick = settled_marks begun 
 settled_by _ flick = []
 
 -- the marks of an access, by the remaining work before it and after it
-abbrev pub marks_told : Closing → Bool → UnitProgress → UnitProgress → List Mark
-marks_told at flick progress.Settling progress.Clearing = settled_by at flick
-marks_told at flick progress.Clearing progress.Clearing = cond (is_inside_closing at) (mark.Left ∷ []) []
-marks_told at flick progress.Clearing progress.Down = mark.Down ∷ []
-marks_told at flick _ _ = []
+abbrev pub marks_reported : Closing → Bool → UnitProgress → UnitProgress → List Mark
+marks_reported at flick progress.Settling progress.Clearing = settled_by at flick
+marks_reported at flick progress.Clearing progress.Clearing = cond (is_inside_closing at) (mark.Left ∷ []) []
+marks_reported at flick progress.Clearing progress.Down = mark.Down ∷ []
+marks_reported at flick _ _ = []
 
 -- the remaining work after the access determines its marks
 abbrev pub MarksOfClosing : ProcessState → Bool → UnitProgress → Type 0
-MarksOfClosing u flick then = (c : Call) (at : Closing) → u ≡ unit_at c at → option_map (λ (n : Next). n.marks) (closing_next c at flick) ≡ Some (marks_told at flick (remains u.doing) then)
+MarksOfClosing u flick then = (c : Call) (at : Closing) → u ≡ unit_at c at → option_map (λ (n : Next). n.marks) (closing_next c at flick) ≡ Some (marks_reported at flick (remains u.doing) then)

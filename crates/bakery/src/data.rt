@@ -34,7 +34,7 @@ impl Model for Data {
 
 impl Data {
     ghost use Rattle.std.specs.Borrow.{sem};
-    ghost use Rattle.bakery.specs.Lending.{LendsRegister};
+    ghost use Rattle.bakery.specs.Borrowing.{BorrowsRegister};
 
     /// Returns the initial registers of a process: those of process 0 have the opening store's image, and all
     /// others are 0.
@@ -73,7 +73,7 @@ impl Data {
     pub(crate) fn register(&mut self, field: Field) -> &mut Register
         requires { is_data field ≡ true }
         ensures register { result.now ≡ register_of self.old field }
-        ensures* lent { sem 𝓛 (LendsRegister self.entry field result) }
+        ensures* lent { sem 𝓛 (BorrowsRegister self.entry field result) }
     {
         match field {
             Field::Choosing | Field::Ticket => unreachable!(),

@@ -34,7 +34,7 @@ impl Model for DataRow {
 
 impl DataRow {
     ghost use Rattle.std.specs.Borrow.{sem};
-    ghost use Rattle.bakery.specs.Lending.{LendsPart};
+    ghost use Rattle.bakery.specs.Borrowing.{BorrowsPart};
 
     /// Creates the registers as they are initially: the first image of process 0 has the image of the opening store,
     /// and all others are 0.
@@ -60,7 +60,7 @@ impl DataRow {
     pub fn own(&mut self, process: u8) -> &mut Data
         requires { process < length self.old.parts }
         ensures part { result.now ≡ data_of self.old process }
-        ensures* lent { sem 𝓛 (LendsPart self.entry process result) }
+        ensures* lent { sem 𝓛 (BorrowsPart self.entry process result) }
     {
         &mut self.parts[usize::from(process)]
     }

@@ -3,7 +3,7 @@ ghost use Rattle.plain_store.specs.{checked};
 ghost use Rattle.plain_store.specs.declared.Command.TheVariants.{Ask};
 ghost use Rattle.model.specs.{IsTornOf, value_of};
 ghost use Rattle.process.specs.{called, marks_on, next_at, process_after, restarted, stage_doing, stepped, torn_of};
-ghost use Rattle.bakery.specs.Doors.{BeginsCalls, CallGoesOn, CallTears, IsInTurn, IsNextOfCall, MarksOfCall, MayDrop, dropped, goes_on, is_going, is_waiting, marks_told, progress_on, tells_wait};
+ghost use Rattle.bakery.specs.Doors.{BeginsCalls, CallGoesOn, CallTears, IsInTurn, IsNextOfCall, MarksOfCall, MayDrop, dropped, goes_on, is_going, is_waiting, marks_reported, progress_on, reports_wait};
 ghost use Rattle.bakery.specs.Locks.{answered, locks_after};
 
 use crate::door_progress::DoorProgress;
@@ -72,16 +72,16 @@ impl Door {
         ensures door { self.new ≡ stepped self.old flick (value_of result.0.how) }
         ensures any_door { CallGoesOn self.old (value_of result.0.how) self.new }
         ensures progress { result.1 ≡ progress_on self.old self.new }
-        ensures marks { marks_told (stage_doing self.old.doing) result.1 ≡ marks_on self.old flick (value_of result.0.how) }
+        ensures marks { marks_reported (stage_doing self.old.doing) result.1 ≡ marks_on self.old flick (value_of result.0.how) }
         ensures any_marks { MarksOfCall self.old (value_of result.0.how) result.1 }
         ensures going { is_going self.new ≡ goes_on result.1 }
-        ensures waiting { is_waiting self.new ≡ tells_wait result.1 }
+        ensures waiting { is_waiting self.new ≡ reports_wait result.1 }
     {
         let access = locks.answered(self.place.next(flick), flick);
         locks.apply(access);
         let ticket = self.place.ticket();
         let full = self.place.full();
-        let _told = self.place.advance(flick, given(access.how));
+        let _reported = self.place.advance(flick, given(access.how));
         (access, DoorProgress::at(self.place.stage(), ticket, full))
     }
 

@@ -1,5 +1,5 @@
 ghost use Rattle.std.specs.Prelude.{◌≡◌};
-ghost use Rattle.bakery.specs.Doors.{told_at};
+ghost use Rattle.bakery.specs.Doors.{reported_at};
 
 use model::Stage;
 
@@ -21,7 +21,7 @@ impl DoorProgress {
     /// Returns the result of the last access, by the stage now. Before it the process had this ticket, or was refused for
     /// the ticket of another process.
     pub(crate) fn at(stage: Stage, ticket: Option<u32>, full: Option<u8>) -> DoorProgress
-        ensures { result ≡ told_at stage ticket full }
+        ensures { result ≡ reported_at stage ticket full }
     {
         match stage {
             Stage::Waiting => ticket.map_or(DoorProgress::Doorway, DoorProgress::Waiting),

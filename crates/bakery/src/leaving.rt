@@ -58,7 +58,7 @@ impl Leaving {
     {
         let access = self.place.next(false);
         lock.apply(access);
-        let _told = self.place.advance(false, given(access.how));
+        let _reported = self.place.advance(false, given(access.how));
         if self.place.goes() {
             (access, Progress::Going)
         } else {

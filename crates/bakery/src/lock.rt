@@ -3,7 +3,7 @@ ghost use Rattle.std.specs.Borrow.{sem};
 ghost use Rattle.reader_copies.specs.{answer_at, new_row, HasCell};
 ghost use Rattle.plain_store.specs.{checked};
 ghost use Rattle.bakery.specs.Locks.{new_lock, new_locks, row_in, CanAccess, HasCopy, lock_after, lock_of, lock_without_reads, locks_after, answer_to, answered, locks_without_reads};
-ghost use Rattle.bakery.specs.Lending.{LendsLock};
+ghost use Rattle.bakery.specs.Borrowing.{BorrowsLock};
 
 use plain_store::Setup;
 use reader_copies::{Made, Move};
@@ -125,7 +125,7 @@ impl Locks {
     /// Borrows the lock of process `p` alone: the other locks stay as they are.
     pub fn own(&mut self, p: u8) -> &mut Lock
         requires { p < length self.old }
-        ensures* lends { sem 𝓛 (LendsLock self.entry p result) }
+        ensures* borrows { sem 𝓛 (BorrowsLock self.entry p result) }
         ensures lock { result.now ≡ lock_of self.old p }
     {
         &mut self.locks[p as usize]

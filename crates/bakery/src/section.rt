@@ -3,7 +3,7 @@ ghost use Rattle.plain_store.specs.{checked};
 ghost use Rattle.model.specs.{IsTornOf, ended_with, value_of};
 ghost use Rattle.process.specs.{called_inside, change_of, marks_on, next_at, process_after, restarted, stepped, torn_of};
 ghost use Rattle.bakery.specs.Registers.{after_access, answered, is_data, FitsSetup, MayMake};
-ghost use Rattle.bakery.specs.Sections.{dropped, goes_on, is_going, marks_told, progress_on, IsInRange};
+ghost use Rattle.bakery.specs.Sections.{dropped, goes_on, is_going, marks_reported, progress_on, IsInRange};
 
 use crate::data_row::DataRow;
 use crate::section_progress::SectionProgress;
@@ -83,11 +83,11 @@ impl Section {
         requires going { is_going self.old ≡ true }
         ensures section { self.new ≡ stepped self.old false value }
         ensures progress { result ≡ progress_on self.old self.new }
-        ensures marks { marks_told result ≡ marks_on self.old false value }
+        ensures marks { marks_reported result ≡ marks_on self.old false value }
         ensures going { is_going self.new ≡ goes_on result }
     {
         let changes = self.place.changes_read();
-        let _told = self.place.advance(false, value);
+        let _reported = self.place.advance(false, value);
         SectionProgress::at(changes, self.place.answer(), self.place.pending().is_some())
     }
 
@@ -101,7 +101,7 @@ impl Section {
         ensures registers { row.new ≡ after_access row.old result.0 }
         ensures section { self.new ≡ stepped self.old false (value_of result.0.how) }
         ensures progress { result.1 ≡ progress_on self.old self.new }
-        ensures marks { marks_told result.1 ≡ marks_on self.old false (value_of result.0.how) }
+        ensures marks { marks_reported result.1 ≡ marks_on self.old false (value_of result.0.how) }
         ensures going { is_going self.new ≡ goes_on result.1 }
     {
         let access = row.answered(self.place.next(false), flick);

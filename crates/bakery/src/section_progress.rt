@@ -1,5 +1,5 @@
 ghost use Rattle.std.specs.Prelude.{◌≡◌};
-ghost use Rattle.bakery.specs.Sections.{told_at};
+ghost use Rattle.bakery.specs.Sections.{reported_at};
 
 use plain_store::{Answer, Reply};
 
@@ -26,7 +26,7 @@ impl SectionProgress {
     /// Returns the result of an access, by the answer of the call, if it has one, and by whether the call writes a change.
     /// `changes` is the greatest stamp that was read before the access.
     pub(crate) fn at(changes: u32, answer: Option<Answer>, writes: bool) -> SectionProgress
-        ensures { result ≡ told_at changes answer writes }
+        ensures { result ≡ reported_at changes answer writes }
     {
         match answer {
             Some(Answer::Reply(reply)) => SectionProgress::Taken { reply, changes },

@@ -81,7 +81,7 @@ impl Unit {
                 versions.apply(field, access.bit, made);
             }
         }
-        let _told = self.place.advance(flick, false);
+        let _reported = self.place.advance(flick, false);
         (access, UnitProgress::of(&self.place))
     }
 }

@@ -1,22 +1,22 @@
 //! The program `bakerystore`: it runs the engine that its arguments name on a file. Without arguments it is `plain -`.
 #![tactic(auto)]
 
-mod wanted;
+mod engine_options;
 
 ghost use Rattle.std.specs.Prelude.{◌≡◌, ◌-◌, ◌<◌, ◌^◌, IfOk};
 
-use crate::wanted::{Wanted, file_kind, refused_option, wanted_by};
+use crate::engine_options::{EngineOptions, file_kind, refused_option, wanted_by};
 use command_line::{
     Engine, Fault, FirstWord, FromRead, FrontSink, IntoWrite, Invocation, LineFault, NotedReader,
-    NotedWriter, Opened, Output, Request, Sink, Source, Terminals, USAGE_STATUS, Uninterrupted,
-    WatchedInput, Watcher, all_words, exit_status, read_words, reason_of, shown_word,
+    NotedWriter, SniffedSource, Output, Request, Sink, Source, Terminals, USAGE_STATUS, Uninterrupted,
+    CountedInput, ProgressPrinter, all_words, exit_status, read_words, reason_of, shown_word,
 };
 use engines::{
     judge_any_lock, replay, run_audit, run_bits, run_judge, run_plain, run_record, run_sweep,
 };
 use race::{RunFault, run_fault_status, run_race};
 use run_state::{
-    KeptFile, KeptInput, explanation, list_record, run_calls, run_state, state_record,
+    StoredFile, TeeInput, explanation, list_record, run_calls, run_state, state_record,
 };
 use std::alloc::Global;
 use std::cell::Cell;
@@ -29,7 +29,7 @@ use std::sync::Wait;
 use std::thread::Threads;
 use std::time::Clock;
 use trace_calls::list_trace;
-use trace_draw::draw::progress::Onlooker;
+use trace_draw::draw::progress::ProgressObserver;
 use trace_draw::draw::{
     JudgedBy, draw, draw_judged_record, draw_judged_record_svg, draw_record, draw_record_svg,
     draw_svg,
@@ -45,7 +45,7 @@ const OTHER_LOCK: &str = "hint: --any-lock judges the records of other locks";
 
 /// Why the newest read of the file, and the newest write of the output, have failed.
 #[derive(Drop)]
-struct Causes {
+struct FailureCauses {
     read: Cell<Option<ErrorKind>>,
     write: Cell<Option<ErrorKind>>,
 }
@@ -56,7 +56,7 @@ fn main(rt: HostRuntime) -> ExitCode {
         output: rt.stdout().is_terminal(),
         error: rt.stderr().is_terminal(),
     };
-    ExitCode::from(told(&rt, do_asked(&rt, terminals)))
+    ExitCode::from(reported(&rt, do_asked(&rt, terminals)))
 }
 
 /// Carries out the arguments, and returns the exit status.
@@ -66,15 +66,15 @@ fn do_asked<T: Env + Files + Input + Print + Eprint + Clock + AllocGlobal + Thre
 ) -> Result<u8, RunFault> {
     let words = match all_words(rt) {
         Ok(words) => words,
-        Err(notice) => return Ok(notice.tell(rt)?),
+        Err(notice) => return Ok(notice.print_page(rt)?),
     };
     if words.len() <= 1 && terminals.input && terminals.error {
         let _ = eprintln!(rt; "{NO_WORDS}");
     }
     match read_words(rt.alloc(), words.as_slice()) {
         Ok(Invocation::Run(request)) => run(rt, &request, terminals),
-        Ok(Invocation::Tell(page)) => Ok(page.tell(rt)?),
-        Err(notice) => Ok(notice.tell(rt)?),
+        Ok(Invocation::Report(page)) => Ok(page.print_page(rt)?),
+        Err(notice) => Ok(notice.print_page(rt)?),
     }
 }
 
@@ -97,7 +97,7 @@ fn run<T: Files + Input + Print + Eprint + Clock + AllocGlobal + Threads + Wait 
     match File::open(rt, request.file) {
         Ok(file) => run_on(rt, request, wanted, terminals, file),
         Err(error) if error.kind() == ErrorKind::OutOfMemory => Err(Fault::Memory.into()),
-        Err(error) => Ok(told_with_cause(rt, request, terminals, Fault::Read, Some(error.kind()))),
+        Err(error) => Ok(reported_with_cause(rt, request, terminals, Fault::Read, Some(error.kind()))),
     }
 }
 
@@ -105,24 +105,24 @@ fn run<T: Files + Input + Print + Eprint + Clock + AllocGlobal + Threads + Wait 
 fn run_on<T: Print + Eprint + Clock + AllocGlobal + Threads + Wait + Sync, R: Read + Drop>(
     rt: &T,
     request: &Request<'_>,
-    wanted: Wanted,
+    wanted: EngineOptions,
     terminals: Terminals,
     reader: R,
 ) -> Result<u8, RunFault> {
-    let causes = Causes {
+    let causes = FailureCauses {
         read: Cell::new(None),
         write: Cell::new(None),
     };
     let writer = io::writer(rt);
     match run_through(rt, &causes, wanted, terminals, reader, writer) {
-        Err(RunFault::File(Fault::Read)) => Ok(told_with_cause(
+        Err(RunFault::File(Fault::Read)) => Ok(reported_with_cause(
             rt,
             request,
             terminals,
             Fault::Read,
             causes.read.get(),
         )),
-        Err(RunFault::File(Fault::Write)) => Ok(told_with_cause(
+        Err(RunFault::File(Fault::Write)) => Ok(reported_with_cause(
             rt,
             request,
             terminals,
@@ -141,8 +141,8 @@ fn run_through<
     W: Write + Drop,
 >(
     rt: &T,
-    causes: &Causes,
-    wanted: Wanted,
+    causes: &FailureCauses,
+    wanted: EngineOptions,
     terminals: Terminals,
     reader: R,
     writer: W,
@@ -161,7 +161,7 @@ fn run_through<
 }
 
 /// Reports a fault of a stream and, at a terminal or with `--explain`, which stream it is and why; returns the exit status.
-fn told_with_cause<T: Eprint + AllocGlobal>(
+fn reported_with_cause<T: Eprint + AllocGlobal>(
     rt: &T,
     request: &Request<'_>,
     terminals: Terminals,
@@ -173,7 +173,7 @@ fn told_with_cause<T: Eprint + AllocGlobal>(
         _ if request.file == "-" => "standard input",
         _ => request.file,
     };
-    let status = told(rt, Err(fault.into()));
+    let status = reported(rt, Err(fault.into()));
     if terminals.error || request.explain {
         if let Ok(stream) = shown_word(rt.alloc(), stream) {
             let reason = reason_of(cause);
@@ -190,14 +190,14 @@ fn run_between<
     W: Write,
 >(
     rt: &T,
-    wanted: Wanted,
+    wanted: EngineOptions,
     terminals: Terminals,
-    source: Opened<R>,
+    source: SniffedSource<R>,
     writer: &mut W,
 ) -> Result<u8, RunFault>
-    requires { ⟦<Opened<R> as Source>⟧.failures source < 2 ^ 64 - 1 }
+    requires { ⟦<SniffedSource<R> as Source>⟧.failures source < 2 ^ 64 - 1 }
 {
-    let wanted = Wanted {
+    let wanted = EngineOptions {
         is_record: wanted.is_record | (source.first_word == FirstWord::Record),
         is_trace: source.first_word == FirstWord::Trace,
         ..wanted
@@ -210,16 +210,16 @@ fn run_between<
     let shows = terminals.error && has_place && !wanted.quiet;
     let from_input = wanted.is_streamed || wanted.is_record || wanted.is_trace;
     let explains = terminals.error || wanted.explain;
-    let watched = WatchedInput::new(source, rt, shows && from_input);
-    let mut input = KeptInput::new(rt.alloc(), watched, explains);
-    let mut watcher = Watcher::new(rt, shows && !from_input);
+    let monitored = CountedInput::new(source, rt, shows && from_input);
+    let mut input = TeeInput::new(rt.alloc(), monitored, explains);
+    let mut watcher = ProgressPrinter::new(rt, shows && !from_input);
     let mut output = FrontSink::new(IntoWrite::new(&mut *writer));
     let ran = run_engine(rt, wanted, &mut input, &mut output, &mut watcher);
     let is_other_lock = wanted.engine == Engine::Judge
         && !wanted.any_lock
         && output.is_early_program();
-    let (kept, mut watched) = input.into_parts();
-    watched.end();
+    let (kept, mut monitored) = input.into_parts();
+    monitored.end();
     watcher.end();
     // After a fault too: what the engine has written is a front of its text.
     let flushed = writer.flush();
@@ -228,7 +228,7 @@ fn run_between<
     }
     match ran {
         Err(RunFault::File(Fault::Line(fault))) if explains => {
-            Ok(told_with_place(rt, wanted, &kept, fault))
+            Ok(reported_with_place(rt, wanted, &kept, fault))
         }
         Err(fault) => Err(fault),
         Ok(status) => match flushed {
@@ -239,13 +239,13 @@ fn run_between<
 }
 
 /// Reports a fault of a line, as without `--explain`, and then its place; returns the exit status.
-fn told_with_place<T: Eprint + AllocGlobal>(
+fn reported_with_place<T: Eprint + AllocGlobal>(
     rt: &T,
-    wanted: Wanted,
-    kept: &KeptFile,
+    wanted: EngineOptions,
+    kept: &StoredFile,
     fault: LineFault,
 ) -> u8 {
-    let status = told(rt, Err(Fault::Line(fault).into()));
+    let status = reported(rt, Err(Fault::Line(fault).into()));
     if let Ok(text) = explanation(rt.alloc(), file_kind(wanted), kept, &fault) {
         let _ = rt.eprint(&text);
     }
@@ -254,25 +254,25 @@ fn told_with_place<T: Eprint + AllocGlobal>(
 
 /// Opens a source. The engine of `state` reads scenarios and records, those of `calls`, `draw` and `draw-svg` traces too, and
 /// that of `judge` reads records and traces. The file's first word decides which it is.
-fn opened<R: Source + Drop>(alloc: Global, engine: Engine, source: R) -> Result<Opened<R>, Fault>
+fn opened<R: Source + Drop>(alloc: Global, engine: Engine, source: R) -> Result<SniffedSource<R>, Fault>
     requires { R.failures source < 2 ^ 64 - 1 }
-    ensures { IfOk result (λ opened. ⟦<Opened<R> as Source>⟧.failures opened ≡ R.failures source) }
+    ensures { IfOk result (λ opened. ⟦<SniffedSource<R> as Source>⟧.failures opened ≡ R.failures source) }
 {
     match engine {
         Engine::State | Engine::Calls | Engine::Draw | Engine::DrawSvg | Engine::Judge => {
-            Opened::new(alloc, source)
+            SniffedSource::new(alloc, source)
         }
-        _ => Ok(Opened::unseen(alloc, source)),
+        _ => Ok(SniffedSource::unseen(alloc, source)),
     }
 }
 
 /// Runs the engine from a source to a sink; returns the exit status of its end.
-fn run_engine<T: AllocGlobal + Threads + Wait + Sync, R: Source, W: Sink, L: Onlooker>(
+fn run_engine<T: AllocGlobal + Threads + Wait + Sync, R: Source, W: Sink, L: ProgressObserver>(
     rt: &T,
-    wanted: Wanted,
+    wanted: EngineOptions,
     input: &mut R,
     output: &mut W,
-    onlooker: &mut L,
+    progress_observer: &mut L,
 ) -> Result<u8, RunFault>
     requires reads { R.failures input.old < 2 ^ 64 - 1 }
     requires writes { W.failures output.old < 2 ^ 64 - 1 }
@@ -287,15 +287,15 @@ fn run_engine<T: AllocGlobal + Threads + Wait + Sync, R: Source, W: Sink, L: Onl
     let ran = match wanted.engine {
         Engine::Plain => exit_status(run_plain(alloc, input, output)),
         Engine::Bits => exit_status(run_bits(alloc, input, output)),
-        Engine::Replay => exit_status(replay(alloc, input, output, onlooker)),
-        Engine::Audit => run_audit(alloc, input, output, onlooker),
-        Engine::Sweep => run_sweep(alloc, input, output, onlooker),
-        Engine::Record => exit_status(run_record(alloc, input, output, onlooker)),
+        Engine::Replay => exit_status(replay(alloc, input, output, progress_observer)),
+        Engine::Audit => run_audit(alloc, input, output, progress_observer),
+        Engine::Sweep => run_sweep(alloc, input, output, progress_observer),
+        Engine::Record => exit_status(run_record(alloc, input, output, progress_observer)),
         Engine::State if wanted.is_record => state_record(alloc, wanted.at, input, output),
-        Engine::State => exit_status(run_state(alloc, wanted.at, input, output, onlooker)),
+        Engine::State => exit_status(run_state(alloc, wanted.at, input, output, progress_observer)),
         Engine::Calls if wanted.is_record => list_record(alloc, input, output),
         Engine::Calls if wanted.is_trace => list_trace(alloc, input, output),
-        Engine::Calls => exit_status(run_calls(alloc, input, output, onlooker)),
+        Engine::Calls => exit_status(run_calls(alloc, input, output, progress_observer)),
         Engine::Judge if wanted.is_trace => judge_trace(alloc, input, output, wanted.why),
         Engine::Judge if wanted.any_lock => judge_any_lock(alloc, input, output, wanted.why),
         Engine::Judge => run_judge(alloc, input, output, wanted.why),
@@ -312,14 +312,14 @@ fn run_engine<T: AllocGlobal + Threads + Wait + Sync, R: Source, W: Sink, L: Onl
         Engine::DrawSvg if wanted.is_record => exit_status(draw_record_svg(
             alloc, options, input, output,
         )),
-        Engine::Draw => exit_status(draw(alloc, options, input, output, onlooker)),
-        Engine::DrawSvg => exit_status(draw_svg(alloc, options, input, output, onlooker)),
+        Engine::Draw => exit_status(draw(alloc, options, input, output, progress_observer)),
+        Engine::DrawSvg => exit_status(draw_svg(alloc, options, input, output, progress_observer)),
     };
     Ok(ran?)
 }
 
 /// Reports a fault on standard error, and returns the exit status.
-fn told<T: Eprint>(rt: &T, ran: Result<u8, RunFault>) -> u8 {
+fn reported<T: Eprint>(rt: &T, ran: Result<u8, RunFault>) -> u8 {
     match ran {
         Ok(status) => status,
         Err(fault) => {

@@ -15,13 +15,13 @@ use Rattle.history_laws.specs.{changes_taken}
 use Rattle.history_laws.proofs.CountedChanges.{history-takes, taken_at}
 use Rattle.history_laws.proofs.DataHeadline.{taken}
 use Rattle.history_laws.proofs.Given.{given_before}
-use Rattle.history_laws.proofs.Told.{SaysAfter, says}
+use Rattle.history_laws.proofs.Reported.{SaysAfter, says}
 use Rattle.history_laws.proofs.Took.{EachAnswer, begins, goes, doing-few}
 use Rattle.board.specs.Calls.{Calls, and_then, calls_after, calls_of, changes_of, changing}
 use Rattle.board.specs.{StandsIn}
 use Rattle.board.proofs.Along.{changes_none, so_many_changes}
 use Rattle.board.proofs.Changes.{changing-push, store_of_changes}
-use Rattle.board.proofs.EntryMarks.{StepMarks, plain, takes, answers, downs, call_marks, closing_marks, plain-calls, plain-quiet, plain-reply, plain-takings, plain-uncalled, quiet-before, both-false, tells}
+use Rattle.board.proofs.EntryMarks.{StepMarks, plain, takes, answers, downs, call_marks, closing_marks, plain-calls, plain-quiet, plain-reply, plain-takings, plain-uncalled, quiet-before, both-false, reports}
 use Rattle.board.proofs.KnownCalls.{Known, Stands, known, known-own, known-uncalled, known_then, other_entry}
 use Rattle.board.proofs.Standing.{is_quiet, last_caller, one_change, standing_answered, standing_called, standing_down, standing_none, standing_on, standing_taken, taken_here}
 use Rattle.board.proofs.Stands.{finished_stand}
@@ -85,7 +85,7 @@ own_restarted s past e quiet is h = subst (λ (ms : List Mark). Stands s e.proce
     k = known s past e.process
 
 -- The state after an entry whose last marks begin no call and take nothing, and whose other marks do not concern calls.
-known_after : (s : Setup) (past : Past) (e : Entry) (before last : List Mark) → list_any tells before ≡ false → e.marks ≡ before ++ last → list_any is_called last ≡ false → reply_taken last ≡ None → takings last ≡ [] →
+known_after : (s : Setup) (past : Past) (e : Entry) (before last : List Mark) → list_any reports before ≡ false → e.marks ≡ before ++ last → list_any is_called last ≡ false → reply_taken last ≡ None → takings last ≡ [] →
     known_then s past e ≡ record (known s past e.process) { stage = fold stage_after (stage e.process past) e.marks; calls = fold (calls_after (changes_taken s past)) (calls_of s e.process past) last }
 known_after s past e before last none is uncalled untaken nothing = known-uncalled s past e (ap (list_any is_called) is ∙ plain-uncalled before last none ∙ uncalled) ∙ (λ i. record k {
   stage = fold stage_after k.stage e.marks;
@@ -97,7 +97,7 @@ known_after s past e before last none is uncalled untaken nothing = known-uncall
     k : Known
     k = known s past e.process
 
-own_plain : (s : Setup) (past : Past) (e : Entry) → list_any tells e.marks ≡ false → Stands s e.process (known s past e.process) → Stands s e.process (known_then s past e)
+own_plain : (s : Setup) (past : Past) (e : Entry) → list_any reports e.marks ≡ false → Stands s e.process (known s past e.process) → Stands s e.process (known_then s past e)
 own_plain s past e none h =
     let k : Known = known s past e.process in
     subst (Stands s e.process) (sym (known_after s past e e.marks [] none (sym (append-nil e.marks)) refl refl refl))
@@ -116,18 +116,18 @@ none_before s past e k r is (goes t) =
     let before : List (ℕ × Reply) = all_takings (since is_called (own e.process past)) in
     append-one before (k, r) (subst (λ (l : List (ℕ × Reply)). length (before ++ l) < 2) is (doing-few (doing s e.process (e ∷ past)) (before ++ takings e.marks) t.took))
 
-one-answer : (P : Answer → Type 0) (m : Mark) (ms : List Mark) → tells m ≡ false → EachAnswer P (m ∷ ms) → EachAnswer P ms
+one-answer : (P : Answer → Type 0) (m : Mark) (ms : List Mark) → reports m ≡ false → EachAnswer P (m ∷ ms) → EachAnswer P ms
 one-answer P (mark.Answered a) ms none h = cc
 one-answer P _ ms none h = h
 
-last-answer : (P : Answer → Type 0) (before : List Mark) (a : Answer) → list_any tells before ≡ false → EachAnswer P (before ++ mark.Answered a ∷ []) → P a
+last-answer : (P : Answer → Type 0) (before : List Mark) (a : Answer) → list_any reports before ≡ false → EachAnswer P (before ++ mark.Answered a ∷ []) → P a
 last-answer P [] a none h = h.0
 last-answer P (m ∷ before) a none h =
-    let both = both-false (tells m) (list_any tells before) none in
+    let both = both-false (reports m) (list_any reports before) none in
     last-answer P before a both.1 (one-answer P m (before ++ mark.Answered a ∷ []) both.0 h)
 
 -- the answer to a call is the reply of the command that it took
-answers_taken : (s : Setup) (past : Past) (e : Entry) (before : List Mark) (a : Answer) → list_any tells before ≡ false → e.marks ≡ before ++ mark.Answered a ∷ [] → SaysAfter s past e →
+answers_taken : (s : Setup) (past : Past) (e : Entry) (before : List Mark) (a : Answer) → list_any reports before ≡ false → e.marks ≡ before ++ mark.Answered a ∷ [] → SaysAfter s past e →
     IsAnswerTo a (all_takings (since is_called (own e.process past)))
 answers_taken s past e before a none is (begins command m t) =
     let f : true ≡ false = sym (ap (list_any is_called) m) ∙ (ap (list_any is_called) is ∙ plain-uncalled before (mark.Answered a ∷ []) none) in cc
@@ -137,16 +137,16 @@ answers_taken s past e before a none is (goes t) =
     subst (IsAnswerTo a) (ap (λ (l : List (ℕ × Reply)). taken ++ l) (ap takings is ∙ plain-takings before (mark.Answered a ∷ []) none) ∙ append-nil taken) here.0
 
 -- A stage that is quiet after such marks was quiet before them.
-quiet_after : (st : Stage) (before : List Mark) (k : ℕ) (r : Reply) → list_any tells before ≡ false → is_quiet (fold stage_after st (before ++ mark.Taken k r ∷ [])) ≡ true → is_quiet st ≡ true
+quiet_after : (st : Stage) (before : List Mark) (k : ℕ) (r : Reply) → list_any reports before ≡ false → is_quiet (fold stage_after st (before ++ mark.Taken k r ∷ [])) ≡ true → is_quiet st ≡ true
 quiet_after st [] k r none q = q
 quiet_after st (m ∷ before) k r none q =
-    let both = both-false (tells m) (list_any tells before) none in
+    let both = both-false (reports m) (list_any reports before) none in
     quiet-before st m both.0 (quiet_after (stage_after st m) before k r both.1 q)
 
-own_takes : (s : Setup) (past : Past) (e : Entry) (before : List Mark) (j : ℕ) (r : Reply) → list_any tells before ≡ false → e.marks ≡ before ++ mark.Taken j r ∷ [] → SaysAfter s past e →
+own_takes : (s : Setup) (past : Past) (e : Entry) (before : List Mark) (j : ℕ) (r : Reply) → list_any reports before ≡ false → e.marks ≡ before ++ mark.Taken j r ∷ [] → SaysAfter s past e →
     r ≡ reply_to (store_after s (history s past)) (last_command (own e.process past)) (last_caller s e.process (calls_in (own e.process past))) →
     Stands s e.process (known s past e.process) → Stands s e.process (known_then s past e)
-own_takes s past e before j r none is told reply h = subst (Stands s p) (sym (known-uncalled s past e uncalled ∙ same))
+own_takes s past e before j r none is reported reply h = subst (Stands s p) (sym (known-uncalled s past e uncalled ∙ same))
     (standing_taken s p k.stage then k.number k.command j r k.list k.calls.done k.calls.now quiet
     (reply ∙ ap (λ (x : Contents). reply_to x k.command (last_caller s p k.number)) (sym (store_of_changes s past)))
     (subst (λ (taken : List (ℕ × Reply)). Stands s p (record k { taken = taken })) nothing h))
@@ -170,7 +170,7 @@ own_takes s past e before j r none is told reply h = subst (Stands s p) (sym (kn
     took = ap takings is ∙ plain-takings before (mark.Taken j r ∷ []) none
 
     nothing : k.taken ≡ []
-    nothing = none_before s past e j r took told
+    nothing = none_before s past e j r took reported
 
     place : changes_taken s past ≡ length k.list
     place = sym (so_many_changes s past)
@@ -185,20 +185,20 @@ own_takes s past e before j r none is told reply h = subst (Stands s p) (sym (kn
     }
 
 -- An entry that finishes a call.
-own_answers : (s : Setup) (past : Past) (e : Entry) (before : List Mark) (a : Answer) → list_any tells before ≡ false → e.marks ≡ before ++ mark.Answered a ∷ [] → SaysAfter s past e →
+own_answers : (s : Setup) (past : Past) (e : Entry) (before : List Mark) (a : Answer) → list_any reports before ≡ false → e.marks ≡ before ++ mark.Answered a ∷ [] → SaysAfter s past e →
     Stands s e.process (known s past e.process) → Stands s e.process (known_then s past e)
-own_answers s past e before a none is told h =
+own_answers s past e before a none is reported h =
     let k : Known = known s past e.process in
     subst (Stands s e.process) (sym (known_after s past e before (mark.Answered a ∷ []) none is refl refl refl))
-    (standing_answered s e.process k.stage _ k.number k.command k.taken a k.list k.calls.done k.calls.now (answers_taken s past e before a none is told) h)
+    (standing_answered s e.process k.stage _ k.number k.command k.taken a k.list k.calls.done k.calls.now (answers_taken s past e before a none is reported) h)
 
-own_downs : (s : Setup) (past : Past) (e : Entry) (before : List Mark) → list_any tells before ≡ false → e.marks ≡ before ++ mark.Down ∷ [] → Stands s e.process (known s past e.process) → Stands s e.process (known_then s past e)
+own_downs : (s : Setup) (past : Past) (e : Entry) (before : List Mark) → list_any reports before ≡ false → e.marks ≡ before ++ mark.Down ∷ [] → Stands s e.process (known s past e.process) → Stands s e.process (known_then s past e)
 own_downs s past e before none is h =
     let k : Known = known s past e.process in
     subst (Stands s e.process) (sym (known_after s past e before (mark.Down ∷ []) none is refl refl refl))
     (standing_down s e.process k.stage _ k.number k.command k.taken k.list k.calls.done k.calls.now h)
 
-taking_among : (e : Entry) (before : List Mark) (j : ℕ) (r : Reply) → list_any tells before ≡ false → e.marks ≡ before ++ mark.Taken j r ∷ [] → Contains (takings e.marks) (j, r)
+taking_among : (e : Entry) (before : List Mark) (j : ℕ) (r : Reply) → list_any reports before ≡ false → e.marks ≡ before ++ mark.Taken j r ∷ [] → Contains (takings e.marks) (j, r)
 taking_among e before j r none is = subst (λ (l : List (ℕ × Reply)). Contains l (j, r)) (sym (ap takings is ∙ plain-takings before (mark.Taken j r ∷ []) none)) (0, omega arith, refl)
 
 -- Each entry of the process keeps the invariant.
@@ -212,13 +212,13 @@ own_entry s ok events event e given is h = go (own_marks s g events event e is)
     past : Past
     past = past_of s events
 
-    told : SaysAfter s past e
-    told = says s g events event e is
+    reported : SaysAfter s past e
+    reported = says s g events event e is
 
     by : StepMarks e.marks → Stands s e.process (known_then s past e)
     by (plain none) = own_plain s past e none h
-    by (takes before j r none m) = own_takes s past e before j r none m told (taken s ok events event e given is j r (taking_among e before j r none m)).1 h
-    by (answers before a none m) = own_answers s past e before a none m told h
+    by (takes before j r none m) = own_takes s past e before j r none m reported (taken s ok events event e given is j r (taking_among e before j r none m)).1 h
+    by (answers before a none m) = own_answers s past e before a none m reported h
     by (downs before none m) = own_downs s past e before none m h
 
     go : OwnMarks s past e → Stands s e.process (known_then s past e)

@@ -13,32 +13,32 @@ use Rattle.board.specs.Calls.{Calls, calls_after}
 use Rattle.board.proofs.Standing.{is_quiet}
 
 -- a mark that begins, takes or ends a call, or restarts its process
-abbrev pub tells : Mark → Bool
-tells (Called command) = true
-tells (Taken k r) = true
-tells (Answered a) = true
-tells Down = true
-tells Restarted = true
-tells _ = false
+abbrev pub reports : Mark → Bool
+reports (Called command) = true
+reports (Taken k r) = true
+reports (Answered a) = true
+reports Down = true
+reports Restarted = true
+reports _ = false
 
 -- the marks of a step
 pub data StepMarks (ms : List Mark) : Type 0 where
-  plain : list_any tells ms ≡ false → StepMarks ms
-  takes : (before : List Mark) (k : ℕ) (r : Reply) → list_any tells before ≡ false → ms ≡ before ++ Taken k r ∷ [] → StepMarks ms
-  answers : (before : List Mark) (a : Answer) → list_any tells before ≡ false → ms ≡ before ++ Answered a ∷ [] → StepMarks ms
-  downs : (before : List Mark) → list_any tells before ≡ false → ms ≡ before ++ Down ∷ [] → StepMarks ms
+  plain : list_any reports ms ≡ false → StepMarks ms
+  takes : (before : List Mark) (k : ℕ) (r : Reply) → list_any reports before ≡ false → ms ≡ before ++ Taken k r ∷ [] → StepMarks ms
+  answers : (before : List Mark) (a : Answer) → list_any reports before ≡ false → ms ≡ before ++ Answered a ∷ [] → StepMarks ms
+  downs : (before : List Mark) → list_any reports before ≡ false → ms ≡ before ++ Down ∷ [] → StepMarks ms
 
 -- The marks of a call, by its part.
 
-entered : (n : ℕ) (ws : List Wait) → list_any tells (map (placed n) (entered_if_none ws)) ≡ false
+entered : (n : ℕ) (ws : List Wait) → list_any reports (map (placed n) (entered_if_none ws)) ≡ false
 entered n [] = refl
 entered n (w ∷ ws) = refl
 
-entered-by : (n : ℕ) (ws : List Wait) (b : Bool) → list_any tells (map (placed n) (cond b (entered_if_none ws) [])) ≡ false
+entered-by : (n : ℕ) (ws : List Wait) (b : Bool) → list_any reports (map (placed n) (cond b (entered_if_none ws) [])) ≡ false
 entered-by n ws true = entered n ws
 entered-by n ws false = refl
 
-first-plain : (n : ℕ) (x : Part) (fresh : Bool) → list_any tells (map (placed n) (cond fresh (first_marks x) [] ++ [])) ≡ false
+first-plain : (n : ℕ) (x : Part) (fresh : Bool) → list_any reports (map (placed n) (cond fresh (first_marks x) [] ++ [])) ≡ false
 first-plain n x fresh = grind arith
 
 -- the first access has no mark of its own
@@ -132,42 +132,42 @@ pub both-false : (a b : Bool) → (a || b) ≡ false → (a ≡ false) × (b ≡
 both-false true b h = cc
 both-false false b h = (refl, h)
 
-one-calls : (place : ℕ) (t : Calls) (m : Mark) → tells m ≡ false → calls_after place t m ≡ t
+one-calls : (place : ℕ) (t : Calls) (m : Mark) → reports m ≡ false → calls_after place t m ≡ t
 one-calls place t m h = grind arith
 
-one-takings : (m : Mark) (ms : List Mark) → tells m ≡ false → takings (m ∷ ms) ≡ takings ms
+one-takings : (m : Mark) (ms : List Mark) → reports m ≡ false → takings (m ∷ ms) ≡ takings ms
 one-takings (Taken k r) ms h = cc
 one-takings _ ms h = refl
 
-one-reply : (m : Mark) (ms : List Mark) → tells m ≡ false → reply_taken (m ∷ ms) ≡ reply_taken ms
+one-reply : (m : Mark) (ms : List Mark) → reports m ≡ false → reply_taken (m ∷ ms) ≡ reply_taken ms
 one-reply (Taken k r) ms h = cc
 one-reply _ ms h = refl
 
-one-uncalled : (m : Mark) → tells m ≡ false → is_called m ≡ false
+one-uncalled : (m : Mark) → reports m ≡ false → is_called m ≡ false
 one-uncalled (Called command) h = cc
 one-uncalled _ h = refl
 
-pub plain-calls : (place : ℕ) (t : Calls) (ms more : List Mark) → list_any tells ms ≡ false → fold (calls_after place) t (ms ++ more) ≡ fold (calls_after place) t more
+pub plain-calls : (place : ℕ) (t : Calls) (ms more : List Mark) → list_any reports ms ≡ false → fold (calls_after place) t (ms ++ more) ≡ fold (calls_after place) t more
 plain-calls place t [] more h = refl
 plain-calls place t (m ∷ ms) more h =
-    let both = both-false (tells m) (list_any tells ms) h in
+    let both = both-false (reports m) (list_any reports ms) h in
     ap (λ (u : Calls). fold (calls_after place) u (ms ++ more)) (one-calls place t m both.0) ∙ plain-calls place t ms more both.1
 
-pub plain-takings : (ms more : List Mark) → list_any tells ms ≡ false → takings (ms ++ more) ≡ takings more
+pub plain-takings : (ms more : List Mark) → list_any reports ms ≡ false → takings (ms ++ more) ≡ takings more
 plain-takings [] more h = refl
-plain-takings (m ∷ ms) more h = let both = both-false (tells m) (list_any tells ms) h in one-takings m (ms ++ more) both.0 ∙ plain-takings ms more both.1
+plain-takings (m ∷ ms) more h = let both = both-false (reports m) (list_any reports ms) h in one-takings m (ms ++ more) both.0 ∙ plain-takings ms more both.1
 
-pub plain-reply : (ms more : List Mark) → list_any tells ms ≡ false → reply_taken (ms ++ more) ≡ reply_taken more
+pub plain-reply : (ms more : List Mark) → list_any reports ms ≡ false → reply_taken (ms ++ more) ≡ reply_taken more
 plain-reply [] more h = refl
-plain-reply (m ∷ ms) more h = let both = both-false (tells m) (list_any tells ms) h in one-reply m (ms ++ more) both.0 ∙ plain-reply ms more both.1
+plain-reply (m ∷ ms) more h = let both = both-false (reports m) (list_any reports ms) h in one-reply m (ms ++ more) both.0 ∙ plain-reply ms more both.1
 
-pub plain-uncalled : (ms more : List Mark) → list_any tells ms ≡ false → list_any is_called (ms ++ more) ≡ list_any is_called more
+pub plain-uncalled : (ms more : List Mark) → list_any reports ms ≡ false → list_any is_called (ms ++ more) ≡ list_any is_called more
 plain-uncalled [] more h = refl
-plain-uncalled (m ∷ ms) more h = let both = both-false (tells m) (list_any tells ms) h in ap (λ b. b || list_any is_called (ms ++ more)) (one-uncalled m both.0) ∙ plain-uncalled ms more both.1
+plain-uncalled (m ∷ ms) more h = let both = both-false (reports m) (list_any reports ms) h in ap (λ b. b || list_any is_called (ms ++ more)) (one-uncalled m both.0) ∙ plain-uncalled ms more both.1
 
-pub quiet-before : (st : Stage) (m : Mark) → tells m ≡ false → is_quiet (stage_after st m) ≡ true → is_quiet st ≡ true
+pub quiet-before : (st : Stage) (m : Mark) → reports m ≡ false → is_quiet (stage_after st m) ≡ true → is_quiet st ≡ true
 quiet-before st m h k = grind arith
 
-pub plain-quiet : (st : Stage) (ms : List Mark) → list_any tells ms ≡ false → is_quiet (fold stage_after st ms) ≡ true → is_quiet st ≡ true
+pub plain-quiet : (st : Stage) (ms : List Mark) → list_any reports ms ≡ false → is_quiet (fold stage_after st ms) ≡ true → is_quiet st ≡ true
 plain-quiet st [] h q = q
-plain-quiet st (m ∷ ms) h q = let both = both-false (tells m) (list_any tells ms) h in quiet-before st m both.0 (plain-quiet (stage_after st m) ms both.1 q)
+plain-quiet st (m ∷ ms) h q = let both = both-false (reports m) (list_any reports ms) h in quiet-before st m both.0 (plain-quiet (stage_after st m) ms both.1 q)

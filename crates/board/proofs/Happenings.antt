@@ -233,15 +233,15 @@ knows_since : (s : Setup) (events : List Event) (words : List ℕ) (views : List
     Knows s (past_of s (since ++ events)) (at_events s v since)
 knows_since s events words views i v since shows at live may = (events_show s events words views i v since shows at live may).known i (at_events s v since) (set_at views i v (at_events s v since) at) live
 
-pub stage_told : (s : Setup) (events : List Event) (words : List ℕ) (views : List ViewState) (i : ℕ) (v : ViewState) (since : List Event) → Shows s events words views → get_elem? views i ≡ some v → v.spent ≡ false → MayAllHappen s v.own since →
+pub stage_reported : (s : Setup) (events : List Event) (words : List ℕ) (views : List ViewState) (i : ℕ) (v : ViewState) (since : List Event) → Shows s events words views → get_elem? views i ≡ some v → v.spent ≡ false → MayAllHappen s v.own since →
     stage v.own.process (past_of s (since ++ events)) ≡ stage_in s (with_events s v.own since)
-stage_told s events words views i v since shows at live may =
+stage_reported s events words views i v since shows at live may =
     let o = with_events s v.own since in
     let k = knows_since s events words views i v since shows at live may in
     ap (λ p. stage p (past_of s (since ++ events))) (sym (same_process_all s v.own since))
     ∙ sym (stage_known s (is_good s shows.good) (since ++ events) o.process) ∙ ap (stage_in s) (sym k.own)
 
-pub refusals_told : (s : Setup) (events : List Event) (words : List ℕ) (views : List ViewState) (i : ℕ) (v : ViewState) (since : List Event) → Shows s events words views → get_elem? views i ≡ some v → v.spent ≡ false → MayAllHappen s v.own since →
+pub refusals_reported : (s : Setup) (events : List Event) (words : List ℕ) (views : List ViewState) (i : ℕ) (v : ViewState) (since : List Event) → Shows s events words views → get_elem? views i ≡ some v → v.spent ≡ false → MayAllHappen s v.own since →
     (event : Event) → process_of event ≡ v.own.process → refused s (past_of s (since ++ events)) event ≡ refusal_in s (with_events s v.own since) event
-refusals_told s events words views i v since shows at live may event process =
+refusals_reported s events words views i v since shows at live may event process =
     refused_is s (is_good s shows.good) (since ++ events) event (at_events s v since) (knows_since s events words views i v since shows at live may) (process ∙ sym (same_process_all s v.own since))

@@ -8,7 +8,7 @@ use Rattle.model.specs.declared.marks.Mark.TheVariants as mark
 use Rattle.laws.proofs.Frame.{own-other, own-own}
 use Rattle.history_laws.specs.{changes_taken}
 use Rattle.history_laws.proofs.HistoryItems.{calls-uncalled}
-use Rattle.history_laws.proofs.Told.{since-uncalled}
+use Rattle.history_laws.proofs.Reported.{since-uncalled}
 use Rattle.board.specs.Calls.{Calls, calls_after, calls_of, changes_of}
 use Rattle.board.proofs.Along.{changes_entry}
 use Rattle.board.proofs.Standing.{Standing, standing_longer}

@@ -5,14 +5,14 @@ use Rattle.model.specs.safe_bit.declared.Move.TheVariants.{BeginRead}
 use Rattle.model.specs.{Access, stage_after}
 use Rattle.plain_store.specs.{Setup}
 use Rattle.laws.specs.{Doing, marks_with, next_of}
-use Rattle.process.specs.{StepTold, marks_told}
+use Rattle.process.specs.{StepOutcome, marks_reported}
 use Rattle.board.specs.Calls.{Calls, calls_after}
 use Rattle.board.specs.{LeadsTo, OwnView, goes, stage_in}
 
 -- the outcome of a word step, in which the calls are those after its marks
-pub leads : (s : Setup) (told : StepTold) (o middle after : OwnView) (place : ℕ) → goes s middle ≡ true → stage_in s after ≡ fold stage_after (stage_in s middle) (marks_told told) → middle.calls ≡ o.calls → after.calls ≡ fold (calls_after place) middle.calls (marks_told told) →
-    LeadsTo s told o after
-leads s told o middle after place h k g e = grind arith
+pub leads : (s : Setup) (reported : StepOutcome) (o middle after : OwnView) (place : ℕ) → goes s middle ≡ true → stage_in s after ≡ fold stage_after (stage_in s middle) (marks_reported reported) → middle.calls ≡ o.calls → after.calls ≡ fold (calls_after place) middle.calls (marks_reported reported) →
+    LeadsTo s reported o after
+leads s reported o middle after place h k g e = grind arith
 
 -- The begin of a read leaves the calls unchanged.
 

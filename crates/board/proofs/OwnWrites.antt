@@ -52,14 +52,14 @@ own_writes_are_read s p calls list h j k place write read name x at_write at_rea
     value : value_at (store_at s list (place + 1)).pairs name ≡ Some x
     value = ap (λ (store : Contents). value_at store.pairs name) (store-next s list place _ change) ∙ value_then (store_at s list place) (change_at s list (caller_of s p j) write.command place) name x writes new
 
-    told : (r : Reply) → read.answer ≡ Some (answer.Reply r) → r ≡ reply.Value x
-    told r is =
+    reported : (r : Reply) → read.answer ≡ Some (answer.Reply r) → r ≡ reply.Value x
+    reported r is =
         (h.taken k (place + 1) read at_read is_read).reply r is
         ∙ ap (λ (c : Command). reply_to (store_at s list (place + 1)) c (caller_of s p k)) reads
         ∙ read_then (store_at s list (place + 1)) name x (caller_of s p k) value
 
     go : (a : Answer) → read.answer ≡ Some a → PlacedAsAnswered (Some a) read.place → a ≡ answer.Reply (reply.Value x)
-    go (answer.Reply r) is placed = ap answer.Reply (told r is)
+    go (answer.Reply r) is placed = ap answer.Reply (reported r is)
     go (answer.TicketsFull q) is placed = let f : Some (place + 1) ≡ None = sym is_read ∙ placed in cc
     go answer.StampsFull is placed = let f : Some (place + 1) ≡ None = sym is_read ∙ placed in cc
     go answer.Withdrawn is placed = let f : Some (place + 1) ≡ None = sym is_read ∙ placed in cc

@@ -33,24 +33,24 @@ left port then None refusal h = absurd (cc)
 -- a refused event leaves the port unchanged
 pub refused : (port : PortState) (event : ℕ → Event) (p : ℕ) (answer : Result (Unit {0}) Refusal) (refusal : Refusal) → answer ≡ Err refusal → answer ≡ answer_to port (event p) → p ≡ port.view.own.process →
     (Err refusal ≡ answer_to port (event port.view.own.process)) × (port ≡ port_after port (event port.view.own.process))
-refused port event p answer refusal is told own =
+refused port event p answer refusal is reported own =
     let e = event port.view.own.process in
-    let no : Err refusal ≡ answer_to port e = sym is ∙ told ∙ ap (λ q. answer_to port (event q)) own in
+    let no : Err refusal ≡ answer_to port e = sym is ∙ reported ∙ ap (λ q. answer_to port (event q)) own in
     (no, left port (record port { view = at_events port.setup port.view (e ∷ []) }) (refusal_in port.setup port.view.own e) refusal no)
 
 -- an accepted event is not refused in the state before it
 pub accepted : (port before : PortState) (event : ℕ → Event) (p : ℕ) (answer : Result (Unit {0}) Refusal) → before ≡ port → answer ≡ Ok tt → answer ≡ answer_to port (event p) → p ≡ port.view.own.process →
     refusal_in before.setup before.view.own (event before.view.own.process) ≡ None
-accepted port before event p answer was is told own =
-    ap (λ (q : PortState). refusal_in q.setup q.view.own (event q.view.own.process)) was ∙ ap (λ q. refusal_in port.setup port.view.own (event q)) (sym own) ∙ is_accepted port (event p) (sym told ∙ is)
+accepted port before event p answer was is reported own =
+    ap (λ (q : PortState). refusal_in q.setup q.view.own (event q.view.own.process)) was ∙ ap (λ q. refusal_in port.setup port.view.own (event q)) (sym own) ∙ is_accepted port (event p) (sym reported ∙ is)
 
 -- an event that is not refused may happen to the process
 pub happens : (port before new : PortState) (event : ℕ → Event) (p : ℕ) (answer : Result (Unit {0}) Refusal) → answer ≡ Ok tt → answer ≡ answer_to port (event p) → p ≡ port.view.own.process → before ≡ port →
     new ≡ record before { view = at_events before.setup before.view (event before.view.own.process ∷ []) } →
     SamePort port new × (Ok tt ≡ answer_to port (event port.view.own.process)) × (new ≡ port_after port (event port.view.own.process))
-happens port before new event p answer is told own was then =
+happens port before new event p answer is reported own was then =
     let e = event port.view.own.process in
-    let yes : answer_to port e ≡ Ok tt = ap (λ q. answer_to port (event q)) (sym own) ∙ sym told ∙ is in
+    let yes : answer_to port e ≡ Ok tt = ap (λ q. answer_to port (event q)) (sym own) ∙ sym reported ∙ is in
     let now : new ≡ record port { view = at_events port.setup port.view (e ∷ []) } = then ∙ ap (λ (q : PortState). record q { view = at_events q.setup q.view (event q.view.own.process ∷ []) }) was in (
       (
         ap (λ (q : PortState). q.table_id) now,

@@ -10,8 +10,8 @@ use Rattle.model.specs.Closings.{Closing, Withdraws, Settles, Frees, Lowers, Qui
 use Rattle.model.specs.Parts as part
 use Rattle.laws.specs.{Closes, Doing, Lies, Rests, Runs, call, cut_of, does_then, is_inside, is_inside_at, is_inside_closing, marks_with, next_of}
 use Rattle.history_laws.specs.{stamp_at, stamp_read}
-use Rattle.process.specs.{StepTold, changes_pending, changes_read, changes_told, marks_told}
-use Rattle.process.specs.declared.told.StepTold.TheVariants as told
+use Rattle.process.specs.{StepOutcome, changes_pending, changes_read, changes_reported, marks_reported}
+use Rattle.process.specs.declared.outcomes.StepOutcome.TheVariants as reported
 use Rattle.board.specs.{IsPlace, Makes, OwnView, may_take}
 
 -- The marks of a taken command.
@@ -105,15 +105,15 @@ cut_takes s p x n (Closes y m at) h = absurd (cut-closing (call s p y m) x n (to
 
 -- The position of the command that a step takes.
 
-pub is_place : (s : Setup) (seen : List Taken) (flick value : Bool) (o then : OwnView) (m : Makes s seen flick value o then) (stamp : Option ℕ) (told : StepTold) → marks_told told ≡ marks_with s o.process o.doing flick value → IfSome (changes_told told) (λ changes. changes ≡ changes_read o.doing) →
-    (may_take o.doing ≡ true → is_inside o.doing ≡ true) → (may_take o.doing ≡ true → stamp ≡ Some (length seen)) → IsPlace told stamp m.place
-is_place s seen flick value o then m stamp told.Nothing marks read inside kept = tt
-is_place s seen flick value o then m stamp (told.Waits t) marks read inside kept = tt
-is_place s seen flick value o then m stamp (told.WaitsAndEnters t) marks read inside kept = tt
-is_place s seen flick value o then m stamp told.Enters marks read inside kept = tt
-is_place s seen flick value o then m stamp (told.Took reply changes) marks read inside kept = read ∙ sym (m.counted (changes_read o.doing) (takes_read s o.process o.doing flick value (sym (ap takes marks))))
-is_place s seen flick value o then m stamp told.Leaves marks read inside kept = tt
-is_place s seen flick value o then m stamp (told.Answers a) marks read inside kept = tt
-is_place s seen flick value o then m stamp (told.Settles v) marks read inside kept = tt
-is_place s seen flick value o then m stamp (told.SettlesAndTakes v reply) marks read inside kept = let may = settles_may s o.process o.doing flick value (sym (ap settles_taking marks)) in kept may ∙ ap Some (sym (m.inside (inside may)))
-is_place s seen flick value o then m stamp told.Lies marks read inside kept = tt
+pub is_place : (s : Setup) (seen : List Taken) (flick value : Bool) (o then : OwnView) (m : Makes s seen flick value o then) (stamp : Option ℕ) (reported : StepOutcome) → marks_reported reported ≡ marks_with s o.process o.doing flick value → IfSome (changes_reported reported) (λ changes. changes ≡ changes_read o.doing) →
+    (may_take o.doing ≡ true → is_inside o.doing ≡ true) → (may_take o.doing ≡ true → stamp ≡ Some (length seen)) → IsPlace reported stamp m.place
+is_place s seen flick value o then m stamp reported.Nothing marks read inside kept = tt
+is_place s seen flick value o then m stamp (reported.Waits t) marks read inside kept = tt
+is_place s seen flick value o then m stamp (reported.WaitsAndEnters t) marks read inside kept = tt
+is_place s seen flick value o then m stamp reported.Enters marks read inside kept = tt
+is_place s seen flick value o then m stamp (reported.Took reply changes) marks read inside kept = read ∙ sym (m.counted (changes_read o.doing) (takes_read s o.process o.doing flick value (sym (ap takes marks))))
+is_place s seen flick value o then m stamp reported.Leaves marks read inside kept = tt
+is_place s seen flick value o then m stamp (reported.Answers a) marks read inside kept = tt
+is_place s seen flick value o then m stamp (reported.Settles v) marks read inside kept = tt
+is_place s seen flick value o then m stamp (reported.SettlesAndTakes v reply) marks read inside kept = let may = settles_may s o.process o.doing flick value (sym (ap settles_taking marks)) in kept may ∙ ap Some (sym (m.inside (inside may)))
+is_place s seen flick value o then m stamp reported.Lies marks read inside kept = tt

@@ -5,27 +5,27 @@ use Rattle.process.specs.choices.{FlickState, flick_of}
 use Rattle.plain_store.specs.{Answer, Command, Setup, are_pairs}
 use Rattle.model.specs.declared.events.Event.TheVariants as event
 use Rattle.model.specs.{past_of}
-use Rattle.board.specs.{Driven, Drives, EndsWith, IsPrefix, StandsInRecord, StandsInSeen, ViewState, Walks, WalksTo, WordStep, at_events, called, changes_of, flicks_after, new_view}
+use Rattle.board.specs.{Driven, Drives, EndsWith, IsPrefix, AreInRecord, AreInSeen, ViewState, Walks, WalksTo, WordStep, at_events, called, changes_of, flicks_after, new_view}
 use Rattle.board.specs.declared.driving.Driven.TheVariants as driven
 use Rattle.board.proofs.Along.{prefix-trans}
 use Rattle.board.proofs.Stands.{finished_stand, stands_in_longer, stands_push}
 
 -- after a call, which has taken nothing yet
-pub stands_called : (s : Setup) (b : ViewState) (p : ℕ) (command : Command) → StandsInSeen s b → StandsInSeen s (at_events s b (event.Call p command ∷ []))
+pub stands_called : (s : Setup) (b : ViewState) (p : ℕ) (command : Command) → AreInSeen s b → AreInSeen s (at_events s b (event.Call p command ∷ []))
 stands_called s b p command h = record {
   stands = stands_push s b.own.process b.own.calls.done b.seen (called command) (finished_stand s b.own.process b.own.calls.done b.own.calls.now b.seen h.stands) tt (λ place is. cc);
   seen = h.seen;
 }
 
 -- for a process that has done nothing
-pub stands_new : (s : Setup) → are_pairs s.opening ≡ true → (p made : ℕ) → StandsInSeen s (new_view p made)
+pub stands_new : (s : Setup) → are_pairs s.opening ≡ true → (p made : ℕ) → AreInSeen s (new_view p made)
 stands_new s pairs p made = record {
   stands = record { taken = λ k place call at is. cc; answered = λ k call at. cc; order = λ j k place next call later less at_j at_k is is_next. cc };
   seen = record { events = []; given = record { opening = pairs; commands = refl }; first = ([], refl) };
 }
 
 -- so its finished calls are consistent with the changes of a record
-pub in_record : (s : Setup) (v : ViewState) → StandsInSeen s v → StandsInRecord s v.own.process v.own.calls.done
+pub in_record : (s : Setup) (v : ViewState) → AreInSeen s v → AreInRecord s v.own.process v.own.calls.done
 in_record s v h = record {
   events = h.seen.events;
   given = h.seen.given;

@@ -183,16 +183,16 @@ answered_so s list caller command a place taken h k = grind arith
 -- the answer is the reply of the store at the position of the call
 replied_so : (s : Setup) (list : List Taken) (caller : Caller) (command : Command) (place : ℕ) (r : Reply) (taken : List (ℕ × Reply)) → IsAnswerTo (answer.Reply r) taken → TookFrom s list caller command (Some place) taken →
     r ≡ reply_to (store_at s list place) command caller
-replied_so s list caller command place r taken told took = one_reply (told.0, r) (took.0, reply_to (store_at s list place) command caller) (sym told.1 ∙ took.1)
+replied_so s list caller command place r taken reported took = one_reply (reported.0, r) (took.0, reply_to (store_at s list place) command caller) (sym reported.1 ∙ took.1)
 
 pub standing_answered : (s : Setup) (p : ℕ) (st then : Stage) (n : ℕ) (command : Command) (taken : List (ℕ × Reply)) (a : Answer) (list : List Taken) (done : List Placed) (now : Option Placed) → IsAnswerTo a taken →
     Standing s p st n command taken list done now → Standing s p then n command taken list (and_then done (option_map (λ (call : Placed). record call { answer = Some a }) now)) None
-standing_answered s p st then n command taken a list done None told h = record { rests = λ _. refl; count = h.count; last = tt; stands = h.stands }
-standing_answered s p st then n command taken a list done (Some call) told h = record {
+standing_answered s p st then n command taken a list done None reported h = record { rests = λ _. refl; count = h.count; last = tt; stands = h.stands }
+standing_answered s p st then n command taken a list done (Some call) reported h = record {
   rests = λ _. refl;
   count = length-append done (new ∷ []) ∙ (sym (length-append done (call ∷ [])) ∙ h.count);
   last = tt;
-  stands = stands_push s p done list new (stands_front s p done (call ∷ []) list h.stands) (answered_so s list (last_caller s p n) call.command a call.place taken told h.last.took) comes;
+  stands = stands_push s p done list new (stands_front s p done (call ∷ []) list h.stands) (answered_so s list (last_caller s p n) call.command a call.place taken reported h.last.took) comes;
 }
   where
     new : Placed
@@ -204,16 +204,16 @@ standing_answered s p st then n command taken a list done (Some call) told h = r
         let m : length done + 1 ≡ n = sym l ∙ h.count in
         ap (λ (q : ℕ). last_caller s p q) m
 
-    told_so : (place : ℕ) → call.place ≡ Some place → (r : Reply) → Some a ≡ Some (answer.Reply r) → r ≡ reply_to (store_at s list place) call.command (caller_of s p (length done))
-    told_so place is r e =
+    reported_so : (place : ℕ) → call.place ≡ Some place → (r : Reply) → Some a ≡ Some (answer.Reply r) → r ≡ reply_to (store_at s list place) call.command (caller_of s p (length done))
+    reported_so place is r e =
         let same : a ≡ answer.Reply r = cc in
-        replied_so s list (last_caller s p n) call.command place r taken (subst (λ (x : Answer). IsAnswerTo x taken) same told) (subst (λ (x : Option ℕ). TookFrom s list (last_caller s p n) call.command x taken) is h.last.took)
+        replied_so s list (last_caller s p n) call.command place r taken (subst (λ (x : Answer). IsAnswerTo x taken) same reported) (subst (λ (x : Option ℕ). TookFrom s list (last_caller s p n) call.command x taken) is h.last.took)
         ∙ ap (λ (x : Caller). reply_to (store_at s list place) call.command x) (sym same-caller)
 
     comes : (place : ℕ) → call.place ≡ Some place → ComesLast s p done list new place
     comes place is =
         let c = comes_last s p done list call h.stands place is in
-        record { stands = record { within = c.stands.within; reply = told_so place is; change = c.stands.change }; order = c.order }
+        record { stands = record { within = c.stands.within; reply = reported_so place is; change = c.stands.change }; order = c.order }
 
 pub standing_down : (s : Setup) (p : ℕ) (st then : Stage) (n : ℕ) (command : Command) (taken : List (ℕ × Reply)) (list : List Taken) (done : List Placed) (now : Option Placed) → Standing s p st n command taken list done now →
     Standing s p then n command taken list (and_then done now) None

@@ -8,7 +8,7 @@ use Rattle.model.specs.reader_copies.{IsWrite}
 use Rattle.model.specs.{Access, stage_after}
 use Rattle.plain_store.specs.{Setup}
 use Rattle.laws.specs.{IsThere, being_written, next_of}
-use Rattle.process.specs.{ProcessState, StepTold, marks_on, marks_told, may_step, next_at, stepped}
+use Rattle.process.specs.{ProcessState, StepOutcome, marks_on, marks_reported, may_step, next_at, stepped}
 use Rattle.board.specs.{Agree, IsBetween, IsNext, IsTied, IsUnended, LeadsTo, Loads, OwnView, Stores, ViewState, calls_after, closed_word, events_of, loaded, nothing, process_at, stage_in, stored, with_pending, with_step, word_of}
 use Rattle.board.specs.declared.pending.Pending.{Pending}
 use Rattle.board.proofs.Begins.{step_follows}
@@ -79,16 +79,16 @@ unended_then s o then flick value place is = subst (λ (o : OwnView). IsUnended 
 -- the tie after a store
 pub tied_stored : (s : Setup) (pending : Pending) (process new : ProcessState) (value value' flick : Bool) (word : ℕ) (n : Access) (v w : ViewState) → IsTied s pending process value v → IsNext s process flick word n →
     IsWrite n.how → ((u : Bool) → n.how ≡ BeginWrite u → value' ≡ u) → Stores s flick (with_pending s pending v) w → new ≡ stepped process flick false → IsTied s nothing new value' w
-tied_stored s pending process new value value' flick word n v w t h writes begins told goes =
+tied_stored s pending process new value value' flick word n v w t h writes begins reported goes =
     let b = (with_pending s pending v).own in
     let next = next_own s pending process value v t flick word n h in
-    let o' = with_step s b flick false told.makes.place in
+    let o' = with_step s b flick false reported.makes.place in
     record {
-      live = ap (λ (u : ViewState). u.spent) told.goes.same ∙ t.live;
+      live = ap (λ (u : ViewState). u.spent) reported.goes.same ∙ t.live;
       may = tt;
-      same = process_step s b w.own process new flick false told.makes.place t.same goes told.makes.is;
-      unended = unended_then s b w.own flick false told.makes.place told.makes.is;
-      between = subst (IsBetween s value') (sym told.makes.is) (λ fl y i. let f = step_follows s b.process b.doing flick false n t.unended next fl y i in
+      same = process_step s b w.own process new flick false reported.makes.place t.same goes reported.makes.is;
+      unended = unended_then s b w.own flick false reported.makes.place reported.makes.is;
+      between = subst (IsBetween s value') (sym reported.makes.is) (λ fl y i. let f = step_follows s b.process b.doing flick false n t.unended next fl y i in
           ((λ e. begins (being_written s o'.process o'.doing) (f.0 e)), λ u e. no_read n.how writes (f.1 u e)));
     }
   where
@@ -107,16 +107,16 @@ pub record Begun (s : Setup) (middle : ProcessState) (flick : Bool) (n : Access)
   pub goes : may_step middle.doing ≡ true
 
 pub begins : (s : Setup) (pending : Pending) (process middle : ProcessState) (value flick : Bool) (word found : ℕ) (n : Access) (v w : ViewState) → IsTied s pending process value v → IsNext s process flick word n → n.how ≡ BeginRead →
-    (told : Loads s flick (with_pending s pending v) found w) → middle ≡ stepped process flick false → Begun s middle flick n told.begun
-begins s pending process middle value flick word found n v w t h how told goes =
+    (reported : Loads s flick (with_pending s pending v) found w) → middle ≡ stepped process flick false → Begun s middle flick n reported.begun
+begins s pending process middle value flick word found n v w t h how reported goes =
     let b = (with_pending s pending v).own in
-    let begun = told.begun in
-    let is : middle ≡ process_at s begun = process_step s b begun process middle flick false told.begins.place t.same goes told.begins.is in
-    let next : next_of s begun.process begun.doing flick ≡ Some (ending n) = ap (λ (o : OwnView). next_of s o.process o.doing flick) told.begins.is
+    let begun = reported.begun in
+    let is : middle ≡ process_at s begun = process_step s b begun process middle flick false reported.begins.place t.same goes reported.begins.is in
+    let next : next_of s begun.process begun.doing flick ≡ Some (ending n) = ap (λ (o : OwnView). next_of s o.process o.doing flick) reported.begins.is
     ∙ reads_on s b.process b.doing flick false n t.unended (next_own s pending process value v t flick word n h) how in
     record {
       same = is;
-      unended = unended_then s b begun flick false told.begins.place told.begins.is;
+      unended = unended_then s b begun flick false reported.begins.place reported.begins.is;
       next = next;
       goes = ap (λ (q : ProcessState). may_step q.doing) is ∙ may_go s begun.process begun.doing flick (ending n) next;
     }
@@ -124,39 +124,39 @@ begins s pending process middle value flick word found n v w t h how told goes =
 -- the tie after a load
 pub tied_loaded : (s : Setup) (pending : Pending) (process middle new : ProcessState) (value flick : Bool) (word found : ℕ) (n : Access) (v w : ViewState) → IsTied s pending process value v → IsNext s process flick word n → n.how ≡ BeginRead →
     Loads s flick (with_pending s pending v) found w → middle ≡ stepped process flick false → new ≡ stepped middle flick (loaded flick found) → IsTied s nothing new value w
-tied_loaded s pending process middle new value flick word found n v w t h how told goes on =
-    let begun = told.begun in
-    let k = begins s pending process middle value flick word found n v w t h how told goes in
+tied_loaded s pending process middle new value flick word found n v w t h how reported goes on =
+    let begun = reported.begun in
+    let k = begins s pending process middle value flick word found n v w t h how reported goes in
     let x = loaded flick found in
     record {
-      live = ap (λ (u : ViewState). u.spent) told.goes.same ∙ t.live;
+      live = ap (λ (u : ViewState). u.spent) reported.goes.same ∙ t.live;
       may = tt;
-      same = process_step s begun w.own middle new flick x told.ends.place k.same on told.ends.is;
-      unended = unended_then s begun w.own flick x told.ends.place told.ends.is;
-      between = subst (IsBetween s value) (sym told.ends.is) (λ fl z i. let f = step_follows s begun.process begun.doing flick x (ending n) k.unended k.next fl z i in
+      same = process_step s begun w.own middle new flick x reported.ends.place k.same on reported.ends.is;
+      unended = unended_then s begun w.own flick x reported.ends.place reported.ends.is;
+      between = subst (IsBetween s value) (sym reported.ends.is) (λ fl z i. let f = step_follows s begun.process begun.doing flick x (ending n) k.unended k.next fl z i in
           ((λ e. let f0 : EndRead false ≡ BeginWrite _ = f.0 e in cc), λ u e. let f1 : EndRead false ≡ BeginRead = f.1 u e in cc));
     }
 
 -- The outcome of a word step.
 
-pub leads_stored : (s : Setup) (pending : Pending) (process : ProcessState) (value flick : Bool) (word : ℕ) (n : Access) (v w : ViewState) (told : StepTold) → IsTied s pending process value v → IsNext s process flick word n → Stores s flick (with_pending s pending v) w →
-    marks_told told ≡ marks_on process flick false → LeadsTo s told (with_pending s pending v).own w.own
-leads_stored s pending process value flick word n v w told t h stored_ marks =
+pub leads_stored : (s : Setup) (pending : Pending) (process : ProcessState) (value flick : Bool) (word : ℕ) (n : Access) (v w : ViewState) (reported : StepOutcome) → IsTied s pending process value v → IsNext s process flick word n → Stores s flick (with_pending s pending v) w →
+    marks_reported reported ≡ marks_on process flick false → LeadsTo s reported (with_pending s pending v).own w.own
+leads_stored s pending process value flick word n v w reported t h stored_ marks =
     let b = (with_pending s pending v).own in
-    let is : marks_told told ≡ marks_on (process_at s b) flick false = marks ∙ ap (λ q. marks_on q flick false) t.same in
-    leads s told b b w.own stored_.makes.place (next_goes s b.process b.doing flick n t.unended (next_own s pending process value v t flick word n h))
+    let is : marks_reported reported ≡ marks_on (process_at s b) flick false = marks ∙ ap (λ q. marks_on q flick false) t.same in
+    leads s reported b b w.own stored_.makes.place (next_goes s b.process b.doing flick n t.unended (next_own s pending process value v t flick word n h))
     (stored_.makes.stage ∙ ap (fold stage_after (stage_in s b)) (sym is)) refl
     (ap (λ (o : OwnView). o.calls) stored_.makes.is ∙ ap (fold (calls_after stored_.makes.place) b.calls) (sym is))
 
-pub leads_loaded : (s : Setup) (pending : Pending) (process middle : ProcessState) (value flick : Bool) (word found : ℕ) (n : Access) (v w : ViewState) (told : StepTold) → IsTied s pending process value v → IsNext s process flick word n → n.how ≡ BeginRead →
-    Loads s flick (with_pending s pending v) found w → middle ≡ stepped process flick false → marks_told told ≡ marks_on middle flick (loaded flick found) → LeadsTo s told (with_pending s pending v).own w.own
-leads_loaded s pending process middle value flick word found n v w told t h how loaded_ goes marks =
+pub leads_loaded : (s : Setup) (pending : Pending) (process middle : ProcessState) (value flick : Bool) (word found : ℕ) (n : Access) (v w : ViewState) (reported : StepOutcome) → IsTied s pending process value v → IsNext s process flick word n → n.how ≡ BeginRead →
+    Loads s flick (with_pending s pending v) found w → middle ≡ stepped process flick false → marks_reported reported ≡ marks_on middle flick (loaded flick found) → LeadsTo s reported (with_pending s pending v).own w.own
+leads_loaded s pending process middle value flick word found n v w reported t h how loaded_ goes marks =
     let b = (with_pending s pending v).own in
     let x = loaded flick found in
     let begun = loaded_.begun in
     let k = begins s pending process middle value flick word found n v w t h how loaded_ goes in
-    let is : marks_told told ≡ marks_on (process_at s begun) flick x = marks ∙ ap (λ q. marks_on q flick x) k.same in
-    leads s told b begun w.own loaded_.ends.place (next_goes s begun.process begun.doing flick (ending n) k.unended k.next)
+    let is : marks_reported reported ≡ marks_on (process_at s begun) flick x = marks ∙ ap (λ q. marks_on q flick x) k.same in
+    leads s reported b begun w.own loaded_.ends.place (next_goes s begun.process begun.doing flick (ending n) k.unended k.next)
     (loaded_.ends.stage ∙ ap (fold stage_after (stage_in s begun)) (sym is))
     (ap (λ (o : OwnView). o.calls) loaded_.begins.is ∙ begin_calls s b.process b.doing flick false n loaded_.begins.place b.calls (next_own s pending process value v t flick word n h) how)
     (ap (λ (o : OwnView). o.calls) loaded_.ends.is ∙ ap (fold (calls_after loaded_.ends.place) begun.calls) (sym is))

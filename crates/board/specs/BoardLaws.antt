@@ -19,8 +19,8 @@ use Rattle.board.specs.Views.{MayAllHappen, ViewState, refusal_in, stage_in, wit
 use Rattle.board.specs.Words.{access_to, copy_of, word_of_copy, words_in}
 
 -- Each single-reader bit has a word, and the bit can be found from that word: no two bits have one word.
-abbrev pub WordsTellTheirBits : Type 0
-WordsTellTheirBits = (s : Setup) (c : BitCopy) → IsThere s (access_to c) → (word_of_copy s c < words_in s) × (copy_of s (word_of_copy s c) ≡ c)
+abbrev pub WordsReportTheirBits : Type 0
+WordsReportTheirBits = (s : Setup) (c : BitCopy) → IsThere s (access_to c) → (word_of_copy s c < words_in s) × (copy_of s (word_of_copy s c) ≡ c)
 
 -- Each word is the word of a bit that exists.
 abbrev pub WordsAreOfBits : Type 0
@@ -52,12 +52,12 @@ abbrev pub AllChangesMakeTheStore : Type 0
 AllChangesMakeTheStore = (s : Setup) (past : Past) → store_after s (changes_of s past) ≡ store_after s (history s past)
 
 -- The finished calls of each process are consistent with the list of changes, and so are these calls followed by the unfinished one.
-abbrev pub CallsStandInTheChanges : Type 0
-CallsStandInTheChanges = EachPastGiven λ s past. (p : ℕ) → let calls = calls_of s p past in StandsIn s p calls.done (changes_of s past) × StandsIn s p (and_then calls.done calls.now) (changes_of s past)
+abbrev pub CallsAreInTheChanges : Type 0
+CallsAreInTheChanges = EachPastGiven λ s past. (p : ℕ) → let calls = calls_of s p past in StandsIn s p calls.done (changes_of s past) × StandsIn s p (and_then calls.done calls.now) (changes_of s past)
 
 -- Calls that are consistent with a list of changes are consistent with each longer one.
-abbrev pub StandsInLonger : Type 0
-StandsInLonger = (s : Setup) (p : ℕ) (calls : List Placed) (first all : List Taken) → IsPrefix first all → StandsIn s p calls first → StandsIn s p calls all
+abbrev pub IsInLonger : Type 0
+IsInLonger = (s : Setup) (p : ℕ) (calls : List Placed) (first all : List Taken) → IsPrefix first all → StandsIn s p calls first → StandsIn s p calls all
 
 -- A process reads what it wrote: if its write of a name changed the store, then its read of that name at the next position returns the value.
 abbrev pub OwnWritesAreRead : Type 0

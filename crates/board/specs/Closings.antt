@@ -153,11 +153,11 @@ abbrev pub FirstLeaves : Setup → List PortState → Contents → Type 0
 FirstLeaves s ports image = (k : ℕ) (port : PortState) → slice_get ports k ≡ Some port → port.view.own.process ≡ 0 → Leaves s port.view.own.calls port.view.seen image
 
 -- the calls of process p are consistent with the changes of the record of some events
-pub record StandsInRecord (s : Setup) (p : ℕ) (calls : List Placed) : Type 0 where
+pub record AreInRecord (s : Setup) (p : ℕ) (calls : List Placed) : Type 0 where
   pub events : List Event
   pub given : AreGiven s events
   pub stands : StandsIn s p calls (changes_of s (past_of s events))
 
 -- each of these lists is consistent with the changes of such a record, list p as that of process p
-abbrev pub EachStandsInRecord : Setup → List (List Placed) → Type 0
-EachStandsInRecord s lists = (p : ℕ) (calls : List Placed) → slice_get lists p ≡ Some calls → StandsInRecord s p calls
+abbrev pub EachIsInRecord : Setup → List (List Placed) → Type 0
+EachIsInRecord s lists = (p : ℕ) (calls : List Placed) → slice_get lists p ≡ Some calls → AreInRecord s p calls

@@ -3,7 +3,7 @@ use Rattle.std.specs.Prelude.{◌≡◌, ℕ, zero, suc, ◌≤◌, true}
 use Rattle.plain_store.specs.{Answer, Setup}
 use Rattle.process.specs.choices.{FlickState, after_flick, flick_of}
 use Rattle.model.specs.declared.stages.Stage.TheVariants.{Down, Idle}
-use Rattle.process.specs.declared.told.StepTold.TheVariants as told
+use Rattle.process.specs.declared.outcomes.StepOutcome.TheVariants as reported
 use Rattle.board.specs.declared.driving.Driven.{Driven}
 use Rattle.board.specs.declared.driving.Driven.TheVariants as driven
 use Rattle.board.specs.Ports.{PortState}
@@ -23,7 +23,7 @@ Walks s flicks v (suc n) w = (u : ViewState) × Walks s flicks v n u × (goes s 
 -- w is such a view, and the last word step leads to this answer
 abbrev pub WalksTo : Setup → FlickState → ViewState → ℕ → Answer → ViewState → Type 0
 WalksTo s flicks v zero answer w = ⊥
-WalksTo s flicks v (suc n) answer w = (u : ViewState) × Walks s flicks v n u × (goes s u.own ≡ true) × WordStep s (flick_of (flicks_after n flicks)) u w × LeadsTo s (told.Answers answer) u.own w.own
+WalksTo s flicks v (suc n) answer w = (u : ViewState) × Walks s flicks v n u × (goes s u.own ≡ true) × WordStep s (flick_of (flicks_after n flicks)) u w × LeadsTo s (reported.Answers answer) u.own w.own
 
 -- how n word steps, of at most `turns`, end: after all turns the process has a next access; or the last step answered the call; or the process is down; or the process was idle, and no step was made
 abbrev pub EndsWith : Setup → FlickState → ViewState → (turns : ℕ) → Driven → ℕ → ViewState → Type 0

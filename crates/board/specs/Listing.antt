@@ -3,20 +3,20 @@ use Rattle.std.specs.Prelude.{◌≡◌, ℕ, Bool, true, false, length, fold, O
 use Rattle.model.specs.{Settles}
 use Rattle.laws.specs.{Doing, Closes, is_inside}
 use Rattle.history_laws.specs.{stamp_read}
-use Rattle.process.specs.{StepTold, marks_told}
-use Rattle.process.specs.declared.told.StepTold.TheVariants as told
+use Rattle.process.specs.{StepOutcome, marks_reported}
+use Rattle.process.specs.declared.outcomes.StepOutcome.TheVariants as reported
 use Rattle.board.specs.Calls.{Calls, calls_after}
 use Rattle.board.specs.Views.{ViewState}
 
 -- this is the position of the command that is taken, if one is; `stamp` is the stamp kept for a memory unit
-abbrev pub IsPlace : StepTold → (stamp : Option ℕ) → ℕ → Type 0
-IsPlace (told.Took reply changes) stamp place = changes ≡ place
-IsPlace (told.SettlesAndTakes value reply) stamp place = stamp ≡ Some place
+abbrev pub IsPlace : StepOutcome → (stamp : Option ℕ) → ℕ → Type 0
+IsPlace (reported.Took reply changes) stamp place = changes ≡ place
+IsPlace (reported.SettlesAndTakes value reply) stamp place = stamp ≡ Some place
 IsPlace _ stamp place = Unit {0}
 
 -- the calls after a word step with this outcome, for every position that the taken command may have
-abbrev pub GoOnBy : StepTold → (stamp : Option ℕ) → Calls → Calls → Type 0
-GoOnBy told stamp calls then = (place : ℕ) → IsPlace told stamp place → then ≡ fold (calls_after place) calls (marks_told told)
+abbrev pub GoOnBy : StepOutcome → (stamp : Option ℕ) → Calls → Calls → Type 0
+GoOnBy reported stamp calls then = (place : ℕ) → IsPlace reported stamp place → then ≡ fold (calls_after place) calls (marks_reported reported)
 
 -- a memory unit may take the command
 abbrev pub may_take : Doing → Bool
@@ -30,8 +30,8 @@ pub record KnowsPlace (stamp : Option ℕ) (v : ViewState) : Type 0 where
   pub kept : may_take v.own.doing ≡ true → stamp ≡ Some (length v.seen)
 
 -- the calls that a view knows, after a word step with this outcome
-pub record Lists (stamp : Option ℕ) (told : StepTold) (v w : ViewState) : Type 0 where
+pub record Lists (stamp : Option ℕ) (reported : StepOutcome) (v w : ViewState) : Type 0 where
   pub place : ℕ
-  pub is : IsPlace told stamp place
-  pub calls : w.own.calls ≡ fold (calls_after place) v.own.calls (marks_told told)
+  pub is : IsPlace reported stamp place
+  pub calls : w.own.calls ≡ fold (calls_after place) v.own.calls (marks_reported reported)
   pub known : KnowsPlace stamp w

@@ -48,10 +48,10 @@ pub record AreFirstChanges (s : Setup) (list : List Taken) : Type 0 where
   pub first : IsPrefix list (changes_of s (past_of s events))
 
 -- The calls of process p are consistent with these changes, which are the first changes of a record.
-pub record StandsInFirst (s : Setup) (p : ℕ) (calls : List Placed) (list : List Taken) : Type 0 where
+pub record AreInFirst (s : Setup) (p : ℕ) (calls : List Placed) (list : List Taken) : Type 0 where
   pub stands : StandsIn s p calls list
   pub seen : AreFirstChanges s list
 
 -- The calls that a view knows are consistent with the changes that it has seen.
-abbrev pub StandsInSeen : Setup → ViewState → Type 0
-StandsInSeen s v = StandsInFirst s v.own.process (and_then v.own.calls.done v.own.calls.now) v.seen
+abbrev pub AreInSeen : Setup → ViewState → Type 0
+AreInSeen s v = AreInFirst s v.own.process (and_then v.own.calls.done v.own.calls.now) v.seen

@@ -7,7 +7,7 @@ use Rattle.model.specs.safe_bit.declared.Move.TheVariants.{BeginRead}
 use Rattle.model.specs.{Access}
 use Rattle.model.specs.reader_copies.{IsWrite}
 use Rattle.plain_store.specs.{Setup}
-use Rattle.process.specs.{ProcessState, StepTold}
+use Rattle.process.specs.{ProcessState, StepOutcome}
 use Rattle.board.specs.Agreement.{Agree}
 use Rattle.board.specs.declared.pending.Pending.{Pending}
 use Rattle.board.specs.Listing.{KnowsPlace, Lists}
@@ -66,9 +66,9 @@ abbrev pub SeatSteps : Setup → Pending → Bool → PortSeat → PortSeat → 
 SeatSteps s pending flick seat then = WordStep s flick (with_pending s pending seat.me.0) then.me.0
 
 -- that word step has this outcome
-abbrev pub SeatLeads : Setup → Pending → StepTold → PortSeat → PortSeat → Type 0
-SeatLeads s pending told seat then = LeadsTo s told (with_pending s pending seat.me.0).own then.me.0.own
+abbrev pub SeatLeads : Setup → Pending → StepOutcome → PortSeat → PortSeat → Type 0
+SeatLeads s pending reported seat then = LeadsTo s reported (with_pending s pending seat.me.0).own then.me.0.own
 
 -- that word step has this effect on the calls that the view knows, for every stamp that was kept
-abbrev pub SeatLists : Setup → Pending → StepTold → PortSeat → PortSeat → Type 0
-SeatLists s pending told seat then = (stamp : Option ℕ) → KnowsPlace stamp (with_pending s pending seat.me.0) → Lists stamp told (with_pending s pending seat.me.0) then.me.0
+abbrev pub SeatLists : Setup → Pending → StepOutcome → PortSeat → PortSeat → Type 0
+SeatLists s pending reported seat then = (stamp : Option ℕ) → KnowsPlace stamp (with_pending s pending seat.me.0) → Lists stamp reported (with_pending s pending seat.me.0) then.me.0

@@ -9,10 +9,10 @@ use Rattle.model.specs.declared.marks.Mark.TheVariants.{Answered, Down}
 use Rattle.model.specs.declared.stages.Stage.TheVariants as stage
 use Rattle.laws.specs.{IsCallOf, IsLive, IsReached, being_written, is_inside, marks_with, next_of}
 use Rattle.history_laws.specs.{stamp_read}
-use Rattle.process.specs.{StepTold}
-use Rattle.process.specs.declared.told.StepTold.TheVariants as told
+use Rattle.process.specs.{StepOutcome}
+use Rattle.process.specs.declared.outcomes.StepOutcome.TheVariants as reported
 use Rattle.board.specs.Calls.{IsPrefix, calls_after}
-use Rattle.board.specs.Lists.{StandsInSeen}
+use Rattle.board.specs.Lists.{AreInSeen}
 use Rattle.board.specs.Views.{OwnView, ViewState, stage_in, with_step}
 use Rattle.board.specs.Words.{loaded}
 
@@ -36,7 +36,7 @@ pub record GoesOn (s : Setup) (v w : ViewState) : Type 0 where
   pub at : IsWhere s w.own
   pub seen : IsPrefix v.seen w.seen
   pub stamped : (stamp : ℕ) → stamp_read w.own.doing ≡ Some stamp → length w.seen ≡ stamp
-  pub stands : StandsInSeen s w
+  pub stands : AreInSeen s w
 
 -- a load that found this word: the begin and the end of a read, which returns the loaded value
 pub record Loads (s : Setup) (flick : Bool) (v : ViewState) (word : ℕ) (w : ViewState) : Type 0 where
@@ -73,9 +73,9 @@ abbrev pub goes : Setup → OwnView → Bool
 goes s o = goes_at (stage_in s o)
 
 -- the outcome of a word step: the call is answered, or the process is down, or there is a next access
-abbrev pub LeadsTo : Setup → StepTold → OwnView → OwnView → Type 0
-LeadsTo s (told.Answers answer) o then = (stage_in s then ≡ stage.Idle) × (then.calls ≡ calls_after 0 o.calls (Answered answer))
-LeadsTo s told.Lies o then = (stage_in s then ≡ stage.Down) × (then.calls ≡ calls_after 0 o.calls Down)
+abbrev pub LeadsTo : Setup → StepOutcome → OwnView → OwnView → Type 0
+LeadsTo s (reported.Answers answer) o then = (stage_in s then ≡ stage.Idle) × (then.calls ≡ calls_after 0 o.calls (Answered answer))
+LeadsTo s reported.Lies o then = (stage_in s then ≡ stage.Down) × (then.calls ≡ calls_after 0 o.calls Down)
 LeadsTo s _ o then = goes s then ≡ true
 
 -- no read is open, and an open write is of this value

@@ -7,7 +7,7 @@ ghost use Rattle.plain_store.specs.{checked};
 use crate::layout::WordLayout;
 use crate::opening::opening_words;
 use crate::port::Port;
-use crate::rule::{Agreement, Newcomer, View};
+use crate::rule::{Agreement, SeatSplit, View};
 use crate::steps::WordSeat;
 use atomic_table::Table;
 use plain_store::Setup;
@@ -87,7 +87,7 @@ impl Board {
         ensures first { IsSeated self.now.table_id (with_made first.old.me.0) first.new }
         ensures seat { IsSeated self.now.table_id (new_view first.old.me.0.made 0) result }
     {
-        self.table.shared.split_seat::<Newcomer>(first)
+        self.table.shared.split_seat::<SeatSplit>(first)
     }
 }
 

@@ -5,7 +5,7 @@ ghost use Rattle.board.specs.Calls.{calls_after, finished, no_calls, with_answer
 ghost use Rattle.board.specs.Listing.{GoOnBy};
 
 use plain_store::{Answer, Command, NestedTypes};
-use process::StepTold;
+use process::StepOutcome;
 use model::Placed;
 use std::alloc::{AllocError, Global};
 use std::marker::Model;
@@ -70,17 +70,17 @@ impl CallList {
 
     /// Records the outcome of a word step. `stamp` is the position of a command that a memory unit takes.
     #[inline]
-    pub fn tell(&mut self, told: &StepTold, stamp: Option<u32>)
-        ensures { GoOnBy told.now stamp self.old self.new }
+    pub fn report(&mut self, reported: &StepOutcome, stamp: Option<u32>)
+        ensures { GoOnBy reported.now stamp self.old self.new }
     {
-        match *told {
-            StepTold::Took { changes, .. } => self.take(Some(changes)),
-            StepTold::SettlesAndTakes(..) => self.take(stamp),
-            StepTold::Answers(answer) => {
+        match *reported {
+            StepOutcome::Took { changes, .. } => self.take(Some(changes)),
+            StepOutcome::SettlesAndTakes(..) => self.take(stamp),
+            StepOutcome::Answers(answer) => {
                 self.answer(answer);
                 self.finish();
             }
-            StepTold::Lies => self.finish(),
+            StepOutcome::Lies => self.finish(),
             _ => {}
         }
     }

@@ -1,12 +1,12 @@
 //! Closing a board.
 ghost use Rattle.std.specs.Prelude.{◌≡◌, ◌≤◌, ◌+◌, ◌<◌, ◌↔◌, ◌∷◌, IsOk, IfOk, IfErr, IsTrue, false, length, vec_capacity, vec_len};
-ghost use Rattle.board.specs.Closings.{AddsCallsOf, AreFirstPortsOf, AreListsOf, AreMadeWith, AreOthers, AreQuiet, CanClose, EachStandsInRecord, FirstLeaves, HasJoined, HeadLeaves, IsStill, Leaves, StandsInRecord, done_calls, lists_in};
+ghost use Rattle.board.specs.Closings.{AddsCallsOf, AreFirstPortsOf, AreListsOf, AreMadeWith, AreOthers, AreQuiet, CanClose, EachIsInRecord, FirstLeaves, HasJoined, HeadLeaves, IsStill, Leaves, AreInRecord, done_calls, lists_in};
 ghost use Rattle.model.specs.{lists_of};
 
 use crate::board::Board;
 use crate::order::{are_of_all, put_in_order};
 use crate::port::Port;
-use crate::rule::Return;
+use crate::rule::SeatJoin;
 use crate::shown_image::image_shown;
 use crate::steps::{SharedWords, WordSeat};
 use model::Placed;
@@ -38,7 +38,7 @@ impl Board {
         ensures quiet { IsOk result ↔ CanClose self.setup ports.items }
         ensures leaves { IfOk result (λ closing. FirstLeaves self.setup ports.items closing.image) }
         ensures answers { IfOk result (λ closing. AreListsOf ports.items (lists_in closing)) }
-        ensures stand { IfOk result (λ closing. EachStandsInRecord self.setup (lists_in closing)) }
+        ensures stand { IfOk result (λ closing. EachIsInRecord self.setup (lists_in closing)) }
         ensures board { IfErr result (λ back. back.board ≡ self) }
         ensures back { IfErr result (λ back. back.ports.items ≡ ports.items) }
     {
@@ -57,7 +57,7 @@ impl Board {
         requires quiet { AreQuiet ports.items }
         ensures leaves { HeadLeaves self.setup ports.items result.image }
         ensures answers { lists_in result ≡ done_calls ports.items }
-        ensures stand { EachStandsInRecord self.setup (lists_in result) }
+        ensures stand { EachIsInRecord self.setup (lists_in result) }
     {
         let (first, calls) = ports.remove(0).into_parts();
         self.shut(first, calls, ports)
@@ -72,10 +72,10 @@ impl Board {
         requires others { AreOthers self.table_id self.setup 1 others.items }
         requires quiet { AreQuiet others.items }
         requires all { vec_len others + 1 ≡ self.setup.processes }
-        requires calls { StandsInRecord self.setup 0 calls.items }
+        requires calls { AreInRecord self.setup 0 calls.items }
         ensures leaves { Leaves self.setup first.me.0.own.calls first.me.0.seen result.image }
         ensures answers { lists_in result ≡ calls.items ∷ done_calls others.items }
-        ensures stand { EachStandsInRecord self.setup (lists_in result) }
+        ensures stand { EachIsInRecord self.setup (lists_in result) }
     {
         let Board {
             table,
@@ -117,16 +117,16 @@ fn join_all(
     requires order { AreOthers words.now.table_id words.now.key (vec_len answers.old) others.items }
     requires quiet { AreQuiet others.items }
     requires answers { vec_len answers.old ≡ 1 }
-    requires stand { EachStandsInRecord words.now.key (lists_of answers.old.items) }
+    requires stand { EachIsInRecord words.now.key (lists_of answers.old.items) }
     requires room { vec_len answers.old + vec_len others ≤ vec_capacity answers.old }
     ensures seat { (first.new.table_id ≡ first.old.table_id) × (first.new.id ≡ first.old.id) }
     ensures joined { HasJoined (vec_len others) first.old.me.0 first.new.me.0 }
     ensures answers { AddsCallsOf others.items answers.old.items answers.new.items }
-    ensures stand { EachStandsInRecord words.now.key (lists_of answers.new.items) }
+    ensures stand { EachIsInRecord words.now.key (lists_of answers.new.items) }
 {
     while !others.is_empty() {
         let (seat, calls) = others.remove(0).into_parts();
-        words.join_seat::<Return>(first, seat);
+        words.join_seat::<SeatJoin>(first, seat);
         answers.push_reserved(calls);
     }
 }

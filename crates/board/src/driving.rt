@@ -5,7 +5,7 @@ ghost use Rattle.board.specs.Ports.{SamePort};
 use crate::board::Board;
 use crate::port::Port;
 use plain_store::Answer;
-use process::{Flicks, StepTold};
+use process::{Flicks, StepOutcome};
 use model::Stage;
 
 /// The result of driving a port.
@@ -39,8 +39,8 @@ impl Port {
         for made in 0..turns {
             let flick = flicks.flick();
             match self.turn(board, flick) {
-                StepTold::Answers(answer) => return Driven::Answered(answer),
-                StepTold::Lies => return Driven::Down,
+                StepOutcome::Answers(answer) => return Driven::Answered(answer),
+                StepOutcome::Lies => return Driven::Down,
                 _ => {}
             }
         }

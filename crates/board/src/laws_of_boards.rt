@@ -1,15 +1,15 @@
 //! The laws of boards, for every setup that passes the check.
-ghost use Rattle.board.specs.BoardLaws.{AllChangesMakeTheStore, BoardsKeepTheHeadline, CallsStandInTheChanges, ChangesMakeTheStore, OwnWritesAreRead, RefusalsAreTheRecords, StagesAreTheRecords, SeenStaysSeen, StandsInLonger, WordsAreOfBits, WordsTellTheirBits};
+ghost use Rattle.board.specs.BoardLaws.{AllChangesMakeTheStore, BoardsKeepTheHeadline, CallsAreInTheChanges, ChangesMakeTheStore, OwnWritesAreRead, RefusalsAreTheRecords, StagesAreTheRecords, SeenStaysSeen, IsInLonger, WordsAreOfBits, WordsReportTheirBits};
 
 /// Each single-reader bit has a word of its own, from which it can be found, and each word is of an existing bit.
 pub fn words_are_of_single_bits()
-    ensures bits { WordsTellTheirBits }
+    ensures bits { WordsReportTheirBits }
     ensures words { WordsAreOfBits }
 {}
 
 /// The stage of a view and its refusals are those of its process in each record on which words and views agree, followed
 /// by the later events of the process. So a port refuses exactly as a world does.
-pub fn views_tell_the_record()
+pub fn views_report_the_record()
     ensures stages { StagesAreTheRecords }
     ensures refusals { RefusalsAreTheRecords }
 {}
@@ -26,11 +26,11 @@ pub fn boards_keep_the_headline()
 /// process and number, and is the change there if it is one; positions never fall, and after a change they are above its
 /// own. Such calls are consistent with each longer list. So a process reads what it wrote at the next position. A port
 /// that is driven forgets no change that it has seen.
-pub fn calls_stand_in_one_list()
+pub fn calls_are_in_one_list()
     ensures store { ChangesMakeTheStore }
     ensures whole_store { AllChangesMakeTheStore }
-    ensures calls { CallsStandInTheChanges }
-    ensures longer { StandsInLonger }
+    ensures calls { CallsAreInTheChanges }
+    ensures longer { IsInLonger }
     ensures own_writes { OwnWritesAreRead }
     ensures seen { SeenStaysSeen }
 {}

@@ -4,9 +4,9 @@ ghost use Rattle.plain_store.specs.{are_pairs};
 ghost use Rattle.process.specs.{process_after};
 ghost use Rattle.model.specs.declared.Event.TheVariants.{Fail, Restart, Withdraw};
 ghost use Rattle.board.specs.Boards.{IsOf};
-ghost use Rattle.board.specs.Closings.{IsSeatOf, IsStill, StandsInRecord};
+ghost use Rattle.board.specs.Closings.{IsSeatOf, IsStill, AreInRecord};
 ghost use Rattle.board.specs.Lists.{AreFirstChanges};
-ghost use Rattle.board.specs.Ports.{IsBegun, SamePort, StandInSeen, answer_to, call_of, port_after};
+ghost use Rattle.board.specs.Ports.{IsBegun, SamePort, CallsAreInSeen, answer_to, call_of, port_after};
 ghost use Rattle.board.specs.Seats.{port_at};
 ghost use Rattle.board.specs.Views.{new_view, stage_in};
 ghost use Rattle.board.specs.WordSteps.{LeadsTo, WordStep, goes};
@@ -16,7 +16,7 @@ use crate::calls::CallList;
 use crate::pending::Pending;
 use crate::steps::{WordSeat, word_step};
 use plain_store::Command;
-use process::{Process, StepTold};
+use process::{Process, StepOutcome};
 use model::{Event, Placed, Refusal, Stage};
 use std::alloc::Global;
 use std::marker::Model;
@@ -78,7 +78,7 @@ impl Port {
         ensures holds { result.0.me.1 ≡ [] }
         ensures seat { IsSeatOf self result.0.me.0 }
         ensures calls { result.1.items ≡ self.view.own.calls.done }
-        ensures stands { StandsInRecord self.setup self.view.own.process result.1.items }
+        ensures stands { AreInRecord self.setup self.view.own.process result.1.items }
     {
         let Port { seat, calls, .. } = self;
         (seat, calls.into_done())
@@ -102,7 +102,7 @@ impl Port {
     /// changes of some record.
     pub fn answers(&self) -> &[Placed]
         ensures list { result.now ≡ self.now.view.own.calls.done }
-        ensures stands { StandInSeen self.now result.now }
+        ensures stands { CallsAreInSeen self.now result.now }
         ensures seen { AreFirstChanges self.now.setup self.now.view.seen }
     {
         self.calls.done()
@@ -110,14 +110,14 @@ impl Port {
 
     /// Makes one word step.
     #[inline]
-    pub(crate) fn turn(&mut self, board: &Board, flick: bool) -> StepTold
+    pub(crate) fn turn(&mut self, board: &Board, flick: bool) -> StepOutcome
         requires board { IsOf board.now self.old }
         requires goes { goes self.old.setup self.old.view.own ≡ true }
         ensures same { SamePort self.old self.new }
         ensures step { WordStep self.old.setup flick self.old.view self.new.view }
         ensures leads { LeadsTo self.old.setup result self.old.view.own self.new.view.own }
     {
-        let told = word_step(
+        let reported = word_step(
             &board.table.shared,
             &board.setup,
             &board.layout,
@@ -128,8 +128,8 @@ impl Port {
             flick,
         );
         self.pending.clear();
-        self.calls.tell(&told, self.stamp);
-        told
+        self.calls.report(&reported, self.stamp);
+        reported
     }
 
     /// Returns the refusal of an event of its process, as a world would refuse it.

@@ -82,9 +82,9 @@ impl<T: Turn> Play<(), View> for WordStore<T> {
 }
 
 /// The split that makes the next port's seat from port 0's.
-pub struct Newcomer;
+pub struct SeatSplit;
 
-impl Split<View> for Newcomer {
+impl Split<View> for SeatSplit {
     ghost use Rattle.board.specs.Views.{new_view, with_made};
 
     ghost left = { with_made };
@@ -93,9 +93,9 @@ impl Split<View> for Newcomer {
 }
 
 /// The join of a port's seat to port 0's.
-pub struct Return;
+pub struct SeatJoin;
 
-impl Join<View> for Return {
+impl Join<View> for SeatJoin {
     ghost use Rattle.board.specs.Views.{spent_view, with_joined};
 
     ghost both = { with_joined };

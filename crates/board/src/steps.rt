@@ -2,7 +2,7 @@
 ghost use Rattle.std.specs.Prelude.{◌≡◌, ◌<◌, Bool, true};
 ghost use Rattle.model.specs.reader_copies.{IsWrite};
 ghost use Rattle.process.specs.{may_step};
-ghost use Rattle.board.specs.Lists.{StandsInSeen};
+ghost use Rattle.board.specs.Lists.{AreInSeen};
 ghost use Rattle.board.specs.Pending.{nothing};
 ghost use Rattle.board.specs.Ports.{IsTied};
 ghost use Rattle.board.specs.Seats.{MayLoad, MayStore, ReadsNext, SameSeat, SeatLeads, SeatLists, SeatSteps, StaysTied, WriteTies, WritesNext};
@@ -14,7 +14,7 @@ use crate::pending::Pending;
 use crate::rule::{Agreement, Load, Turn, View, WordStore};
 use atomic_table::{Seat, Shared};
 use plain_store::Setup;
-use process::{BitCopy, Process, StepTold};
+use process::{BitCopy, Process, StepOutcome};
 use model::Move;
 use std::marker::Brand;
 
@@ -36,7 +36,7 @@ fn load<T: Turn>(
     requires place { (seat.old.table_id ≡ words.now.table_id) × (word < words.now.table_id.words) }
     requires keeps { MayLoad words.now.key words.now.table_id seat.old word T.setup T.flick T.view }
     ensures same { SameSeat seat.old seat.new }
-    ensures told { Loads T.setup T.flick T.view result seat.new.me.0 }
+    ensures reported { Loads T.setup T.flick T.view result seat.new.me.0 }
 {
     words.load::<Load<T>>(seat, word)
 }
@@ -55,7 +55,7 @@ fn store<T: Turn>(
     requires keeps { MayStore words.now.key words.now.table_id seat.old word new
         T.setup T.flick T.view }
     ensures same { SameSeat seat.old seat.new }
-    ensures told { Stores T.setup T.flick T.view seat.new.me.0 }
+    ensures reported { Stores T.setup T.flick T.view seat.new.me.0 }
 {
     words.store::<WordStore<T>>(seat, word, new);
 }
@@ -70,12 +70,12 @@ fn loaded(flick: bool, word: u64) -> bool
 
 /// Returns its argument. Most outcomes are `Nothing`, and then no room for an answer is copied.
 #[inline]
-fn briefly(told: StepTold) -> StepTold
-    ensures { result ≡ told }
+fn briefly(reported: StepOutcome) -> StepOutcome
+    ensures { result ≡ reported }
 {
-    match told {
-        StepTold::Nothing => StepTold::Nothing,
-        told => told,
+    match reported {
+        StepOutcome::Nothing => StepOutcome::Nothing,
+        reported => reported,
     }
 }
 
@@ -88,7 +88,7 @@ fn read(
     word: usize,
     pending: Pending,
     flick: bool,
-) -> StepTold
+) -> StepOutcome
     requires place { (seat.old.table_id ≡ words.now.table_id) × (word < words.now.table_id.words) }
     requires tied { (value : Bool) × IsTied words.now.key pending process.old value seat.old.me.0 }
     requires next { ReadsNext words.now.key process.old flick word }
@@ -98,7 +98,7 @@ fn read(
     ensures step { SeatSteps words.now.key pending flick seat.old seat.new }
     ensures leads { SeatLeads words.now.key pending result seat.old seat.new }
     ensures lists { SeatLists words.now.key pending result seat.old seat.new }
-    ensures stands { StandsInSeen words.now.key seat.new.me.0 }
+    ensures stands { AreInSeen words.now.key seat.new.me.0 }
 {
     let found = load::<Brand>(words, seat, word, flick, pending);
     let _begun = process.advance(flick, false);
@@ -115,7 +115,7 @@ fn write(
     new: u64,
     pending: Pending,
     flick: bool,
-) -> StepTold
+) -> StepOutcome
     requires place { (seat.old.table_id ≡ words.now.table_id) × (word < words.now.table_id.words) }
     requires next { WritesNext words.now.key pending process.old seat.old flick word new }
     requires goes { may_step process.old.doing ≡ true }
@@ -124,7 +124,7 @@ fn write(
     ensures step { SeatSteps words.now.key pending flick seat.old seat.new }
     ensures leads { SeatLeads words.now.key pending result seat.old seat.new }
     ensures lists { SeatLists words.now.key pending result seat.old seat.new }
-    ensures stands { StandsInSeen words.now.key seat.new.me.0 }
+    ensures stands { AreInSeen words.now.key seat.new.me.0 }
 {
     store::<Brand>(words, seat, word, new, flick, pending);
     briefly(process.advance(flick, false))
@@ -159,7 +159,7 @@ pub(crate) fn word_step(
     pending: Pending,
     value: &mut bool,
     flick: bool,
-) -> StepTold
+) -> StepOutcome
     requires laid { layout.now ≡ layout_of setup.now }
     requires table { seat.old.table_id ≡ words.now.table_id }
     requires size { words.now.table_id.words ≡ words_in setup.now }
@@ -171,7 +171,7 @@ pub(crate) fn word_step(
     ensures step { SeatSteps words.now.key pending flick seat.old seat.new }
     ensures leads { SeatLeads words.now.key pending result seat.old seat.new }
     ensures lists { SeatLists words.now.key pending result seat.old seat.new }
-    ensures stands { StandsInSeen words.now.key seat.new.me.0 }
+    ensures stands { AreInSeen words.now.key seat.new.me.0 }
 {
     let access = process.next(flick);
     let word = layout.word_of(setup, BitCopy::of(&access));

@@ -6,12 +6,12 @@ use std::fmt;
 /// A process, and the value that [`drive`](board::Port::drive) of its port returned. The text is `drive`, the process, and `answered`
 /// with the answer, `turns`, `down` or `idle`.
 #[derive(Clone, Copy)]
-pub struct Drive {
+pub struct DriveResult {
     pub process: u8,
     pub driven: Driven,
 }
 
-impl fmt::Display for Drive {
+impl fmt::Display for DriveResult {
     fn fmt<W: fmt::Write>(&self, f: &mut fmt::Formatter<W>) -> fmt::Result {
         let _nested: NestedTypes = None;
         write!(f, "drive {}: ", self.process)?;

@@ -3,13 +3,13 @@
 #![tactic(auto)]
 
 mod drives;
-mod left;
+mod board_result;
 mod lines;
 mod running;
 
 pub use board::{Board, Closing, Driven, NotQuiet, Port};
-pub use drives::Drive;
-pub use left::Left;
+pub use drives::DriveResult;
+pub use board_result::BoardResult;
 pub use lines::begin;
 pub use model::Placed;
 pub use running::{Work, played, run, take_turns};

@@ -3,8 +3,8 @@ ghost use Rattle.std.specs.Prelude.{◌≡◌, Ok, IfOk};
 ghost use Rattle.board.specs.{AreFirstPortsOf, ArePortsOf, IsOf, SamePort};
 ghost use Rattle.plain_store.specs.{checked};
 
-use crate::drives::Drive;
-use crate::left::Left;
+use crate::drives::DriveResult;
+use crate::board_result::BoardResult;
 use crate::lines::{carry_out, process_of, set_flicks};
 use board::{Board, Driven, Port};
 use choices::Flicks;
@@ -41,14 +41,14 @@ pub fn played<'a, R: Threads + AllocGlobal + Sync>(
     rt: &R,
     scenario: &'a Scenario,
     by_turns: usize,
-) -> Result<Option<Left<'a>>, AllocError> {
+) -> Result<Option<BoardResult<'a>>, AllocError> {
     let (board, mut ports) = made(rt.alloc(), &scenario.setup)?;
     let lines = scenario.lines.as_slice();
     let (first, others) = lines.split_at(by_turns.min(lines.len()));
     let drives = take_turns(rt.alloc(), &board, &mut ports, first)?;
     run_lines(rt, &board, &mut ports, others);
     match board.close(ports) {
-        Ok(closing) => Ok(Some(Left {
+        Ok(closing) => Ok(Some(BoardResult {
             setup: &scenario.setup,
             drives,
             closing,
@@ -88,7 +88,7 @@ pub fn take_turns(
     board: &Board,
     ports: &mut Vec<Port>,
     lines: &[Line],
-) -> Result<Vec<Drive>, AllocError>
+) -> Result<Vec<DriveResult>, AllocError>
     requires { AreFirstPortsOf board.now ports.old.items }
     ensures { AreFirstPortsOf board.now ports.new.items }
 {
@@ -106,7 +106,7 @@ pub fn take_turns(
                 &mut flicks,
             )
         {
-            drives.push(Drive { process, driven })?;
+            drives.push(DriveResult { process, driven })?;
         }
     }
     Ok(drives)

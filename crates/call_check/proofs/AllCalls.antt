@@ -9,7 +9,7 @@ use Rattle.std.specs.List.{slice_get}
 use Rattle.plain_store.specs.{Setup}
 use Rattle.call_check.specs.{AreFew, ArePart, Call, IsFew, all_calls, all_calls_from, calls_from}
 use Rattle.model.specs.{Placed, lists_of}
-use Rattle.call_check.proofs.Followed.{from_some, none_some}
+use Rattle.call_check.proofs.CallNotes.{from_some, none_some}
 use Rattle.call_check.proofs.Places.{get_back, get_front}
 
 -- one call more, and one list more

@@ -11,7 +11,7 @@ use Rattle.plain_store.specs.{Contents, Setup, checked}
 use Rattle.plain_store.proofs.GoodSetups.{few-processes, good-checked}
 use Rattle.model.specs.{Placed, lists_of}
 use Rattle.call_check.specs.{AreFew, IsBadAt, IsBadIn, IsFollowed, IsLowestBad, IsVerdict, IsWeighed, NoneIsBad, Note, Weighed, all_calls}
-use Rattle.call_check.proofs.Followed.{from_some}
+use Rattle.call_check.proofs.CallNotes.{from_some}
 use Rattle.call_check.proofs.AllCalls.{all_few}
 
 -- few calls

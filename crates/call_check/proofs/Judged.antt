@@ -11,7 +11,7 @@ use Rattle.std.specs.Prelude.{nat_le, nat_lt}
 use Rattle.plain_store.specs.{Contents, Setup}
 use Rattle.call_check.specs.{ArePart, Call, HasWrongReply, IsBad, IsBadIn, IsFollowed, IsJudged, IsLeast, IsNote, Note, above, falling, falls, is_above, is_one_of_several, is_other_with_place, is_past, is_reply_without_place, several, with_place, without_place, wrong_reply}
 use Rattle.model.specs.{Placed}
-use Rattle.call_check.proofs.Followed.{from_some}
+use Rattle.call_check.proofs.CallNotes.{from_some}
 
 -- if no other condition holds, a call is bad exactly if it has another answer and a place
 pub bad_at_last : (s : Setup) (calls : List Call) (c : ℕ) (store : Contents) (earlier : List Placed) (call : Call) (result : Bool) → is_above c call.placed.place ≡ false → is_one_of_several calls c store call.placed ≡ false → falls s calls earlier call.placed.place ≡ false → (HasWrongReply s calls call → ⊥) → is_reply_without_place call.placed ≡ false → result ≡ is_other_with_place call.placed →

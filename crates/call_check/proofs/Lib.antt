@@ -1,6 +1,6 @@
 -- The steps of weigh
 pub mod Callers
-pub mod Followed
+pub mod CallNotes
 pub mod Places
 pub mod AllCalls
 pub mod Linking

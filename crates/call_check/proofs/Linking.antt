@@ -3,8 +3,8 @@ use Rattle.std.proofs.Common.{◌≡◌, ◌≢◌, ℕ, zero, suc, ◌+◌, ◌
 use Rattle.std.proofs.lemmas.Bool.{cases_lt}
 use Rattle.std.proofs.lemmas.Option.{slice_get_within}
 use Rattle.std.specs.List.{slice_get}
-use Rattle.call_check.specs.{AreChains, AreNothing, Call, IsLast, IsLink, Link}
-use Rattle.call_check.proofs.Followed.{from_some, none_some}
+use Rattle.call_check.specs.{AreChains, AreNothing, Call, IsLast, IsLink, PositionLink}
+use Rattle.call_check.proofs.CallNotes.{from_some, none_some}
 use Rattle.call_check.proofs.Places.{get_push_new, get_push_old, get_set_other, get_set_same, same_or_not}
 
 -- the last call with a place, where a call comes
@@ -46,7 +46,7 @@ last_new calls x k is_there =
 
 -- a call that comes
 
-link_kept : (calls : List Call) (x : Call) (n i : ℕ) (call : Call) (link : Link) → i ≤ length calls → IsLink calls n i call link → IsLink (calls ++ x ∷ []) n i call link
+link_kept : (calls : List Call) (x : Call) (n i : ℕ) (call : Call) (link : PositionLink) → i ≤ length calls → IsLink calls n i call link → IsLink (calls ++ x ∷ []) n i call link
 link_kept calls x n i call link within is = record {
   port = is.port;
   index = is.index;
@@ -54,7 +54,7 @@ link_kept calls x n i call link within is = record {
   earlier = λ k l there. last_kept calls x k i link.earlier within (is.earlier k l there);
 }
 
-chains_more : (calls : List Call) (n : ℕ) (heads heads2 : List ℕ) (links links2 : List Link) (x : Call) (link : Link) → AreChains calls n heads links → links2 ≡ links ++ link ∷ [] → IsLink (calls ++ x ∷ []) n (length calls) x link → length heads2 ≡ length heads → ((k m : ℕ) → slice_get heads2 k ≡ Some m → IsLast (calls ++ x ∷ []) k (length (calls ++ x ∷ [])) m) → AreChains (calls ++ x ∷ []) n heads2 links2
+chains_more : (calls : List Call) (n : ℕ) (heads heads2 : List ℕ) (links links2 : List PositionLink) (x : Call) (link : PositionLink) → AreChains calls n heads links → links2 ≡ links ++ link ∷ [] → IsLink (calls ++ x ∷ []) n (length calls) x link → length heads2 ≡ length heads → ((k m : ℕ) → slice_get heads2 k ≡ Some m → IsLast (calls ++ x ∷ []) k (length (calls ++ x ∷ [])) m) → AreChains (calls ++ x ∷ []) n heads2 links2
 chains_more calls n heads heads2 links links2 x link chains more new places head =
     let all : length (calls ++ x ∷ []) ≡ length calls + 1 = length-append calls (x ∷ []) in
     let both : length (links ++ link ∷ []) ≡ length links + 1 = length-append links (link ∷ []) in
@@ -67,20 +67,20 @@ chains_more calls n heads heads2 links links2 x link chains more new places head
       link = λ i call there. ⊎_elim
           (λ (old : i < length calls).
           let (found, found_there, is) = chains.link i call (sym (get_push_old calls x i old) ∙ there) in
-          (found, ap (λ (l : List Link). slice_get l i) more ∙ get_push_old links link i (omega (arith, old, size)) ∙ found_there, link_kept calls x n i call found (omega (arith, old)) is))
+          (found, ap (λ (l : List PositionLink). slice_get l i) more ∙ get_push_old links link i (omega (arith, old, size)) ∙ found_there, link_kept calls x n i call found (omega (arith, old)) is))
           (λ (past : length calls ≤ i).
           let within : i < length (calls ++ x ∷ []) = slice_get_within (calls ++ x ∷ []) i call there in
           let here : length calls ≡ i = omega (arith, past, within, all) in
           let at : length links ≡ i = omega (arith, here, size) in (
             link,
-            ap (λ (l : List Link). slice_get l i) more ∙ subst (λ m. slice_get (links ++ link ∷ []) m ≡ Some link) at (get_push_new links link),
+            ap (λ (l : List PositionLink). slice_get l i) more ∙ subst (λ m. slice_get (links ++ link ∷ []) m ≡ Some link) at (get_push_new links link),
             subst (λ m. IsLink (calls ++ x ∷ []) n m call link) here (subst (λ (y : Call). IsLink (calls ++ x ∷ []) n (length calls) y link) (came calls x i call here there) new),
           ))
           (cases_lt i (length calls));
     }
 
 -- one more call, which has no chain
-pub chain_without : (calls : List Call) (n : ℕ) (heads : List ℕ) (links links2 : List Link) (x : Call) (link : Link) → AreChains calls n heads links → links2 ≡ links ++ link ∷ [] → link.port ≡ x.port → link.index ≡ x.index → link.earlier ≡ 0 → ((k : ℕ) → k < n → x.placed.place ≢ Some k) → AreChains (calls ++ x ∷ []) n heads links2
+pub chain_without : (calls : List Call) (n : ℕ) (heads : List ℕ) (links links2 : List PositionLink) (x : Call) (link : PositionLink) → AreChains calls n heads links → links2 ≡ links ++ link ∷ [] → link.port ≡ x.port → link.index ≡ x.index → link.earlier ≡ 0 → ((k : ℕ) → k < n → x.placed.place ≢ Some k) → AreChains (calls ++ x ∷ []) n heads links2
 chain_without calls n heads links links2 x link chains more port index none elsewhere = chains_more calls n heads heads links links2 x link chains more
     (record { port = port; index = index; before = omega (arith, none); earlier = λ k l there. absurd (elsewhere k l there) })
     refl
@@ -93,7 +93,7 @@ some_same : (a b : ℕ) (o : Option ℕ) → o ≡ Some a → o ≡ Some b → a
 some_same a b o is_a is_b = from_some a b (sym is_a ∙ is_b)
 
 -- one more call, in the chain of its place
-pub chain_with : (calls : List Call) (n : ℕ) (heads heads2 : List ℕ) (links links2 : List Link) (x : Call) (link : Link) (k : ℕ) → AreChains calls n heads links → links2 ≡ links ++ link ∷ [] → link.port ≡ x.port → link.index ≡ x.index → x.placed.place ≡ Some k → slice_get heads k ≡ Some link.earlier → heads2 ≡ set heads k (length links2) → AreChains (calls ++ x ∷ []) n heads2 links2
+pub chain_with : (calls : List Call) (n : ℕ) (heads heads2 : List ℕ) (links links2 : List PositionLink) (x : Call) (link : PositionLink) (k : ℕ) → AreChains calls n heads links → links2 ≡ links ++ link ∷ [] → link.port ≡ x.port → link.index ≡ x.index → x.placed.place ≡ Some k → slice_get heads k ≡ Some link.earlier → heads2 ≡ set heads k (length links2) → AreChains (calls ++ x ∷ []) n heads2 links2
 chain_with calls n heads heads2 links links2 x link k chains more port index placed earlier heads2_is =
     let last : IsLast calls k (length calls) link.earlier = chains.head k link.earlier earlier in
     let within : k < length heads = slice_get_within heads k link.earlier earlier in

@@ -6,20 +6,20 @@ use Rattle.std.proofs.lemmas.List.Elements.{All-filter, All-head, All-same}
 use Rattle.std.proofs.lemmas.Option.{slice_get-get_or, slice_get_within}
 use Rattle.std.specs.List.{slice_get}
 use Rattle.plain_store.specs.{Caller, Contents, Setup, after, changes, reply_to}
-use Rattle.call_check.specs.{AreBlank, AreFew, AreNotedAt, AreNotedBelow, Call, Changers, HasWrongReply, IsBlank, IsCaller, IsFew, IsFollowed, IsNote, IsNoteBy, Note, after_one, caller_of, calls_at, changes_at, changes_of, changes_there, is_place, store_after, store_at}
-use Rattle.call_check.specs.declared.notes.Changers.TheVariants.{Nothing, One, Several}
-use Rattle.call_check.proofs.Followed.{callers_of_store, from_some, none_after, none_at, none_left, none_some}
+use Rattle.call_check.specs.{AreBlank, AreFew, AreNotedAt, AreNotedBelow, Call, ChangingCalls, HasWrongReply, IsBlank, IsCaller, IsFew, IsFollowed, IsNote, IsNoteBy, Note, after_one, caller_of, calls_at, changes_at, changes_of, changes_there, is_place, store_after, store_at}
+use Rattle.call_check.specs.declared.notes.ChangingCalls.TheVariants.{Nothing, One, Several}
+use Rattle.call_check.proofs.CallNotes.{callers_of_store, from_some, none_after, none_at, none_remaining, none_some}
 use Rattle.call_check.proofs.Places.{same_or_not}
 use Rattle.call_check.proofs.Walking.{is_there}
 
 -- the number of changes, up to two
 
-abbrev pub kind : Changers → ℕ
+abbrev pub kind : ChangingCalls → ℕ
 kind Nothing = 0
 kind (One call) = 1
 kind Several = 2
 
-abbrev pub call_or : Call → Changers → Call
+abbrev pub call_or : Call → ChangingCalls → Call
 call_or d Nothing = d
 call_or d (One call) = call
 call_or d Several = d
@@ -165,7 +165,7 @@ pub ended_after_all : (s : Setup) (calls : List Call) (notes : List Note) (c : �
 ended_after_all s calls notes c store several all last below several_is =
     let last_all : store_at s calls (length calls) ≡ Some store = subst (λ n. store_at s calls n ≡ Some store) all last in
     let none_there : length (calls_at calls c) ≡ 0 = subst (λ n. length (calls_at calls n) ≡ 0) (sym all) (none_at s calls store last_all) in
-    let none : length (changes_at calls c store) ≡ 0 = subst (λ n. length (changes_at calls n store) ≡ 0) (sym all) (none_left s calls store last_all) in
+    let none : length (changes_at calls c store) ≡ 0 = subst (λ n. length (changes_at calls n store) ≡ 0) (sym all) (none_remaining s calls store last_all) in
     ended_at_nothing s calls notes c store several last (noted_through s calls c notes none_there below) several_is (nil_of (changes_at calls c store) none)
 
 -- one store more

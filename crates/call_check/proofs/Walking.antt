@@ -6,10 +6,10 @@ use Rattle.std.proofs.lemmas.Option.{get_or_from_slice_get, slice_get_read, slic
 use Rattle.std.specs.Global.{Vec}
 use Rattle.std.specs.List.{slice_get}
 use Rattle.plain_store.specs.{Contents, Setup, changes}
-use Rattle.call_check.specs.{AreChains, AreFew, AreNotedAt, AreNotedFrom, Call, IsFew, IsLast, IsLink, IsNoteBy, IsOf, Link, Note, all_calls, calls_at, is_place}
+use Rattle.call_check.specs.{AreChains, AreFew, AreNotedAt, AreNotedFrom, Call, IsFew, IsLast, IsLink, IsNoteBy, IsOf, PositionLink, Note, all_calls, calls_at, is_place}
 use Rattle.model.specs.{Placed, lists_of}
 use Rattle.call_check.proofs.AllCalls.{IsThere, there_in}
-use Rattle.call_check.proofs.Followed.{from_some, none_some}
+use Rattle.call_check.proofs.CallNotes.{from_some, none_some}
 use Rattle.call_check.proofs.Places.{get_set_other, get_set_same, same_or_not}
 
 -- tests of a place
@@ -88,7 +88,7 @@ member [] j within = absurd (omega (arith, within))
 member (x ∷ xs) zero within = (x, refl)
 member (x ∷ xs) (suc j) within = member xs j (omega (arith, within))
 
-pub linked : (vecs : List (Vec Placed)) (n : ℕ) (heads : List ℕ) (links : List Link) (j : ℕ) (link : Link) → AreChains (all_calls (lists_of vecs)) n heads links → j < length (all_calls (lists_of vecs)) → link ≡ get_or links j link → (call : Call) × (slice_get (all_calls (lists_of vecs)) j ≡ Some call) × IsOf vecs call link × IsLink (all_calls (lists_of vecs)) n j call link
+pub linked : (vecs : List (Vec Placed)) (n : ℕ) (heads : List ℕ) (links : List PositionLink) (j : ℕ) (link : PositionLink) → AreChains (all_calls (lists_of vecs)) n heads links → j < length (all_calls (lists_of vecs)) → link ≡ get_or links j link → (call : Call) × (slice_get (all_calls (lists_of vecs)) j ≡ Some call) × IsOf vecs call link × IsLink (all_calls (lists_of vecs)) n j call link
 linked vecs n heads links j link chains within at =
     let calls : List Call = all_calls (lists_of vecs) in
     let size : length links ≡ length calls = chains.size in
@@ -96,7 +96,7 @@ linked vecs n heads links j link chains within at =
     let (own, own_there, own_is) = chains.link j call there in
     let link_there : slice_get links j ≡ Some link = slice_get_read links (length links) j link refl (omega (arith, within, size)) at in
     let same_link : own ≡ link = from_some own link (sym own_there ∙ link_there) in
-    let is : IsLink calls n j call link = subst (λ (l : Link). IsLink calls n j call l) same_link own_is in
+    let is : IsLink calls n j call link = subst (λ (l : PositionLink). IsLink calls n j call l) same_link own_is in
     let found : IsThere 0 vecs call = there_in 0 j vecs call there in
     let port : call.port ≡ found.q = (let e : call.port ≡ 0 + found.q = found.port in omega (arith, e)) in (
       call,

@@ -6,11 +6,11 @@ use Rattle.plain_store.specs.declared.Answer.TheVariants as answer
 use Rattle.plain_store.specs.{Caller, Command, Contents, Reply, Setup, after, callers_of, changes, reply_to}
 use Rattle.call_check.specs.declared.calls.Call.{Call}
 use Rattle.model.specs.{Placed, lists_of}
-use Rattle.call_check.specs.declared.chains.Chains.{Chains}
-use Rattle.call_check.specs.declared.chains.Link.{Link}
-use Rattle.call_check.specs.declared.notes.Changers.{Changers}
-use Rattle.call_check.specs.declared.notes.Changers.TheVariants.{Nothing, One, Several}
-use Rattle.call_check.specs.declared.notes.Followed.{Followed}
+use Rattle.call_check.specs.declared.chains.PositionChains.{PositionChains}
+use Rattle.call_check.specs.declared.chains.PositionLink.{PositionLink}
+use Rattle.call_check.specs.declared.notes.ChangingCalls.{ChangingCalls}
+use Rattle.call_check.specs.declared.notes.ChangingCalls.TheVariants.{Nothing, One, Several}
+use Rattle.call_check.specs.declared.notes.CallNotes.{CallNotes}
 use Rattle.call_check.specs.declared.notes.Note.{Note}
 use Rattle.call_check.specs.Weighing.{HasWrongReply, IsBad, IsBadIn, all_calls, caller_of, calls_from, changes_at, changes_there, falls, is_one_of_several, is_past, store_at}
 
@@ -36,13 +36,13 @@ pub record IsCaller (s : Setup) (call : Call) (caller : Caller) : Type 0 where
   pub after : (store : Contents) → KnowsCallers s store → (command : Command) → after store command caller ≡ after store command (caller_of s call)
 
 -- which changes there are
-abbrev pub changes_of : List Call → Changers
+abbrev pub changes_of : List Call → ChangingCalls
 changes_of [] = Nothing
 changes_of (call ∷ []) = One call
 changes_of (call ∷ other ∷ calls) = Several
 
 -- one call more: it counts, if it is a change
-abbrev pub Counts : Changers → Call → Bool → Changers → Type 0
+abbrev pub Counts : ChangingCalls → Call → Bool → ChangingCalls → Type 0
 Counts changers call is_change then = (calls : List Call) → changers ≡ changes_of calls → then ≡ changes_of (cond is_change (call ∷ calls) calls)
 
 -- Chains of calls.
@@ -54,30 +54,30 @@ pub record IsLast (calls : List Call) (k bound m : ℕ) : Type 0 where
   pub none_later : (j : ℕ) (call : Call) → m ≤ j → j < bound → slice_get calls j ≡ Some call → call.placed.place ≢ Some k
 
 -- this link is that of call i; if the place of call i is one of the first n, the link leads to the last call before it with an equal place
-pub record IsLink (calls : List Call) (n i : ℕ) (call : Call) (link : Link) : Type 0 where
+pub record IsLink (calls : List Call) (n i : ℕ) (call : Call) (link : PositionLink) : Type 0 where
   pub port : link.port ≡ call.port
   pub index : link.index ≡ call.index
   pub before : link.earlier ≤ i
   pub earlier : (k : ℕ) → k < n → call.placed.place ≡ Some k → IsLast calls k i link.earlier
 
 -- the links are those of the calls, and the heads lead to the last calls with the first n places
-pub record AreChains (calls : List Call) (n : ℕ) (heads : List ℕ) (links : List Link) : Type 0 where
+pub record AreChains (calls : List Call) (n : ℕ) (heads : List ℕ) (links : List PositionLink) : Type 0 where
   pub places : length heads ≡ n
   pub size : length links ≡ length calls
   pub head : (k m : ℕ) → slice_get heads k ≡ Some m → IsLast calls k (length calls) m
-  pub link : (i : ℕ) (call : Call) → slice_get calls i ≡ Some call → (link : Link) × (slice_get links i ≡ Some link) × IsLink calls n i call link
+  pub link : (i : ℕ) (call : Call) → slice_get calls i ≡ Some call → (link : PositionLink) × (slice_get links i ≡ Some link) × IsLink calls n i call link
 
 -- the chains of all calls of these lists, which may have as many places
-abbrev pub AreChainsOf : List (Vec Placed) → Chains → Type 0
+abbrev pub AreChainsOf : List (Vec Placed) → PositionChains → Type 0
 AreChainsOf vecs chains = AreChains (calls_in vecs) (length (calls_in vecs)) chains.heads.items chains.links.items
 
 -- a call of this port, index and place is put to the chains
-abbrev pub Puts : ℕ → ℕ → Option ℕ → (heads : Vec ℕ) → (links : Vec Link) → Vec ℕ → Vec Link → Type 0
+abbrev pub Puts : ℕ → ℕ → Option ℕ → (heads : Vec ℕ) → (links : Vec PositionLink) → Vec ℕ → Vec PositionLink → Type 0
 Puts port index place heads links heads_then links_then =
     (calls : List Call) (n : ℕ) (call : Call) → call.port ≡ port → call.index ≡ index → call.placed.place ≡ place → AreChains calls n heads.items links.items → AreChains (calls ++ call ∷ []) n heads_then.items links_then.items
 
 -- the calls of a list are put to the chains
-abbrev pub PutsList : ℕ → List Placed → (heads : Vec ℕ) → (links : Vec Link) → Vec ℕ → Vec Link → Type 0
+abbrev pub PutsList : ℕ → List Placed → (heads : Vec ℕ) → (links : Vec PositionLink) → Vec ℕ → Vec PositionLink → Type 0
 PutsList port list heads links heads_then links_then =
     (calls : List Call) (n : ℕ) → AreChains calls n heads.items links.items → AreChains (calls ++ calls_from port 0 list) n heads_then.items links_then.items
 
@@ -86,7 +86,7 @@ abbrev pub AreNothing : List ℕ → Type 0
 AreNothing heads = (k m : ℕ) → slice_get heads k ≡ Some m → m ≡ 0
 
 -- the link is that of this call, which is in the lists
-pub record IsOf (vecs : List (Vec Placed)) (call : Call) (link : Link) : Type 0 where
+pub record IsOf (vecs : List (Vec Placed)) (call : Call) (link : PositionLink) : Type 0 where
   pub list : Vec Placed
   pub list_there : slice_get vecs call.port ≡ Some list
   pub there : slice_get list.items call.index ≡ Some call.placed
@@ -102,12 +102,12 @@ pub record IsWrongBy (s : Setup) (store : Contents) (call : Call) : Type 0 where
   pub wrong : reply ≢ reply_to store call.placed.command (caller_of s call)
 
 -- the result is whether the reply of a call of few differs from the reply of this store, which has the setup's callers
-abbrev pub TellsWrong : Setup → Contents → Call → Bool → Type 0
-TellsWrong s store call told = IsFew s call → KnowsCallers s store → IsTrue told ↔ IsWrongBy s store call
+abbrev pub ReportsWrong : Setup → Contents → Call → Bool → Type 0
+ReportsWrong s store call reported = IsFew s call → KnowsCallers s store → IsTrue reported ↔ IsWrongBy s store call
 
 -- the result is whether this is the store's reply
-abbrev pub TellsReply : Setup → Contents → Call → Reply → Bool → Type 0
-TellsReply s store call reply told = IsFew s call → KnowsCallers s store → IsTrue told ↔ (reply ≡ reply_to store call.placed.command (caller_of s call))
+abbrev pub ReportsReply : Setup → Contents → Call → Reply → Bool → Type 0
+ReportsReply s store call reply reported = IsFew s call → KnowsCallers s store → IsTrue reported ↔ (reply ≡ reply_to store call.placed.command (caller_of s call))
 
 -- the note of a call by this store
 pub record IsNoteBy (s : Setup) (store : Contents) (call : Call) (note : Note) : Type 0 where
@@ -157,18 +157,18 @@ pub record IsFollowed (s : Setup) (calls : List Call) (notes : List Note) (c : �
   pub size : length notes ≡ length calls
   pub each : (i : ℕ) (call : Call) → slice_get calls i ≡ Some call → (note : Note) × (slice_get notes i ≡ Some note) × IsNote s calls call note
 
--- the notes of all calls, as `Followed` stores them
-abbrev pub Follows : Setup → List Call → Followed → Type 0
+-- the notes of all calls, as `CallNotes` stores them
+abbrev pub Follows : Setup → List Call → CallNotes → Type 0
 Follows s calls found = IsFollowed s calls found.notes.items found.count found.store found.several
 
 -- if the calls are few
-abbrev pub FollowsIfFew : Setup → List Call → Followed → Type 0
+abbrev pub FollowsIfFew : Setup → List Call → CallNotes → Type 0
 FollowsIfFew s calls found = AreFew s calls → Follows s calls found
 
 -- the result is whether the call of this place and this note is one of several changes of the last store
-abbrev pub TellsSeveral : Followed → Option ℕ → Note → Bool → Type 0
-TellsSeveral found place note told =
-    (s : Setup) (calls : List Call) (call : Call) → call.placed.place ≡ place → Follows s calls found → IsNote s calls call note → told ≡ is_one_of_several calls found.count found.store call.placed
+abbrev pub ReportsSeveral : CallNotes → Option ℕ → Note → Bool → Type 0
+ReportsSeveral found place note reported =
+    (s : Setup) (calls : List Call) (call : Call) → call.placed.place ≡ place → Follows s calls found → IsNote s calls call note → reported ≡ is_one_of_several calls found.count found.store call.placed
 
 -- Lists that are judged.
 
@@ -191,19 +191,19 @@ pub record IsJudged (s : Setup) (calls : List Call) (c : ℕ) (store : Contents)
   pub good : (j : ℕ) → j < i → IsBadIn s calls c store p list j → ⊥
 
 -- the answer is the lowest bad call of this list, which has the calls from call `before` on
-abbrev pub FindsFirstBad : Followed → ℕ → List Placed → Option ℕ → Type 0
-FindsFirstBad found before list told =
-    (s : Setup) (calls : List Call) (p : ℕ) → ArePart calls p before list → Follows s calls found → IsFirstBad s calls found.count found.store p list told
+abbrev pub FindsFirstBad : CallNotes → ℕ → List Placed → Option ℕ → Type 0
+FindsFirstBad found before list reported =
+    (s : Setup) (calls : List Call) (p : ℕ) → ArePart calls p before list → Follows s calls found → IsFirstBad s calls found.count found.store p list reported
 
 -- the result is whether a call is bad, by its note and the least place
-abbrev pub TellsBad : Followed → Placed → Note → ℕ → Bool → Type 0
-TellsBad found placed note least told =
+abbrev pub ReportsBad : CallNotes → Placed → Note → ℕ → Bool → Type 0
+ReportsBad found placed note least reported =
     (s : Setup) (calls : List Call) (earlier : List Placed) (call : Call) → call.placed ≡ placed → Follows s calls found → IsNote s calls call note → IsLeast s calls earlier least →
-    IsTrue told ↔ IsBad s calls found.count found.store earlier call
+    IsTrue reported ↔ IsBad s calls found.count found.store earlier call
 
 -- the result is whether the place of a call falls
-abbrev pub TellsFall : ℕ → Option ℕ → Bool → Type 0
-TellsFall least place told = (s : Setup) (calls : List Call) (earlier : List Placed) → IsLeast s calls earlier least → told ≡ falls s calls earlier place
+abbrev pub ReportsFall : ℕ → Option ℕ → Bool → Type 0
+ReportsFall least place reported = (s : Setup) (calls : List Call) (earlier : List Placed) → IsLeast s calls earlier least → reported ≡ falls s calls earlier place
 
 -- the least place after a call of this place and this note
 abbrev pub LeavesLeast : Option ℕ → Note → ℕ → ℕ → Type 0

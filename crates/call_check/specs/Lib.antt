@@ -14,7 +14,7 @@ pub use SaidOverLists.{AreGood, BadEndIsSaidOverLists, ComesBefore, GoodIsSaidOv
 pub use Shown.{verdict_text}
 pub use Weighing.{AreShort, HasWrongReply, IsBad, IsBadAt, IsBadIn, IsEnd, IsLowestBad, IsVerdict, IsWeighed, NoneIsBad, above, after_one, all_calls, all_calls_from, caller_of, calls_at, calls_from, changes_at, changes_there, falling, falls, is_above, is_one_of_several, is_other_answer, is_other_with_place, is_past, is_place, is_reply, is_reply_without_place, several, store_after, store_at, with_place, without_place, wrong_reply}
 pub use declared.calls.Call.{Call}
-pub use declared.notes.Changers.{Changers}
-pub use declared.chains.Link.{Link}
+pub use declared.notes.ChangingCalls.{ChangingCalls}
+pub use declared.chains.PositionLink.{PositionLink}
 pub use declared.notes.Note.{Note}
 pub use declared.verdicts.Weighed.{Weighed}

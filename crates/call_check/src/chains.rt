@@ -8,7 +8,7 @@ use std::alloc::{AllocError, Global};
 /// A call: its list, its index there, and the number of calls up to the one before it with an equal place; 0 if there is
 /// none.
 #[derive(Clone, Copy)]
-pub(crate) struct Link {
+pub(crate) struct PositionLink {
     pub port: usize,
     pub index: usize,
     pub earlier: usize,
@@ -17,13 +17,13 @@ pub(crate) struct Link {
 /// The calls of all lists in their order, and for each place the number of calls up to the last one with it; 0 if
 /// there is none. There are as many places as calls, since there are no more changes.
 #[derive(Drop)]
-pub(crate) struct Chains {
+pub(crate) struct PositionChains {
     pub heads: Vec<usize>,
-    pub links: Vec<Link>,
+    pub links: Vec<PositionLink>,
 }
 
 /// Returns the chains of the calls of all lists.
-pub(crate) fn chain(alloc: Global, lists: &[Vec<Placed>]) -> Result<Chains, AllocError>
+pub(crate) fn chain(alloc: Global, lists: &[Vec<Placed>]) -> Result<PositionChains, AllocError>
     ensures { IfOk result (AreChainsOf lists.now) }
 {
     let mut heads = nothing(alloc, lists)?;
@@ -31,7 +31,7 @@ pub(crate) fn chain(alloc: Global, lists: &[Vec<Placed>]) -> Result<Chains, Allo
     for (port, list) in lists.iter().enumerate() {
         chain_list(&mut heads, &mut links, port, list)?;
     }
-    Ok(Chains { heads, links })
+    Ok(PositionChains { heads, links })
 }
 
 /// Returns as many places as there are calls, without calls.
@@ -60,7 +60,7 @@ fn more(heads: &mut Vec<usize>, list: &[Placed]) -> Result<(), AllocError>
 /// Chains the calls of a list after those of the lists before it.
 fn chain_list(
     heads: &mut Vec<usize>,
-    links: &mut Vec<Link>,
+    links: &mut Vec<PositionLink>,
     port: usize,
     list: &[Placed],
 ) -> Result<(), AllocError>
@@ -75,7 +75,7 @@ fn chain_list(
 /// Chains one more call.
 fn put(
     heads: &mut Vec<usize>,
-    links: &mut Vec<Link>,
+    links: &mut Vec<PositionLink>,
     port: usize,
     index: usize,
     place: Option<u32>,
@@ -84,7 +84,7 @@ fn put(
 {
     match place {
         None => {
-            links.push(Link {
+            links.push(PositionLink {
                 port,
                 index,
                 earlier: 0,
@@ -98,7 +98,7 @@ fn put(
 /// Chains one more call with this place. A place past the last one has no chain.
 fn put_at(
     heads: &mut Vec<usize>,
-    links: &mut Vec<Link>,
+    links: &mut Vec<PositionLink>,
     port: usize,
     index: usize,
     place: usize,
@@ -106,7 +106,7 @@ fn put_at(
     ensures { OnOk result (Puts port index (Some place) heads.old links.old heads.new links.new) }
 {
     if heads.len() <= place {
-        links.push(Link {
+        links.push(PositionLink {
             port,
             index,
             earlier: 0,
@@ -114,7 +114,7 @@ fn put_at(
         return Ok(());
     }
     let earlier = heads[place];
-    links.push(Link {
+    links.push(PositionLink {
         port,
         index,
         earlier,

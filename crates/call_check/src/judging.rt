@@ -1,15 +1,15 @@
 //! Bad calls, by the notes of the stores.
 ghost use Rattle.std.specs.Prelude.{◌≡◌, ◌↔◌, ◌≤◌, ◌+◌, length, IsTrue};
 ghost use Rattle.store_image.specs.{image_of};
-ghost use Rattle.call_check.specs.Following.{FindsFirstBad, LeavesLeast, TellsBad, TellsFall, TellsSeveral};
+ghost use Rattle.call_check.specs.Following.{FindsFirstBad, LeavesLeast, ReportsBad, ReportsFall, ReportsSeveral};
 ghost use Rattle.call_check.specs.Weighing.{is_above, is_other_with_place, is_reply_without_place};
 
-use crate::notes::{Followed, Note};
+use crate::notes::{CallNotes, Note};
 use plain_store::Answer;
 use model::Placed;
 use store_image::Image;
 
-impl Followed {
+impl CallNotes {
     /// Returns the lowest bad call of a list; `before` is the number of calls in the lists before it.
     pub(crate) fn first_bad(&self, before: usize, list: &[Placed]) -> Option<usize>
         requires { before + length list.now ≤ length self.now.notes.items }
@@ -28,7 +28,7 @@ impl Followed {
 
     /// Returns whether a call is bad, if `least` is the least place that the calls before it in its list allow.
     fn is_bad(&self, placed: &Placed, note: Note, least: u64) -> bool
-        ensures { TellsBad self.now placed.now note least result }
+        ensures { ReportsBad self.now placed.now note least result }
     {
         if self.is_above(placed.place) {
             return true;
@@ -60,7 +60,7 @@ impl Followed {
 
     /// Returns whether the call is one of several that would change the last store.
     fn is_one_of_several(&self, place: Option<u32>, note: Note) -> bool
-        ensures { TellsSeveral self.now place note result }
+        ensures { ReportsSeveral self.now place note result }
     {
         match place {
             None => false,
@@ -91,7 +91,7 @@ fn least_after(place: Option<u32>, note: Note, least: u64) -> u64
 
 /// Returns whether a place is below the least.
 fn is_below(place: Option<u32>, least: u64) -> bool
-    ensures { TellsFall least place result }
+    ensures { ReportsFall least place result }
 {
     match place {
         None => false,

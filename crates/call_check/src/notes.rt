@@ -2,11 +2,11 @@
 ghost use Rattle.std.specs.Prelude.{◌≡◌, ◌↔◌, ◌<◌, ◌+◌, IfOk, IsTrue, Ok, length};
 ghost use Rattle.plain_store.specs.{changes, checked};
 ghost use Rattle.call_check.specs.declared.calls.Call.{Call as Given};
-ghost use Rattle.call_check.specs.Following.{AreBlank, AreChainsOf, AreNotedBy, Counts, FollowsIfFew, IsCaller, IsFew, IsOf, TellsReply, TellsWrong, calls_in, changes_of};
+ghost use Rattle.call_check.specs.Following.{AreBlank, AreChainsOf, AreNotedBy, Counts, FollowsIfFew, IsCaller, IsFew, IsOf, ReportsReply, ReportsWrong, calls_in, changes_of};
 ghost use Rattle.call_check.specs.Weighing.{changes_at};
 
 use crate::calls::Call;
-use crate::chains::{Chains, Link, chain};
+use crate::chains::{PositionChains, PositionLink, chain};
 use plain_store::{Answer, Caller, Command, NestedTypes, Reply, Setup, Store, opened};
 use model::Placed;
 use std::alloc::{AllocError, Global};
@@ -23,7 +23,7 @@ pub(crate) struct Note {
 
 /// The end of the stores, and the notes of the calls by the stores at their places. Only one store is kept at a time.
 #[derive(Drop)]
-pub(crate) struct Followed {
+pub(crate) struct CallNotes {
     /// A note of each call, in the order of the lists. If no store is at its place, the note is blank.
     pub notes: Vec<Note>,
     /// The number of changes.
@@ -36,34 +36,34 @@ pub(crate) struct Followed {
 
 /// The calls with a place that would change a store.
 #[derive(Clone, Copy)]
-pub(crate) enum Changers {
+pub(crate) enum ChangingCalls {
     Nothing,
     One(Call),
     Several,
 }
 
-impl Changers {
+impl ChangingCalls {
     /// Returns the changers with a call before them, if it is a change.
-    fn with(self, call: &Call, is_change: bool) -> Changers
+    fn with(self, call: &Call, is_change: bool) -> ChangingCalls
         ensures { Counts self call.now is_change result }
     {
         if !is_change {
             return self;
         }
         match self {
-            Changers::Nothing => Changers::One(*call),
-            _ => Changers::Several,
+            ChangingCalls::Nothing => ChangingCalls::One(*call),
+            _ => ChangingCalls::Several,
         }
     }
 }
 
-impl Followed {
+impl CallNotes {
     /// Follows the stores over the places.
     pub(crate) fn follow(
         alloc: Global,
         setup: &Setup,
         lists: &[Vec<Placed>],
-    ) -> Result<Followed, AllocError>
+    ) -> Result<CallNotes, AllocError>
         requires { checked setup.now ≡ Ok tt }
         ensures { IfOk result (FollowsIfFew setup.now (calls_in lists.now)) }
     {
@@ -74,17 +74,17 @@ impl Followed {
         let places = chains.heads.len();
         for place in 0..places {
             match note_place(setup, lists, &chains, place, &store, &mut notes) {
-                Changers::Nothing => {
-                    return Ok(Followed {
+                ChangingCalls::Nothing => {
+                    return Ok(CallNotes {
                         notes,
                         count: place,
                         store,
                         several: false,
                     });
                 }
-                Changers::One(call) => store.apply(&call.placed.command, caller(setup, &call))?,
-                Changers::Several => {
-                    return Ok(Followed {
+                ChangingCalls::One(call) => store.apply(&call.placed.command, caller(setup, &call))?,
+                ChangingCalls::Several => {
+                    return Ok(CallNotes {
                         notes,
                         count: place,
                         store,
@@ -93,7 +93,7 @@ impl Followed {
                 }
             };
         }
-        Ok(Followed {
+        Ok(CallNotes {
             notes,
             count: places,
             store,
@@ -118,11 +118,11 @@ fn blank(alloc: Global, calls: usize) -> Result<Vec<Note>, AllocError>
 fn note_place(
     setup: &Setup,
     lists: &[Vec<Placed>],
-    chains: &Chains,
+    chains: &PositionChains,
     place: usize,
     store: &Image,
     notes: &mut Vec<Note>,
-) -> Changers
+) -> ChangingCalls
     requires chains { AreChainsOf lists.now chains.now }
     requires place { place < length (calls_in lists.now) }
     requires notes { length notes.old.items ≡ length (calls_in lists.now) }
@@ -130,7 +130,7 @@ fn note_place(
     ensures size { length notes.new.items ≡ length notes.old.items }
     ensures notes { AreNotedBy setup.now (calls_in lists.now) place store.now notes.old notes.new }
 {
-    let mut found = Changers::Nothing;
+    let mut found = ChangingCalls::Nothing;
     let mut calls = chains.heads[place];
     'chain: while 0 < calls {
         let at = calls - 1;
@@ -145,7 +145,7 @@ fn note_place(
 }
 
 /// Returns the call of a link.
-fn call_of(lists: &[Vec<Placed>], link: Link) -> Call
+fn call_of(lists: &[Vec<Placed>], link: PositionLink) -> Call
     requires { (call : Given) × IsOf lists.now call link }
     ensures { (call : Given) → IsOf lists.now call link → result ≡ call }
 {
@@ -159,7 +159,7 @@ fn call_of(lists: &[Vec<Placed>], link: Link) -> Call
 /// Returns the note of a call by a store.
 fn note_of(setup: &Setup, call: &Call, store: &Image) -> Note
     ensures changes { result.changes ≡ changes store.now call.now.placed.command }
-    ensures wrong { TellsWrong setup.now store.now call.now result.is_wrong }
+    ensures wrong { ReportsWrong setup.now store.now call.now result.is_wrong }
 {
     Note {
         changes: would_change(store, &call.placed.command),
@@ -177,7 +177,7 @@ fn would_change(store: &Image, command: &Command) -> bool
 
 /// Returns whether a call has another reply than that of a store.
 fn is_wrong(setup: &Setup, call: &Call, store: &Image) -> bool
-    ensures { TellsWrong setup.now store.now call.now result }
+    ensures { ReportsWrong setup.now store.now call.now result }
 {
     let Some(answer) = call.placed.answer else {
         return false;
@@ -190,7 +190,7 @@ fn is_wrong(setup: &Setup, call: &Call, store: &Image) -> bool
 
 /// Returns whether this is the store's reply to the call.
 fn replies(setup: &Setup, store: &Image, call: &Call, reply: &Reply) -> bool
-    ensures { TellsReply setup.now store.now call.now reply.now result }
+    ensures { ReportsReply setup.now store.now call.now reply.now result }
 {
     let mut after = *store;
     match after.apply(&call.placed.command, caller(setup, call)) {

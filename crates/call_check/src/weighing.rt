@@ -3,7 +3,7 @@ ghost use Rattle.plain_store.specs.{checked};
 ghost use Rattle.model.specs.{lists_of};
 ghost use Rattle.call_check.specs.Weighing.{AreShort, IsWeighed};
 
-use crate::notes::Followed;
+use crate::notes::CallNotes;
 use crate::verdicts::Weighed;
 use plain_store::Setup;
 use model::Placed;
@@ -24,7 +24,7 @@ pub fn weigh(
     requires few_calls { setup.now.version ≡ 2 → AreShort (lists_of lists.now) }
     ensures { IfOk result (λ weighed. IsWeighed setup.now (lists_of lists.now) image.now weighed) }
 {
-    let followed = Followed::follow(alloc, setup, lists)?;
+    let followed = CallNotes::follow(alloc, setup, lists)?;
     let mut before = 0;
     for (port, list) in lists.iter().enumerate() {
         if let Some(index) = followed.first_bad(before, list) {

@@ -11,25 +11,25 @@ use Rattle.model.specs.safe_bit.{Move}
 use Rattle.model.specs.safe_bit.declared.Move.TheVariants.{BeginWrite, EndWrite, BeginRead, EndRead, Settle}
 use Rattle.world.specs.{ends_overlapped, ends_overlapped_read}
 use Rattle.calls.specs.{begins_read_of, ends_own_overlapped, goes_on_after, is_calling, is_read, is_there, last_access, later_access, overlaps_in}
-use Rattle.judge.specs.any_lock.{Begun, Standing, access_refusal, accessed_by, begins, begun_by, ends, is_down, is_end_of, is_running, is_settling, left_open, mark_refusal, marked, marked_all, may_move, opened, reads, refusal_of_access, refusal_on, same_truth, settles, standing, stands_alone}
+use Rattle.judge.specs.any_lock.{BegunAccess, ProcessView, access_refusal, accessed_by, begins, begun_by, ends, is_down, is_end_of, is_running, is_settling, left_open, mark_refusal, marked, marked_all, may_move, opened, reads, refusal_of_access, refusal_on, same_truth, settles, process_view, stands_alone}
 use Rattle.judge.specs.any_lock.declared.refusals.AccessRefusal.TheVariants as access
 use Rattle.judge.specs.any_lock.declared.refusals.MarkRefusal.TheVariants as refusal
 use Rattle.judge.proofs.any_lock.Alone.{AllKeep, Keeps, not_not}
 use Rattle.judge.proofs.any_lock.Breaks.{none_else, none_if, process_there}
 use Rattle.judge.proofs.any_lock.Cuts.{Orderly, first_unrefused, orderly, rest_unrefused, unrefused_on}
 use Rattle.judge.proofs.any_lock.Markings.{or_false, with_marks}
-use Rattle.judge.proofs.any_lock.Steps.{standing-other}
+use Rattle.judge.proofs.any_lock.Steps.{process_view-other}
 use Rattle.judge.proofs.any_lock.Whole.{one_alone, stands_whole}
 
 -- What a process has open is its last access.
 
 -- what is left open was open
-was_open : (o : Option Begun) (m : Mark) (b : Begun) → left_open o m ≡ Some b → o ≡ Some b
+was_open : (o : Option BegunAccess) (m : Mark) (b : BegunAccess) → left_open o m ≡ Some b → o ≡ Some b
 was_open o mark.Failed b is = absurd (cc)
 was_open None mark.Withdrew b is = is
 was_open (Some x) mark.Withdrew b is = by x.access.how is
   where
-    by : (m : Move) → elim m as (λ _. Option Begun) [ BeginWrite v ↦ Some x | EndWrite ↦ None | BeginRead ↦ None | EndRead v ↦ None | Settle v ↦ None ] ≡ Some b → Some x ≡ Some b
+    by : (m : Move) → elim m as (λ _. Option BegunAccess) [ BeginWrite v ↦ Some x | EndWrite ↦ None | BeginRead ↦ None | EndRead v ↦ None | Settle v ↦ None ] ≡ Some b → Some x ≡ Some b
     by (BeginWrite v) is = is
     by EndWrite is = absurd (cc)
     by BeginRead is = absurd (cc)
@@ -37,23 +37,23 @@ was_open (Some x) mark.Withdrew b is = by x.access.how is
     by (Settle v) is = absurd (cc)
 was_open o _ b is = is
 
-were_open : (o : Option Begun) (ms : List Mark) (b : Begun) → fold left_open o ms ≡ Some b → o ≡ Some b
+were_open : (o : Option BegunAccess) (ms : List Mark) (b : BegunAccess) → fold left_open o ms ≡ Some b → o ≡ Some b
 were_open o [] b is = is
 were_open o (m ∷ ms) b is = was_open o m b (were_open (left_open o m) ms b is)
 
 -- it is the last access, which begins
-abbrev IsLast : Option Access → Begun → Type 0
+abbrev IsLast : Option Access → BegunAccess → Type 0
 IsLast o b = (o ≡ Some b.access) × (begins b.access.how ≡ true)
 
-opened_last : (p : ℕ) (past : Past) (b : Begun) → opened p past ≡ Some b → IsLast (last_access p past) b
+opened_last : (p : ℕ) (past : Past) (b : BegunAccess) → opened p past ≡ Some b → IsLast (last_access p past) b
 opened_last p [] b is = absurd (cc)
 opened_last p (e ∷ past) b is = by (e.process == p) e.access is (opened_last p past b)
   where
     n : ℕ
     n = length past
 
-    one : (a : Access) (t : Bool) → begins a.how ≡ t → cond t (Some (let x : Begun = record { entry = n; access = a } in x)) None ≡ Some b → IsLast (Some a) b
-    one a true h is = let same : (let x : Begun = record { entry = n; access = a } in x) ≡ b = cc in (ap (λ (x : Begun). Some x.access) same, ap (λ (x : Begun). begins x.access.how) (sym same) ∙ h)
+    one : (a : Access) (t : Bool) → begins a.how ≡ t → cond t (Some (let x : BegunAccess = record { entry = n; access = a } in x)) None ≡ Some b → IsLast (Some a) b
+    one a true h is = let same : (let x : BegunAccess = record { entry = n; access = a } in x) ≡ b = cc in (ap (λ (x : BegunAccess). Some x.access) same, ap (λ (x : BegunAccess). begins x.access.how) (sym same) ∙ h)
     one a false h is = absurd (cc)
 
     with : (o : Option Access) → begun_by n o (opened p past) ≡ Some b → (opened p past ≡ Some b → IsLast (last_access p past) b) → IsLast (later_access (last_access p past) o) b
@@ -86,7 +86,7 @@ ends_own p past a ends h = go (opened p past) refl h
     read_begun EndWrite b r = absurd (true≢false (sym r))
     read_begun (Settle v) b r = absurd (true≢false (sym r))
 
-    go : (o : Option Begun) → opened p past ≡ o → is_end_of o a ≡ true → begins_read_of (last_access p past) a ≡ true
+    go : (o : Option BegunAccess) → opened p past ≡ o → is_end_of o a ≡ true → begins_read_of (last_access p past) a ≡ true
     go None is h = absurd (true≢false (sym h))
     go (Some b) is h =
         let both = and_parts (same_bit b.access a) (same_truth (reads a.how) (reads b.access.how)) h in
@@ -101,9 +101,9 @@ record IsAllowed (s : Setup) (p : ℕ) (past : Past) (a : Access) : Type 0 where
   pub there : is_there s a ≡ true
   pub fits : (ends a.how && not (is_end_of (opened p past) a)) ≡ false
 
-allowed : (s : Setup) (p : ℕ) (past : Past) (a : Access) → access_refusal s p (standing s p past) a ≡ None → IsAllowed s p past a
+allowed : (s : Setup) (p : ℕ) (past : Past) (a : Access) → access_refusal s p (process_view s p past) a ≡ None → IsAllowed s p past a
 allowed s p past a none =
-    let k : Standing = standing s p past in
+    let k : ProcessView = process_view s p past in
     let one = none_else (not (nat_lt p s.processes)) access.NoProcess _ none in
     let two = none_else (not (is_there s a)) access.NoBit _ one in
     let three = none_else (not (reads a.how) && not (a.owner == p)) access.NotOwner _ two in
@@ -160,7 +160,7 @@ is_downs : (x : Stage) → is_down x ≡ true → goes x ≡ false
 is_downs stage.Down h = refl
 is_downs _ h = absurd (true≢false (sym h))
 
-call_marked : (s : Setup) (n : ℕ) (k : Standing) (m : Mark) (calling : Bool) → mark_refusal k m ≡ None → IsAtCall calling k.stage → IsAtCall (calling_after calling m) (marked s n k m).stage
+call_marked : (s : Setup) (n : ℕ) (k : ProcessView) (m : Mark) (calling : Bool) → mark_refusal k m ≡ None → IsAtCall calling k.stage → IsAtCall (calling_after calling m) (marked s n k m).stage
 call_marked s n k (mark.Called c) calling none at = λ h. refl
 call_marked s n k (mark.Waiting t) calling none at = λ h. refl
 call_marked s n k mark.Entered calling none at = λ h. refl
@@ -173,7 +173,7 @@ call_marked s n k mark.Down calling none at = λ h. absurd (true≢false (sym h)
 call_marked s n k mark.Withdrew calling none at = λ h. refl
 call_marked s n k mark.Restarted calling none at = λ h. absurd (true≢false (sym (at h) ∙ is_downs k.stage (not_not (is_down k.stage) (none_if (not (is_down k.stage)) refusal.NotDown _ none))))
 
-call_all : (s : Setup) (n : ℕ) (ms : List Mark) (k : Standing) (calling : Bool) → refusal_on s n k ms ≡ None → IsAtCall calling k.stage → IsAtCall (fold calling_after calling ms) (marked_all s n k ms).stage
+call_all : (s : Setup) (n : ℕ) (ms : List Mark) (k : ProcessView) (calling : Bool) → refusal_on s n k ms ≡ None → IsAtCall calling k.stage → IsAtCall (fold calling_after calling ms) (marked_all s n k ms).stage
 call_all s n [] k calling none at = at
 call_all s n (m ∷ ms) k calling none at = call_all s n ms (marked s n k m) (calling_after calling m) (rest_unrefused s n k m ms none) (call_marked s n k m calling (first_unrefused s n k m ms none) at)
 
@@ -227,31 +227,31 @@ calling_on p o ms past fine =
     go false none = uncalled (is_calling p past) ms none
     go true some = ap (fold calling_after (is_calling p past)) (sym (called_only o p ms fine some).2)
 
-at_accessed : (n : ℕ) (k : Standing) (o : Option Access) (calling : Bool) → IsAtCall calling k.stage → IsAtCall calling (accessed_by n k o).stage
+at_accessed : (n : ℕ) (k : ProcessView) (o : Option Access) (calling : Bool) → IsAtCall calling k.stage → IsAtCall calling (accessed_by n k o).stage
 at_accessed n k None calling at = at
 at_accessed n k (Some a) calling at = at
 
-all_at_call : (s : Setup) (past : Past) → AllKeep s past → (p : ℕ) → IsAtCall (is_calling p past) (standing s p past).stage
+all_at_call : (s : Setup) (past : Past) → AllKeep s past → (p : ℕ) → IsAtCall (is_calling p past) (process_view s p past).stage
 all_at_call s [] all p = λ h. absurd (true≢false (sym h))
 all_at_call s (e ∷ past) all p = go (cases_eq e.process p) (all_at_call s past all.1 p)
   where
     q : ℕ
     q = e.process
 
-    mine : IsAtCall (is_calling q past) (standing s q past).stage → IsAtCall (is_calling q (e ∷ past)) (standing s q (e ∷ past)).stage
+    mine : IsAtCall (is_calling q past) (process_view s q past).stage → IsAtCall (is_calling q (e ∷ past)) (process_view s q (e ∷ past)).stage
     mine before =
         let fine = orderly s past q e.access e.marks all.0.marks in
         let none = unrefused_on s past q e.access e.marks all.0.marks in
-        subst (λ (k : Standing). IsAtCall (is_calling q (e ∷ past)) k.stage) (stands_whole s q past e.access e.marks fine.apart none)
-        (subst (λ b. IsAtCall b (marked_all s (length past) (accessed_by (length past) (standing s q past) e.access) e.marks).stage) (sym (calling_on q e.access e.marks past fine))
-        (call_all s (length past) e.marks (accessed_by (length past) (standing s q past) e.access) (is_calling q past) none (at_accessed (length past) (standing s q past) e.access (is_calling q past) before)))
+        subst (λ (k : ProcessView). IsAtCall (is_calling q (e ∷ past)) k.stage) (stands_whole s q past e.access e.marks fine.apart none)
+        (subst (λ b. IsAtCall b (marked_all s (length past) (accessed_by (length past) (process_view s q past) e.access) e.marks).stage) (sym (calling_on q e.access e.marks past fine))
+        (call_all s (length past) e.marks (accessed_by (length past) (process_view s q past) e.access) (is_calling q past) none (at_accessed (length past) (process_view s q past) e.access (is_calling q past) before)))
 
-    go : (e.process ≡ p) ⊎ (e.process ≢ p) → IsAtCall (is_calling p past) (standing s p past).stage → IsAtCall (is_calling p (e ∷ past)) (standing s p (e ∷ past)).stage
-    go (inl same) before = subst (λ r. IsAtCall (is_calling r (e ∷ past)) (standing s r (e ∷ past)).stage) same (mine (subst (λ r. IsAtCall (is_calling r past) (standing s r past).stage) (sym same) before))
+    go : (e.process ≡ p) ⊎ (e.process ≢ p) → IsAtCall (is_calling p past) (process_view s p past).stage → IsAtCall (is_calling p (e ∷ past)) (process_view s p (e ∷ past)).stage
+    go (inl same) before = subst (λ r. IsAtCall (is_calling r (e ∷ past)) (process_view s r (e ∷ past)).stage) same (mine (subst (λ r. IsAtCall (is_calling r past) (process_view s r past).stage) (sym same) before))
     go (inr apart) before =
         let other = ne_eqb e.process p apart in
-        subst (λ (k : Standing). IsAtCall (is_calling p (e ∷ past)) k.stage) (sym (standing-other s p e past other))
-        (subst (λ b. IsAtCall b (standing s p past).stage) (sym (rw (other, is_calling) refl)) before)
+        subst (λ (k : ProcessView). IsAtCall (is_calling p (e ∷ past)) k.stage) (sym (process_view-other s p e past other))
+        (subst (λ b. IsAtCall b (process_view s p past).stage) (sym (rw (other, is_calling) refl)) before)
 
 rested : (x : Stage) → is_running x ≡ false → (is_settling x || is_down x) ≡ false → goes x ≡ false
 rested stage.Idle a b = refl
@@ -266,8 +266,8 @@ calls_at_rest s past e all kept some = by (is_calling e.process past) (all_at_ca
     q : ℕ
     q = e.process
 
-    k : Standing
-    k = standing s q past
+    k : ProcessView
+    k = process_view s q past
 
     only : (c : Command) × (e.access ≡ None) × (e.marks ≡ mark.Called c ∷ [])
     only = called_only e.access q e.marks (orderly s past q e.access e.marks kept.marks) some

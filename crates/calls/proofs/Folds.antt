@@ -3,7 +3,7 @@ use Rattle.std.proofs.Common.{◌≡◌, ℕ, Bool, true, false, ◌||◌, List,
 use Rattle.std.specs.List.{list_any}
 use Rattle.model.specs.{Mark, called_in, first_of, is_called, is_entered, is_failed, is_waiting}
 use Rattle.model.specs.declared.marks.Mark.TheVariants as mark
-use Rattle.calls.specs.{CallStanding, Marked, answer_after, ends_waiting, first_if, goes_on_after, is_answered, is_left, is_taken, is_withdrawal, marked_all, marked_on, place_after, ticket_after, with_mark}
+use Rattle.calls.specs.{CallState, Marked, answer_after, ends_waiting, first_if, goes_on_after, is_answered, is_left, is_taken, is_withdrawal, marked_all, marked_on, place_after, ticket_after, with_mark}
 use Rattle.calls.proofs.InCall.{first_none, if_there}
 
 -- a field of what marks make is what they make of the field
@@ -52,9 +52,9 @@ pub place-on : (n : ℕ) (k : Marked) (m : Mark) → (with_mark n k m).place ≡
 place-on n k (mark.Taken place r) = refl
 place-on n k _ = refl
 
-pub left-on : (n : ℕ) (k : Marked) (m : Mark) → (with_mark n k m).left ≡ first_if (is_left m) n k.left
-left-on n k mark.Left = refl
-left-on n k _ = refl
+pub remaining-on : (n : ℕ) (k : Marked) (m : Mark) → (with_mark n k m).remaining ≡ first_if (is_left m) n k.remaining
+remaining-on n k mark.Left = refl
+remaining-on n k _ = refl
 
 pub answered-on : (n : ℕ) (k : Marked) (m : Mark) → (with_mark n k m).answered ≡ first_if (is_answered m) n k.answered
 answered-on n k (mark.Answered a) = refl
@@ -77,10 +77,10 @@ answer-on n k (mark.Answered a) = refl
 answer-on n k _ = refl
 
 -- how marks change the whole state
-abbrev pub with_marks : ℕ → CallStanding → List Mark → CallStanding
+abbrev pub with_marks : ℕ → CallState → List Mark → CallState
 with_marks n k ms = record { calling = fold goes_on_after k.calling ms; last = record k.last { marks = fold (with_mark n) k.last.marks ms } }
 
-pub marked_all-is : (n : ℕ) (k : CallStanding) (ms : List Mark) → marked_all n k ms ≡ with_marks n k ms
+pub marked_all-is : (n : ℕ) (k : CallState) (ms : List Mark) → marked_all n k ms ≡ with_marks n k ms
 marked_all-is n k [] = refl
 marked_all-is n k (m ∷ ms) = marked_all-is n (marked_on n k m) ms
 

@@ -7,7 +7,7 @@ pub mod Folds
 pub mod InCall
 pub mod Steps
 pub mod Passing
-pub mod Heard
+pub mod Observed
 pub mod ListSteps
 pub mod KeptThere
 pub mod Unfailed

@@ -17,8 +17,8 @@ module _ (old : RecordCalls) (s : Setup) (entries : List Entry) (h : HasListedAl
 
   pub table_on : (table : TableState) (overlapped : Bool) (ended : Option Called) → Lists old.table table overlapped e ended → (e.process < s.processes → overlapped ≡ overlaps_in s past e) →
       HasListed table (e ∷ past) × (ended ≡ ended_recorded s past e)
-  table_on table overlapped ended lists told =
-      let all = lists past h.table (subst (λ (s : Setup). e.process < s.processes → overlapped ≡ overlaps_in s past e) (sym h.setup) told) in
+  table_on table overlapped ended lists reported =
+      let all = lists past h.table (subst (λ (s : Setup). e.process < s.processes → overlapped ≡ overlaps_in s past e) (sym h.setup) reported) in
       (all.0, all.1 ∙ ap (λ (s : Setup). ended_recorded s past e) h.setup)
 
   pub lines_on : (newest : ℕ) (ended : Option Called) (lines : List ℕ) → newest ≡ old.table.entries → ended ≡ ended_recorded s past e → lines ≡ old.lines.items ++ line_of newest ended → lines ≡ header ++ recorded_lines s (e ∷ past)

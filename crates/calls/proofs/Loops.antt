@@ -13,10 +13,10 @@ pub written_all : {A : Type 0} (f : A → List ℕ) (xs : List A) (i : ℕ) (who
 written_all f xs i whole before past so_far = sym (append-nil before) ∙ sym (at_drop_all (λ l. before ++ flat_map f l) xs i past) ∙ so_far
 
 -- the parts of a line, one after the other
-pub head_is : {A E : Type 0} (r : Result A E) (old headed new shown process call told command : List ℕ) → headed ≡ old ++ shown → shown ≡ process ++ (codes "," ++ (call ++ codes ",")) → OnOk r (new ≡ headed ++ told) → told ≡ command →
+pub head_is : {A E : Type 0} (r : Result A E) (old headed new shown process call reported command : List ℕ) → headed ≡ old ++ shown → shown ≡ process ++ (codes "," ++ (call ++ codes ",")) → OnOk r (new ≡ headed ++ reported) → reported ≡ command →
     OnOk r (new ≡ old ++ (process ++ codes "," ++ call ++ codes "," ++ command))
-head_is (Ok done) old headed new shown process call told command first text is same = is ∙ (λ i. (first ∙ ap (λ l. old ++ l) text) i ++ same i) ∙ simp append_assoc
-head_is (Err e) old headed new shown process call told command first text is same = tt
+head_is (Ok done) old headed new shown process call reported command first text is same = is ∙ (λ i. (first ∙ ap (λ l. old ++ l) text) i ++ same i) ∙ simp append_assoc
+head_is (Err e) old headed new shown process call reported command first text is same = tt
 
 pub line_is : (old headed numbered answered new head numbers answer : List ℕ) → headed ≡ old ++ head → numbered ≡ headed ++ numbers → answered ≡ numbered ++ (codes "," ++ answer) → new ≡ answered ++ codes "\n" →
     new ≡ old ++ (head ++ numbers ++ codes "," ++ answer ++ codes "\n")

@@ -10,10 +10,10 @@ use Rattle.model.specs.safe_bit.{Move}
 use Rattle.model.specs.safe_bit.declared.Move.TheVariants.{BeginRead, EndRead}
 use Rattle.world.specs.{ends_overlapped}
 use Rattle.calls.specs.{begins_read_of, ends_own_overlapped, entry_with, is_read, is_there, last_access, later_access}
-use Rattle.judge.specs.safe_monitor.Looks as looks
+use Rattle.judge.specs.safe_monitor.MonitoredBits as looks
 use Rattle.judge.specs.safe_monitor.laws.{IsThere}
-use Rattle.judge.specs.safe_monitor.{HasHeard}
-use Rattle.calls.specs.{OverlapWatch, Watches}
+use Rattle.judge.specs.safe_monitor.{HasObserved}
+use Rattle.calls.specs.{OverlapMonitor, Monitors}
 
 -- Reads that have begun.
 
@@ -67,13 +67,13 @@ not_there s a is there =
     let owner = there.owner in let reader = there.reader in let bit = there.bit in
     let yes : is_there s a ≡ true = grind (arith, nat_tests, owner, reader, bit) in true≢false (sym yes ∙ is)
 
-few : (s : Setup) (past : Past) (w : OverlapWatch) (p : ℕ) → Watches s past w → p < s.processes → p < 16
+few : (s : Setup) (past : Past) (w : OverlapMonitor) (p : ℕ) → Monitors s past w → p < s.processes → p < 16
 few s past w p h below = omega (arith, few-processes s h.good, below)
 
 -- where the process's last access began the read
-pub told_begun : (s : Setup) (past : Past) (w : OverlapWatch) (p : ℕ) (a : Access) (over : Bool) → Watches s past w → p < s.processes → begins_read_of (get_or w.last p None) a ≡ true →
-    ((past : Past) → HasHeard w.watch past → IsThere w.watch.setup a → looks.TellsOverlap over (moves_of a past) a.how) → ((IsThere w.watch.setup a → ⊥) → over ≡ false) → over ≡ ends_own_overlapped s p past a
-told_begun s past w p a over h below begun there stray = by (is_there s a) refl
+pub reported_begun : (s : Setup) (past : Past) (w : OverlapMonitor) (p : ℕ) (a : Access) (over : Bool) → Monitors s past w → p < s.processes → begins_read_of (get_or w.last p None) a ≡ true →
+    ((past : Past) → HasObserved w.monitor past → IsThere w.monitor.setup a → looks.ReportsOverlap over (moves_of a past) a.how) → ((IsThere w.monitor.setup a → ⊥) → over ≡ false) → over ≡ ends_own_overlapped s p past a
+reported_begun s past w p a over h below begun there stray = by (is_there s a) refl
   where
     last : get_or w.last p None ≡ last_access p past
     last = h.last p (few s past w p h below)
@@ -82,15 +82,15 @@ told_begun s past w p a over h below begun there stray = by (is_there s a) refl
     begins = ap (λ o. begins_read_of o a) (sym last) ∙ begun
 
     by : (t : Bool) → is_there s a ≡ t → over ≡ (t && begins_read_of (last_access p past) a && ends_overlapped (moves_of a past) a.how)
-    by false is = stray (λ here. not_there s a is (subst (λ (s : Setup). IsThere s a) h.watched here))
+    by false is = stray (λ here. not_there s a is (subst (λ (s : Setup). IsThere s a) h.monitored here))
     by true is =
-        there past h.heard (subst (λ (s : Setup). IsThere s a) (sym h.watched) (there_is s a is)) (begun_reads p a past begins)
+        there past h.observed (subst (λ (s : Setup). IsThere s a) (sym h.monitored) (there_is s a is)) (begun_reads p a past begins)
         ∙ same_end (moves_of a past) a.how ∙ ap (λ b. b && ends_overlapped (moves_of a past) a.how) (sym begins)
 
 -- What is kept.
 
 -- p's last access, behind an entry with these parts
-pub last_on : (s : Setup) (past : Past) (w : OverlapWatch) (q : ℕ) (a : Access) (marks : List Mark) → Watches s past w → (p : ℕ) → p < 16 → get_or (set w.last q (Some a)) p None ≡ last_access p (entry_with q (Some a) marks ∷ past)
+pub last_on : (s : Setup) (past : Past) (w : OverlapMonitor) (q : ℕ) (a : Access) (marks : List Mark) → Monitors s past w → (p : ℕ) → p < 16 → get_or (set w.last q (Some a)) p None ≡ last_access p (entry_with q (Some a) marks ∷ past)
 last_on s past w q a marks h p below = elim (cases_eq p q) [
   | inl same ↦ subst (λ q. get_or (set w.last q (Some a)) p None ≡ last_access p (entry_with q (Some a) marks ∷ past)) same mine
   | inr apart ↦ get_or-set_other w.last q p (Some a) None apart ∙ h.last p below ∙ sym (ap (λ b. cond b (Some a) (last_access p past)) (ne_eqb q p (λ h. apart (sym h))))

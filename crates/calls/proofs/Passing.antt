@@ -4,9 +4,9 @@ use Rattle.plain_store.specs.{Setup}
 use Rattle.model.specs.safe_bit.{Move}
 use Rattle.model.specs.safe_bit.declared.Move.TheVariants.{BeginWrite, EndWrite, BeginRead, EndRead, Settle}
 use Rattle.model.specs.{Access, Past, first_of, width}
-use Rattle.calls.specs.{Accesses, CallStanding, EntryKnown, HasNotFailed, IsKnown, Passes, begun_among, ends_number, first_if, follows, is_read, is_write, more_if, of_read, passed, quiet_entry, reads_begun, standing, with_access, with_passed, writes_begun}
+use Rattle.calls.specs.{Accesses, CallState, EntryFacts, HasNotFailed, IsKnown, Passes, begun_among, ends_number, first_if, follows, is_read, is_write, more_if, of_read, passed, quiet_entry, reads_begun, call_state, with_access, with_passed, writes_begun}
 use Rattle.world.specs.{ends_overlapped_read}
-use Rattle.calls.proofs.Steps.{standing-heard, standing-other}
+use Rattle.calls.proofs.Steps.{call_state-observed, call_state-other}
 
 -- The first access.
 
@@ -65,7 +65,7 @@ more-few false n m few = omega (arith, few)
 
 -- The counts after a number of accesses, of which the first has this number and the newest makes this move.
 
-abbrev pub passed_by : ℕ → ℕ → Move → ℕ → CallStanding → CallStanding
+abbrev pub passed_by : ℕ → ℕ → Move → ℕ → CallState → CallState
 passed_by number n how overlapped k = passed number (reads_begun n how) (writes_begun n how) overlapped k
 
 -- no more begin than there are
@@ -100,43 +100,43 @@ accesses_by : (x y : Accesses) → x.doorway ≡ y.doorway → x.reads ≡ y.rea
 accesses_by x y a b c d e = λ i. record { doorway = a i; reads = b i; writes = c i; overlapped = d i; waited_for = e i }
 
 -- the state with these accesses
-abbrev with_accesses : CallStanding → Accesses → CallStanding
+abbrev with_accesses : CallState → Accesses → CallState
 with_accesses k x = record k { last = record k.last { accesses = x } }
 
 module _ (s : Setup) (p : ℕ) (a : Access) (past : Past) where
-  abbrev known : EntryKnown
+  abbrev known : EntryFacts
   known = record { overlapped = ends_overlapped_read past (quiet_entry p a); read = None }
 
   turn : ends_number (width s a.field) a.bit a.how ≡ false → IsKnown s past (quiet_entry p a) known
   turn ends = record { overlapped = refl; read = λ b some. subst (λ (b : Access). ends_number (width s b.field) b.bit b.how ≡ false) (let same : a ≡ b = cc in same) ends }
 
-  abbrev after_one : CallStanding → CallStanding
+  abbrev after_one : CallState → CallState
   after_one k = with_accesses k (with_access s p (length past) known k.last.marks a k.last.accesses)
 
   -- a process that has not failed makes them itself
-  itself : (test : Move → Bool) (k : CallStanding) → k.last.marks.failed ≡ None → (n : ℕ) → more_if (test a.how && is_none k.last.marks.failed) n ≡ more_if (test a.how && true) n
+  itself : (test : Move → Bool) (k : CallState) → k.last.marks.failed ≡ None → (n : ℕ) → more_if (test a.how && is_none k.last.marks.failed) n ≡ more_if (test a.how && true) n
   itself test k none n = ap (λ (o : Option ℕ). more_if (test a.how && is_none o) n) none
 
   -- and the first of them begins its doorway
-  begins : (k : CallStanding) → k.last.marks.failed ≡ None → (first : Option ℕ) → first_if (is_none k.last.marks.failed) (length past) first ≡ first_of first (Some (length past))
+  begins : (k : CallState) → k.last.marks.failed ≡ None → (first : Option ℕ) → first_if (is_none k.last.marks.failed) (length past) first ≡ first_of first (Some (length past))
   begins k none first = ap (λ (o : Option ℕ). first_if (is_none o) (length past) first) none
 
-  quiet-heard : ends_number (width s a.field) a.bit a.how ≡ false → standing s p (quiet_entry p a ∷ past) ≡ after_one (standing s p past)
-  quiet-heard ends = standing-heard s (quiet_entry p a) past known (turn ends)
+  quiet-observed : ends_number (width s a.field) a.bit a.how ≡ false → call_state s p (quiet_entry p a ∷ past) ≡ after_one (call_state s p past)
+  quiet-observed ends = call_state-observed s (quiet_entry p a) past known (turn ends)
 
-  once : (overlapped : ℕ) → HasNotFailed p past → ends_number (width s a.field) a.bit a.how ≡ false → overlapped ≡ more_if known.overlapped 0 → standing s p (quiet_entry p a ∷ past) ≡ passed_by (length past) 1 a.how overlapped (standing s p past)
+  once : (overlapped : ℕ) → HasNotFailed p past → ends_number (width s a.field) a.bit a.how ≡ false → overlapped ≡ more_if known.overlapped 0 → call_state s p (quiet_entry p a ∷ past) ≡ passed_by (length past) 1 a.how overlapped (call_state s p past)
   once overlapped none ends is =
-      let k : CallStanding = standing s p past in
+      let k : CallState = call_state s p past in
       let was : Accesses = k.last.accesses in
-      quiet-heard ends ∙ ap (with_accesses k) (accesses_by (with_access s p (length past) known k.last.marks a was) (with_passed (length past) (reads_begun 1 a.how) (writes_begun 1 a.how) overlapped was)
+      quiet-observed ends ∙ ap (with_accesses k) (accesses_by (with_access s p (length past) known k.last.marks a was) (with_passed (length past) (reads_begun 1 a.how) (writes_begun 1 a.how) overlapped was)
       (begins k none was.doorway) (itself is_read k none was.reads ∙ (begun-one a.how was.reads was.writes).0) (itself is_write k none was.writes ∙ (begun-one a.how was.reads was.writes).1) (more-one known.overlapped was.overlapped 0 refl ∙ ap (λ n. was.overlapped + n) (sym is)) refl)
 
-  again : (n number : ℕ) (before : Move) (count overlapped : ℕ) (first : CallStanding) → first.last.marks.failed ≡ None → standing s p past ≡ passed_by number (suc n) before count first → follows before a.how ≡ true → ends_number (width s a.field) a.bit a.how ≡ false →
-      overlapped ≡ more_if known.overlapped count → standing s p (quiet_entry p a ∷ past) ≡ passed_by number (suc (suc n)) a.how overlapped first
+  again : (n number : ℕ) (before : Move) (count overlapped : ℕ) (first : CallState) → first.last.marks.failed ≡ None → call_state s p past ≡ passed_by number (suc n) before count first → follows before a.how ≡ true → ends_number (width s a.field) a.bit a.how ≡ false →
+      overlapped ≡ more_if known.overlapped count → call_state s p (quiet_entry p a ∷ past) ≡ passed_by number (suc (suc n)) a.how overlapped first
   again n number before count overlapped first none at follow ends is =
       let was : Accesses = first.last.accesses in
       let mid : Accesses = with_passed number (reads_begun (suc n) before) (writes_begun (suc n) before) count was in
-      quiet-heard ends ∙ ap after_one at
+      quiet-observed ends ∙ ap after_one at
       ∙ ap (with_accesses first) (accesses_by (with_access s p (length past) known first.last.marks a mid) (with_passed number (reads_begun (suc (suc n)) a.how) (writes_begun (suc (suc n)) a.how) overlapped was)
       (begins first none mid.doorway ∙ first-again was.doorway number (length past)) (itself is_read first none mid.reads ∙ (begun-more n before a.how was.reads was.writes follow).0) (itself is_write first none mid.writes ∙ (begun-more n before a.how was.reads was.writes follow).1)
       (more-again known.overlapped was.overlapped count ∙ ap (λ n. was.overlapped + n) (sym is)) refl)
@@ -145,10 +145,10 @@ module _ (s : Setup) (p : ℕ) (a : Access) (past : Past) where
 
 -- the state of p after them, the number of entries then, and a bound: no more reads ended than there were accesses
 pub record HasPassed (s : Setup) (p n : ℕ) (newest : Access) (overlapped : ℕ) (past after : Past) : Type 0 where
-  pub standing_is : standing s p after ≡ passed_by (length past) n newest.how overlapped (standing s p past)
+  pub standing_is : call_state s p after ≡ passed_by (length past) n newest.how overlapped (call_state s p past)
   pub long : length after ≡ length past + n
   pub few : overlapped ≤ n
-  pub others : (q : ℕ) → (p == q) ≡ false → standing s q after ≡ standing s q past
+  pub others : (q : ℕ) → (p == q) ≡ false → call_state s q after ≡ call_state s q past
 
 pub passes : (n : ℕ) (s : Setup) (p : ℕ) (newest : Access) (overlapped : ℕ) (past after : Past) → HasNotFailed p past → Passes s p (suc n) newest overlapped past after → HasPassed s p (suc n) newest overlapped past after
 passes zero s p newest overlapped past after failed (mid, before, count, (same, none), follow, ends, is, counts) =
@@ -157,13 +157,13 @@ passes zero s p newest overlapped past after failed (mid, before, count, (same, 
       standing_is = once s p newest past overlapped failed ends all;
       long = omega arith;
       few = let few = more-few (ends_overlapped_read past (quiet_entry p newest)) 0 0 (omega arith) in omega (arith, all, few);
-      others = λ q apart. standing-other s q (quiet_entry p newest) past apart;
+      others = λ q apart. call_state-other s q (quiet_entry p newest) past apart;
     })
 passes (suc n) s p newest overlapped past after failed (mid, before, count, more, follow, ends, is, counts) =
     let h : HasPassed s p (suc n) before count past mid = passes n s p before count past mid failed more in
     subst (λ (after : Past). HasPassed s p (suc (suc n)) newest overlapped past after) (sym is) (record {
-      standing_is = again s p newest mid n (length past) before.how count overlapped (standing s p past) failed h.standing_is (follow (omega arith)) ends counts;
+      standing_is = again s p newest mid n (length past) before.how count overlapped (call_state s p past) failed h.standing_is (follow (omega arith)) ends counts;
       long = let long = h.long in omega (arith, long);
       few = let few = more-few (ends_overlapped_read mid (quiet_entry p newest)) count (suc n) h.few in omega (arith, counts, few);
-      others = λ q apart. standing-other s q (quiet_entry p newest) mid apart ∙ h.others q apart;
+      others = λ q apart. call_state-other s q (quiet_entry p newest) mid apart ∙ h.others q apart;
     })

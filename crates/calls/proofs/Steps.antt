@@ -5,8 +5,8 @@ use Rattle.model.specs.{Access, Entry, Mark, Past, called_in, calls_in, has, is_
 use Rattle.world.specs.laws.{doing}
 use Rattle.world.specs.process.{number_read}
 use Rattle.world.specs.{ends_overlapped, ends_overlapped_read}
-use Rattle.calls.specs.{Accesses, CallStanding, EntryKnown, IsKnown, Marked, TellsRead, accessed_by, accesses, accesses_itself, answer_after, begun, called, called_at, count_in_call, ends_number, ends_waiting, first_if, first_in_call, heard, holds_up, is_answered, is_calling, is_left, is_read, is_taken, is_unmarked, is_withdrawal, is_write, makes_itself, marked, marked_all, more_if, no_accesses, no_marks, number_after, over_call, place_after, standing, tells_waiting, ticket_after, ticket_in_call, waited_for, waits_by, with_access, with_mark}
-use Rattle.calls.proofs.Folds.{answer-on, answered-on, called_has, door_end-on, entered-on, failed-on, fold-field, fold-first, left-on, marked_all-is, place-on, taken-on, ticket-on, wait_end-on, with_marks, withdrew-on}
+use Rattle.calls.specs.{Accesses, CallState, EntryFacts, IsKnown, Marked, ReportsRead, accessed_by, accesses, accesses_itself, answer_after, begun, called, called_at, count_in_call, ends_number, ends_waiting, first_if, first_in_call, observed, holds_up, is_answered, is_calling, is_left, is_read, is_taken, is_unmarked, is_withdrawal, is_write, makes_itself, marked, marked_all, more_if, no_accesses, no_marks, number_after, over_call, place_after, call_state, reports_waiting, ticket_after, ticket_in_call, waited_for, waits_by, with_access, with_mark}
+use Rattle.calls.proofs.Folds.{answer-on, answered-on, called_has, door_end-on, entered-on, failed-on, fold-field, fold-first, remaining-on, marked_all-is, place-on, taken-on, ticket-on, wait_end-on, with_marks, withdrew-on}
 use Rattle.calls.proofs.InCall.{first-called, first-mine, first-other, number-called, number-mine, number-other, over-called, over-mine, over-other}
 
 -- Marks.
@@ -38,7 +38,7 @@ marked-mine p e past h none =
     let wait_end = number-on p ends_waiting (λ k. k.wait_end) e past h none (wait_end-on n) refl in
     let taken = number-on p is_taken (λ k. k.taken) e past h none (taken-on n) refl in
     let place = given-on {A = ℕ} p place_after (λ k. k.place) e past h none (place-on n) refl in
-    let left = number-on p is_left (λ k. k.left) e past h none (left-on n) refl in
+    let remaining = number-on p is_left (λ k. k.remaining) e past h none (remaining-on n) refl in
     let answered = number-on p is_answered (λ k. k.answered) e past h none (answered-on n) refl in
     let failed = number-on p is_failed (λ k. k.failed) e past h none (failed-on n) refl in
     let withdrew = number-on p is_withdrawal (λ k. k.withdrew) e past h none (withdrew-on n) refl in
@@ -50,7 +50,7 @@ marked-mine p e past h none =
       wait_end = wait_end i;
       taken = taken i;
       place = place i;
-      left = left i;
+      remaining = remaining i;
       answered = answered i;
       failed = failed i;
       withdrew = withdrew i;
@@ -69,7 +69,7 @@ marked-called p e past h some =
       wait_end = number-called p (has ends_waiting) e past h some i;
       taken = number-called p (has is_taken) e past h some i;
       place = place i;
-      left = number-called p (has is_left) e past h some i;
+      remaining = number-called p (has is_left) e past h some i;
       answered = number-called p (has is_answered) e past h some i;
       failed = number-called p (has is_failed) e past h some i;
       withdrew = number-called p (has is_withdrawal) e past h some i;
@@ -88,7 +88,7 @@ marked-other p e past h =
       wait_end = number-other p (has ends_waiting) e past h i;
       taken = number-other p (has is_taken) e past h i;
       place = place i;
-      left = number-other p (has is_left) e past h i;
+      remaining = number-other p (has is_left) e past h i;
       answered = number-other p (has is_answered) e past h i;
       failed = number-other p (has is_failed) e past h i;
       withdrew = number-other p (has is_withdrawal) e past h i;
@@ -105,12 +105,12 @@ counting test before e n = more_if (test before e) n
 abbrev waiting : Setup → ℕ → Past → Entry → Option ℕ → Option ℕ
 waiting s p before e newest = elim e.access as (λ _. Option ℕ) [
   | None ↦ newest
-  | Some a ↦ cond (is_unmarked e.marks && tells_waiting s p (ticket_in_call p before) (number_in_call p (has ends_waiting) before) a (number_after a.bit a.how (number_read (doing s p before)))) (Some a.owner) newest
+  | Some a ↦ cond (is_unmarked e.marks && reports_waiting s p (ticket_in_call p before) (number_in_call p (has ends_waiting) before) a (number_after a.bit a.how (number_read (doing s p before)))) (Some a.owner) newest
 ]
 
 -- whether an access shows that it waits depends on a number only where the whole number was read
 waits-same : (s : Setup) (p : ℕ) (ticket wait_end : Option ℕ) (a : Access) (n m : ℕ) → (ends_number (width s a.field) a.bit a.how ≡ true → n ≡ m) →
-    tells_waiting s p ticket wait_end a (number_after a.bit a.how n) ≡ tells_waiting s p ticket wait_end a (number_after a.bit a.how m)
+    reports_waiting s p ticket wait_end a (number_after a.bit a.how n) ≡ reports_waiting s p ticket wait_end a (number_after a.bit a.how m)
 waits-same s p None wait_end a n m same = refl
 waits-same s p (Some t) wait_end a n m same = by (ends_number (width s a.field) a.bit a.how) refl same
   where
@@ -122,7 +122,7 @@ waits-same s p (Some t) wait_end a n m same = by (ends_number (width s a.field) 
     by false is same = ap (test n) is ∙ sym (ap (test m) is)
 
 -- an access that ends no number shows no process that is waited for
-waits-none : (s : Setup) (p : ℕ) (ticket wait_end : Option ℕ) (a : Access) (n : ℕ) → ends_number (width s a.field) a.bit a.how ≡ false → tells_waiting s p ticket wait_end a n ≡ false
+waits-none : (s : Setup) (p : ℕ) (ticket wait_end : Option ℕ) (a : Access) (n : ℕ) → ends_number (width s a.field) a.bit a.how ≡ false → reports_waiting s p ticket wait_end a n ≡ false
 waits-none s p None wait_end a n is = refl
 waits-none s p (Some t) wait_end a n is = ap (λ b. is_none wait_end && (b && holds_up p t a.owner a.field n)) is ∙ never (is_none wait_end)
   where
@@ -131,21 +131,21 @@ waits-none s p (Some t) wait_end a n is = ap (λ b. is_none wait_end && (b && ho
     never false = refl
 
 -- the number that is reported suffices
-waits-told : (s : Setup) (p : ℕ) (ticket wait_end : Option ℕ) (past : Past) (e : Entry) (a : Access) (read : Option ℕ) → e.process ≡ p → TellsRead s past e a read →
-    waits_by s p ticket wait_end a read ≡ (is_unmarked e.marks && tells_waiting s p ticket wait_end a (number_after a.bit a.how (number_read (doing s p past))))
-waits-told s p ticket wait_end past e a None h tells = by (is_unmarked e.marks) tells
+waits-reported : (s : Setup) (p : ℕ) (ticket wait_end : Option ℕ) (past : Past) (e : Entry) (a : Access) (read : Option ℕ) → e.process ≡ p → ReportsRead s past e a read →
+    waits_by s p ticket wait_end a read ≡ (is_unmarked e.marks && reports_waiting s p ticket wait_end a (number_after a.bit a.how (number_read (doing s p past))))
+waits-reported s p ticket wait_end past e a None h reports = by (is_unmarked e.marks) reports
   where
     number : ℕ
     number = number_after a.bit a.how (number_read (doing s p past))
 
-    by : (b : Bool) → (b && ends_number (width s a.field) a.bit a.how) ≡ false → false ≡ (b && tells_waiting s p ticket wait_end a number)
+    by : (b : Bool) → (b && ends_number (width s a.field) a.bit a.how) ≡ false → false ≡ (b && reports_waiting s p ticket wait_end a number)
     by true ends = sym (waits-none s p ticket wait_end a number ends)
     by false ends = refl
-waits-told s p ticket wait_end past e a (Some n) h (none, same) =
+waits-reported s p ticket wait_end past e a (Some n) h (none, same) =
     waits-same s p ticket wait_end a n (number_read (doing s p past)) (λ ends. same ends ∙ ap (λ q. number_read (doing s q past)) h)
-    ∙ sym (ap (λ b. b && tells_waiting s p ticket wait_end a (number_after a.bit a.how (number_read (doing s p past)))) none)
+    ∙ sym (ap (λ b. b && reports_waiting s p ticket wait_end a (number_after a.bit a.how (number_read (doing s p past)))) none)
 
-accesses-with : (s : Setup) (p : ℕ) (e : Entry) (past : Past) → e.process ≡ p → has is_called e ≡ false → (o : Option Access) → e.access ≡ o → (known : EntryKnown) → IsKnown s past e known →
+accesses-with : (s : Setup) (p : ℕ) (e : Entry) (past : Past) → e.process ≡ p → has is_called e ≡ false → (o : Option Access) → e.access ≡ o → (known : EntryFacts) → IsKnown s past e known →
     accesses s p (e ∷ past) ≡ elim o as (λ _. Accesses) [ None ↦ accesses s p past | Some a ↦ with_access s p (length past) known (marked p past) a (accesses s p past) ]
 accesses-with s p e past h called None none known turn =
     let doorway = first-mine p (accesses_itself p) e past h called
@@ -159,7 +159,7 @@ accesses-with s p e past h called None none known turn =
     let waited = over-mine {A = Option ℕ} p None (waiting s p) e past h called
     ∙ ap (λ (o : Option Access). elim o as (λ _. Option ℕ) [
       | None ↦ waited_for s p past
-      | Some a ↦ cond (is_unmarked e.marks && tells_waiting s p (ticket_in_call p past) (number_in_call p (has ends_waiting) past) a (number_after a.bit a.how (number_read (doing s p past)))) (Some a.owner) (waited_for s p past)
+      | Some a ↦ cond (is_unmarked e.marks && reports_waiting s p (ticket_in_call p past) (number_in_call p (has ends_waiting) past) a (number_after a.bit a.how (number_read (doing s p past)))) (Some a.owner) (waited_for s p past)
     ]) none in
     λ i. record { doorway = doorway i; reads = reads i; writes = writes i; overlapped = overlapped i; waited_for = waited i }
 accesses-with s p e past h called (Some a) some known turn =
@@ -174,9 +174,9 @@ accesses-with s p e past h called (Some a) some known turn =
     let waited = over-mine {A = Option ℕ} p None (waiting s p) e past h called
     ∙ ap (λ (o : Option Access). elim o as (λ _. Option ℕ) [
       | None ↦ waited_for s p past
-      | Some a ↦ cond (is_unmarked e.marks && tells_waiting s p (ticket_in_call p past) (number_in_call p (has ends_waiting) past) a (number_after a.bit a.how (number_read (doing s p past)))) (Some a.owner) (waited_for s p past)
+      | Some a ↦ cond (is_unmarked e.marks && reports_waiting s p (ticket_in_call p past) (number_in_call p (has ends_waiting) past) a (number_after a.bit a.how (number_read (doing s p past)))) (Some a.owner) (waited_for s p past)
     ]) some
-    ∙ ap (λ b. cond b (Some a.owner) (waited_for s p past)) (sym (waits-told s p (ticket_in_call p past) (number_in_call p (has ends_waiting) past) past e a known.read h (turn.read a some))) in
+    ∙ ap (λ b. cond b (Some a.owner) (waited_for s p past)) (sym (waits-reported s p (ticket_in_call p past) (number_in_call p (has ends_waiting) past) past e a known.read h (turn.read a some))) in
     λ i. record { doorway = doorway i; reads = reads i; writes = writes i; overlapped = overlapped i; waited_for = waited i }
 
 accesses-called : (s : Setup) (p : ℕ) (e : Entry) (past : Past) → e.process ≡ p → has is_called e ≡ true → accesses s p (e ∷ past) ≡ no_accesses
@@ -197,17 +197,17 @@ accesses-other s p e past h =
 
 -- The whole state.
 
-standing_by : (k m : CallStanding) → k.calling ≡ m.calling → k.last.process ≡ m.last.process → k.last.call ≡ m.last.call → k.last.command ≡ m.last.command → k.last.called ≡ m.last.called →
+call_state_by : (k m : CallState) → k.calling ≡ m.calling → k.last.process ≡ m.last.process → k.last.call ≡ m.last.call → k.last.command ≡ m.last.command → k.last.called ≡ m.last.called →
     k.last.accesses ≡ m.last.accesses → k.last.marks ≡ m.last.marks → k ≡ m
-standing_by k m a b c d e f g = λ i. record { calling = a i; last = record { process = b i; call = c i; command = d i; called = e i; accesses = f i; marks = g i } }
+call_state_by k m a b c d e f g = λ i. record { calling = a i; last = record { process = b i; call = c i; command = d i; called = e i; accesses = f i; marks = g i } }
 
 own-mine : (p : ℕ) (e : Entry) (past : Past) → e.process ≡ p → own p (e ∷ past) ≡ e ∷ own p past
 own-mine p e past h = ap (λ b. cond b (e ∷ own p past) (own p past)) (eq-eqb e.process p h)
 
-pub standing-other : (s : Setup) (p : ℕ) (e : Entry) (past : Past) → (e.process == p) ≡ false → standing s p (e ∷ past) ≡ standing s p past
-standing-other s p e past h =
+pub call_state-other : (s : Setup) (p : ℕ) (e : Entry) (past : Past) → (e.process == p) ≡ false → call_state s p (e ∷ past) ≡ call_state s p past
+call_state-other s p e past h =
     let mine : own p (e ∷ past) ≡ own p past = ap (λ b. cond b (e ∷ own p past) (own p past)) h in
-    standing_by (standing s p (e ∷ past)) (standing s p past)
+    call_state_by (call_state s p (e ∷ past)) (call_state s p past)
     (rw (h, is_calling) refl)
     refl
     (ap calls_in mine)
@@ -216,12 +216,12 @@ standing-other s p e past h =
     (accesses-other s p e past h)
     (marked-other p e past h)
 
-pub standing-called : (s : Setup) (p : ℕ) (e : Entry) (past : Past) (c : Command) → e.process ≡ p → called_in e.marks ≡ Some c → standing s p (e ∷ past) ≡ begun (length past) c (standing s p past)
-standing-called s p e past c h is =
+pub call_state-called : (s : Setup) (p : ℕ) (e : Entry) (past : Past) (c : Command) → e.process ≡ p → called_in e.marks ≡ Some c → call_state s p (e ∷ past) ≡ begun (length past) c (call_state s p past)
+call_state-called s p e past c h is =
     let some : has is_called e ≡ true = called_has e.marks ∙ ap is_some is in
     let here : (e.process == p) ≡ true = eq-eqb e.process p h in
     let mine = own-mine p e past h in
-    standing_by (standing s p (e ∷ past)) (begun (length past) c (standing s p past))
+    call_state_by (call_state s p (e ∷ past)) (begun (length past) c (call_state s p past))
     (rw (here, some, is_calling) refl)
     refl
     (ap calls_in mine ∙ ap (λ b. elim b as (λ _. ℕ) [ true ↦ suc (calls_in (own p past)) | false ↦ calls_in (own p past) ]) some ∙ sym (add-one (calls_in (own p past))))
@@ -230,9 +230,9 @@ standing-called s p e past c h is =
     (accesses-called s p e past h some)
     (marked-called p e past h some)
 
-pub standing-mine : (s : Setup) (p : ℕ) (e : Entry) (past : Past) → e.process ≡ p → called_in e.marks ≡ None → (known : EntryKnown) → IsKnown s past e known →
-    standing s p (e ∷ past) ≡ marked_all (length past) (accessed_by s (length past) known e.access (standing s p past)) e.marks
-standing-mine s p e past h is known turn =
+pub call_state-mine : (s : Setup) (p : ℕ) (e : Entry) (past : Past) → e.process ≡ p → called_in e.marks ≡ None → (known : EntryFacts) → IsKnown s past e known →
+    call_state s p (e ∷ past) ≡ marked_all (length past) (accessed_by s (length past) known e.access (call_state s p past)) e.marks
+call_state-mine s p e past h is known turn =
     let none : has is_called e ≡ false = called_has e.marks ∙ ap is_some is in
     let here : (e.process == p) ≡ true = eq-eqb e.process p h in
     let mine = own-mine p e past h in
@@ -242,9 +242,9 @@ standing-mine s p e past h is known turn =
     e.access refl
   where
     go : has is_called e ≡ false → (e.process == p) ≡ true → own p (e ∷ past) ≡ e ∷ own p past → calls_in (own p (e ∷ past)) ≡ calls_in (own p past) → last_command (own p (e ∷ past)) ≡ last_command (own p past) →
-        (o : Option Access) → e.access ≡ o → standing s p (e ∷ past) ≡ marked_all (length past) (accessed_by s (length past) known o (standing s p past)) e.marks
+        (o : Option Access) → e.access ≡ o → call_state s p (e ∷ past) ≡ marked_all (length past) (accessed_by s (length past) known o (call_state s p past)) e.marks
     go none here mine calls command None access =
-        standing_by (standing s p (e ∷ past)) (with_marks (length past) (standing s p past) e.marks)
+        call_state_by (call_state s p (e ∷ past)) (with_marks (length past) (call_state s p past) e.marks)
         (rw (here, none, is_calling) refl)
         refl
         calls
@@ -252,9 +252,9 @@ standing-mine s p e past h is known turn =
         (rw (here, none, called_at) refl)
         (accesses-with s p e past h none None access known turn)
         (marked-mine p e past h none)
-        ∙ sym (marked_all-is (length past) (standing s p past) e.marks)
+        ∙ sym (marked_all-is (length past) (call_state s p past) e.marks)
     go none here mine calls command (Some a) access =
-        standing_by (standing s p (e ∷ past)) (with_marks (length past) (accessed_by s (length past) known (Some a) (standing s p past)) e.marks)
+        call_state_by (call_state s p (e ∷ past)) (with_marks (length past) (accessed_by s (length past) known (Some a) (call_state s p past)) e.marks)
         (rw (here, none, is_calling) refl)
         refl
         calls
@@ -262,27 +262,27 @@ standing-mine s p e past h is known turn =
         (rw (here, none, called_at) refl)
         (accesses-with s p e past h none (Some a) access known turn)
         (marked-mine p e past h none)
-        ∙ sym (marked_all-is (length past) (accessed_by s (length past) known (Some a) (standing s p past)) e.marks)
+        ∙ sym (marked_all-is (length past) (accessed_by s (length past) known (Some a) (call_state s p past)) e.marks)
 
 -- with whatever entry of its own
-pub standing-heard : (s : Setup) (e : Entry) (past : Past) (known : EntryKnown) → IsKnown s past e known →
-    standing s e.process (e ∷ past) ≡ heard s (length past) known e.access e.marks (standing s e.process past)
-standing-heard s e past known turn = go (called_in e.marks) refl
+pub call_state-observed : (s : Setup) (e : Entry) (past : Past) (known : EntryFacts) → IsKnown s past e known →
+    call_state s e.process (e ∷ past) ≡ observed s (length past) known e.access e.marks (call_state s e.process past)
+call_state-observed s e past known turn = go (called_in e.marks) refl
   where
     p : ℕ
     p = e.process
 
-    go : (o : Option Command) → called_in e.marks ≡ o → standing s p (e ∷ past) ≡ elim o as (λ _. CallStanding) [
-      | Some c ↦ begun (length past) c (standing s p past)
-      | None ↦ marked_all (length past) (accessed_by s (length past) known e.access (standing s p past)) e.marks
+    go : (o : Option Command) → called_in e.marks ≡ o → call_state s p (e ∷ past) ≡ elim o as (λ _. CallState) [
+      | Some c ↦ begun (length past) c (call_state s p past)
+      | None ↦ marked_all (length past) (accessed_by s (length past) known e.access (call_state s p past)) e.marks
     ]
-    go None is = standing-mine s p e past refl is known turn
-    go (Some c) is = standing-called s p e past c refl is
+    go None is = call_state-mine s p e past refl is known turn
+    go (Some c) is = call_state-called s p e past c refl is
 
 -- these facts exist for each entry
-pub known_of : (s : Setup) (past : Past) (e : Entry) → (known : EntryKnown) × IsKnown s past e known
+pub known_of : (s : Setup) (past : Past) (e : Entry) → (known : EntryFacts) × IsKnown s past e known
 known_of s past e = by (is_unmarked e.marks) refl
   where
-    by : (b : Bool) → is_unmarked e.marks ≡ b → (known : EntryKnown) × IsKnown s past e known
+    by : (b : Bool) → is_unmarked e.marks ≡ b → (known : EntryFacts) × IsKnown s past e known
     by true none = (record { overlapped = ends_overlapped_read past e; read = Some (number_read (doing s e.process past)) }, record { overlapped = refl; read = λ a some. (none, λ ends. refl) })
     by false some_marks = (record { overlapped = ends_overlapped_read past e; read = None }, record { overlapped = refl; read = λ a some. ap (λ b. b && ends_number (width s a.field) a.bit a.how) some_marks })

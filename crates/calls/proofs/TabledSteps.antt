@@ -4,10 +4,10 @@ use Rattle.plain_store.specs.{Setup}
 use Rattle.model.specs.{Access, Entry, Past, entry_of, width}
 use Rattle.model.specs.declared.events.Event.TheVariants.{Step}
 use Rattle.model.proofs.Width.{is_good}
-use Rattle.calls.specs.{ComesInTurn, HasHeard, HasNotFailed, HasTabled, Passes, TableState, TellsRead, ended_lines, ends_number, follows, known_step, line_of, lines_after, more_if, quiet_entry}
+use Rattle.calls.specs.{ComesInTurn, HasObserved, HasNotFailed, HasTabled, Passes, TableState, ReportsRead, ended_lines, ends_number, follows, known_step, line_of, lines_after, more_if, quiet_entry}
 use Rattle.world.proofs.WorldTurns.{takes-turns}
 use Rattle.scenario_run.specs.world.{ends_overlapped_read}
-use Rattle.scenario_run.specs.{Happening, PassBy, PassWithin, Stepped, StepsOn, StepsWithin, Tries, overlapped_in, past_after, tried}
+use Rattle.scenario_run.specs.{Happening, PassBy, PassWithin, UnmarkedStep, StepsOn, StepsWithin, Tries, overlapped_in, past_after, tried}
 use Rattle.scenario_run.proofs.laws.FrameEvents.{accepted}
 use Rattle.scenario_run.proofs.laws.Steps.{step_is}
 use Rattle.calls.proofs.UnmarkedSteps.{inside_never, not_so, steps_below}
@@ -24,31 +24,31 @@ unmarked_lines s before p flick access adds =
 
 -- One Step.
 
-tells_read : (s : Setup) (before : List Happening) (made : Stepped) → StepsOn s before made → (o : Option ℕ) → made.number ≡ o → TellsRead s (past_after s before) (quiet_entry made.process made.access) made.access o
-tells_read s before made on None is = not_so (ends_number (width s made.access.field) made.access.bit made.access.how) (inside_never s on.good (tried before) made.process made.flick made.access on.adds (on.within is))
-tells_read s before made on (Some n) is = (refl, λ ends. on.number n is)
+reports_read : (s : Setup) (before : List Happening) (made : UnmarkedStep) → StepsOn s before made → (o : Option ℕ) → made.number ≡ o → ReportsRead s (past_after s before) (quiet_entry made.process made.access) made.access o
+reports_read s before made on None is = not_so (ends_number (width s made.access.field) made.access.bit made.access.how) (inside_never s on.good (tried before) made.process made.flick made.access on.adds (on.within is))
+reports_read s before made on (Some n) is = (refl, λ ends. on.number n is)
 
-step_turn : (s : Setup) (before : List Happening) (made : Stepped) → StepsOn s before made → ComesInTurn s (past_after s before) (quiet_entry made.process made.access) (known_step made)
+step_turn : (s : Setup) (before : List Happening) (made : UnmarkedStep) → StepsOn s before made → ComesInTurn s (past_after s before) (quiet_entry made.process made.access) (known_step made)
 step_turn s before made on = record {
   process = steps_below s before made on;
-  tells = record {
+  reports = record {
     overlapped = on.overlapped;
-    read = λ a some. subst (λ (a : Access). TellsRead s (past_after s before) (quiet_entry made.process made.access) a made.number) (let same : made.access ≡ a = cc in same) (tells_read s before made on made.number refl);
+    read = λ a some. subst (λ (a : Access). ReportsRead s (past_after s before) (quiet_entry made.process made.access) a made.number) (let same : made.access ≡ a = cc in same) (reports_read s before made on made.number refl);
   };
 }
 
-pub step_tabled : (s : Setup) (before : List Happening) (made : Stepped) (old new : TableState) → StepsOn s before made →
-    ((past : Past) (e : Entry) → e.process ≡ made.process → e.access ≡ Some made.access → e.marks ≡ [] → HasHeard old past → ComesInTurn old.setup past e (known_step made) → HasHeard new (e ∷ past)) →
+pub step_tabled : (s : Setup) (before : List Happening) (made : UnmarkedStep) (old new : TableState) → StepsOn s before made →
+    ((past : Past) (e : Entry) → e.process ≡ made.process → e.access ≡ Some made.access → e.marks ≡ [] → HasObserved old past → ComesInTurn old.setup past e (known_step made) → HasObserved new (e ∷ past)) →
     new.setup ≡ old.setup → HasTabled s before old → HasTabled s (Tries (Step made.process made.flick) ∷ before) new
-step_tabled s before made old new on hears kept t =
+step_tabled s before made old new on observes kept t =
     let e : Entry = quiet_entry made.process made.access in
     let past : Past = past_after s before in
     record {
       setup = kept ∙ t.setup;
-      heard = subst (HasHeard new) (sym (event_added s before (Step made.process made.flick) e on.adds)) (hears past e refl refl refl t.heard (subst (λ (s : Setup). ComesInTurn s past e (known_step made)) (sym t.setup) (step_turn s before made on)));
+      observed = subst (HasObserved new) (sym (event_added s before (Step made.process made.flick) e on.adds)) (observes past e refl refl refl t.observed (subst (λ (s : Setup). ComesInTurn s past e (known_step made)) (sym t.setup) (step_turn s before made on)));
     }
 
-pub step_lines : (s : Setup) (before : List Happening) (made : Stepped) → StepsOn s before made → lines_after s (Tries (Step made.process made.flick) ∷ before) ≡ lines_after s before
+pub step_lines : (s : Setup) (before : List Happening) (made : UnmarkedStep) → StepsOn s before made → lines_after s (Tries (Step made.process made.flick) ∷ before) ≡ lines_after s before
 step_lines s before made on = unmarked_lines s before made.process made.flick (Some made.access) on.adds
 
 -- Many Steps within a register access.
@@ -156,12 +156,12 @@ pass_below : (s : Setup) (p n : ℕ) (before after : List Happening) → PassWit
 pass_below s p n before after (flick, w, more) = (accepted s (is_good s w.good) (tried before) (Step p flick) _ w.quiet.1).below
 
 pub pass_tabled : (s : Setup) (p n : ℕ) (newest : Access) (overlapped : ℕ) (before after : List Happening) (old new : TableState) → 0 < n → PassBy s p n newest overlapped before after →
-    ((past later : Past) → Passes old.setup p n newest overlapped past later → p < old.setup.processes → HasNotFailed p past → HasHeard old past → HasHeard new later) → new.setup ≡ old.setup → HasTabled s before old → HasTabled s after new
-pass_tabled s p zero newest overlapped before after old new some pass hears kept t = absurd (omega (arith, some))
-pass_tabled s p (suc n) newest overlapped before after old new some pass hears kept t = record {
+    ((past later : Past) → Passes old.setup p n newest overlapped past later → p < old.setup.processes → HasNotFailed p past → HasObserved old past → HasObserved new later) → new.setup ≡ old.setup → HasTabled s before old → HasTabled s after new
+pass_tabled s p zero newest overlapped before after old new some pass observes kept t = absurd (omega (arith, some))
+pass_tabled s p (suc n) newest overlapped before after old new some pass observes kept t = record {
   setup = kept ∙ t.setup;
-  heard = hears (past_after s before) (past_after s after)
+  observed = observes (past_after s before) (past_after s after)
       (subst (λ (s' : Setup). Passes s' p (suc n) newest overlapped (past_after s before) (past_after s after)) (sym t.setup) (passes_by s p n newest overlapped before after pass))
       (subst (λ (s' : Setup). p < s'.processes) (sym t.setup) (pass_below s p n before after pass.within)) (pass_unfailed s p n before after pass.within)
-      t.heard;
+      t.observed;
 }

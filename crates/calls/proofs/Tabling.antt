@@ -5,15 +5,15 @@ use Rattle.scenario.specs.files.{Fault, WritesFront}
 use Rattle.plain_store.specs.{Setup}
 use Rattle.model.specs.{Access, Entry, Event, Mark, Past, entry_of, past_of, process_of, width}
 use Rattle.scenario.specs.{Script}
-use Rattle.calls.specs.{ComesInTurn, HasHeard, TableState, called, ended_call, ended_lines, ends_number, header, is_calling, is_unmarked, open_lines}
-use Rattle.scenario_run.specs.{Accepted, Happening, Happens, IsMarked, IsWriteFault, Lacks, Looks, TellsOf, Tires, Told, Tries, Writes, WritesPart, entry_made, failed_write, happenings, past_after, tried}
+use Rattle.calls.specs.{ComesInTurn, HasObserved, TableState, called, ended_call, ended_lines, ends_number, header, is_calling, is_unmarked, open_lines}
+use Rattle.scenario_run.specs.{Accepted, Happening, Happens, IsMarked, IsWriteFault, Lacks, Looks, ReportsOf, Tires, TurnReport, Tries, Writes, WritesPart, entry_made, failed_write, happenings, past_after, tried}
 use Rattle.scenario_run.specs.world.{ends_overlapped_read}
-use Rattle.scenario_run.specs.declared.told.Told.TheVariants as told
+use Rattle.scenario_run.specs.declared.reports.TurnReport.TheVariants as reported
 use Rattle.scenario_run.proofs.Endings.{err_both}
 use Rattle.scenario_run.proofs.InTurn.{process_there}
 use Rattle.scenario_run.proofs.Refusals.{past_kept}
 use Rattle.scenario_run.proofs.Written.{all_written, appends_both, front_after, front_longer, part_written}
-use Rattle.calls.specs.Tables.{CutsTold, HasTabled, IsInTurn, Tells, known_told, lines_after, past_with, tabled, told_line}
+use Rattle.calls.specs.Tables.{CutsReported, HasTabled, IsInTurn, Reports, known_reported, lines_after, past_with, tabled, reported_line}
 
 -- marks that there are
 some_marks : (marks : List Mark) → (marks ≡ [] → ⊥) → is_unmarked marks ≡ false
@@ -22,10 +22,10 @@ some_marks (m ∷ marks) some = refl
 
 -- an entry with marks that is reported comes in its turn
 entry_in_turn : (s : Setup) (events : List Event) (event : Event) (made : Accepted) → made.event ≡ event → entry_of s (past_of s events) event ≡ Some (entry_made made) → made.overlapped ≡ ends_overlapped_read (past_of s events) (entry_made made) →
-    IsMarked (told.Accepted made) → ComesInTurn s (past_of s events) (entry_made made) (known_told made)
+    IsMarked (reported.Accepted made) → ComesInTurn s (past_of s events) (entry_made made) (known_reported made)
 entry_in_turn s events event made same is overlapped marked = record {
   process = process_there s events event (entry_made made) (ap process_of same) is;
-  tells = record { overlapped = overlapped; read = λ a some. ap (λ b. b && ends_number (width s a.field) a.bit a.how) (some_marks (entry_made made).marks marked) };
+  reports = record { overlapped = overlapped; read = λ a some. ap (λ b. b && ends_number (width s a.field) a.bit a.how) (some_marks (entry_made made).marks marked) };
 }
 
 -- The report of a turn.
@@ -35,81 +35,81 @@ pub event_added : (s : Setup) (before : List Happening) (event : Event) (e : Ent
 event_added s before event e adds = ap (λ (o : Option Entry). elim o as (λ _. Past) [ None ↦ past_after s before | Some e ↦ e ∷ past_after s before ]) adds
 
 -- the past with the reported entry is the past after what happens
-pub past_told : (s : Setup) (before : List Happening) (this : Happening) (answer : Told) → TellsOf s (past_after s before) this answer → past_after s (this ∷ before) ≡ past_with (past_after s before) answer
-past_told s before (Tries event) (told.Accepted made) tells = event_added s before event (entry_made made) tells.1
-past_told s before (Tries event) (told.Refused p r) tells = past_kept s (tried before) event r tells.1
-past_told s before (Tries event) (told.Tired p) tells = absurd tells
-past_told s before (Tries event) (told.Shown store) tells = absurd tells
-past_told s before (Lacks p) (told.Refused q r) tells = refl
-past_told s before (Lacks p) (told.Accepted made) tells = absurd tells
-past_told s before (Lacks p) (told.Tired q) tells = absurd tells
-past_told s before (Lacks p) (told.Shown store) tells = absurd tells
-past_told s before (Tires p) (told.Tired q) tells = refl
-past_told s before (Tires p) (told.Accepted made) tells = absurd tells
-past_told s before (Tires p) (told.Refused q r) tells = absurd tells
-past_told s before (Tires p) (told.Shown store) tells = absurd tells
-past_told s before Looks (told.Shown store) tells = refl
-past_told s before Looks (told.Accepted made) tells = absurd tells
-past_told s before Looks (told.Refused q r) tells = absurd tells
-past_told s before Looks (told.Tired q) tells = absurd tells
+pub past_reported : (s : Setup) (before : List Happening) (this : Happening) (answer : TurnReport) → ReportsOf s (past_after s before) this answer → past_after s (this ∷ before) ≡ past_with (past_after s before) answer
+past_reported s before (Tries event) (reported.Accepted made) reports = event_added s before event (entry_made made) reports.1
+past_reported s before (Tries event) (reported.Refused p r) reports = past_kept s (tried before) event r reports.1
+past_reported s before (Tries event) (reported.Tired p) reports = absurd reports
+past_reported s before (Tries event) (reported.Shown store) reports = absurd reports
+past_reported s before (Lacks p) (reported.Refused q r) reports = refl
+past_reported s before (Lacks p) (reported.Accepted made) reports = absurd reports
+past_reported s before (Lacks p) (reported.Tired q) reports = absurd reports
+past_reported s before (Lacks p) (reported.Shown store) reports = absurd reports
+past_reported s before (Tires p) (reported.Tired q) reports = refl
+past_reported s before (Tires p) (reported.Accepted made) reports = absurd reports
+past_reported s before (Tires p) (reported.Refused q r) reports = absurd reports
+past_reported s before (Tires p) (reported.Shown store) reports = absurd reports
+past_reported s before Looks (reported.Shown store) reports = refl
+past_reported s before Looks (reported.Accepted made) reports = absurd reports
+past_reported s before Looks (reported.Refused q r) reports = absurd reports
+past_reported s before Looks (reported.Tired q) reports = absurd reports
 
 -- and an entry that is reported comes in its turn
-pub in_turn : (s : Setup) (before : List Happening) (this : Happening) (answer : Told) → TellsOf s (past_after s before) this answer → IsMarked answer → IsInTurn s (past_after s before) answer
-in_turn s before (Tries event) (told.Accepted made) tells marked = entry_in_turn s (tried before) event made tells.0 tells.1 tells.2 marked
-in_turn s before (Tries event) (told.Refused p r) tells marked = tt
-in_turn s before (Tries event) (told.Tired p) tells marked = tt
-in_turn s before (Tries event) (told.Shown store) tells marked = tt
-in_turn s before (Lacks p) (told.Accepted made) tells marked = absurd tells
-in_turn s before (Lacks p) (told.Refused q r) tells marked = tt
-in_turn s before (Lacks p) (told.Tired q) tells marked = tt
-in_turn s before (Lacks p) (told.Shown store) tells marked = tt
-in_turn s before (Tires p) (told.Accepted made) tells marked = absurd tells
-in_turn s before (Tires p) (told.Refused q r) tells marked = tt
-in_turn s before (Tires p) (told.Tired q) tells marked = tt
-in_turn s before (Tires p) (told.Shown store) tells marked = tt
-in_turn s before Looks (told.Accepted made) tells marked = absurd tells
-in_turn s before Looks (told.Refused q r) tells marked = tt
-in_turn s before Looks (told.Tired q) tells marked = tt
-in_turn s before Looks (told.Shown store) tells marked = tt
+pub in_turn : (s : Setup) (before : List Happening) (this : Happening) (answer : TurnReport) → ReportsOf s (past_after s before) this answer → IsMarked answer → IsInTurn s (past_after s before) answer
+in_turn s before (Tries event) (reported.Accepted made) reports marked = entry_in_turn s (tried before) event made reports.0 reports.1 reports.2 marked
+in_turn s before (Tries event) (reported.Refused p r) reports marked = tt
+in_turn s before (Tries event) (reported.Tired p) reports marked = tt
+in_turn s before (Tries event) (reported.Shown store) reports marked = tt
+in_turn s before (Lacks p) (reported.Accepted made) reports marked = absurd reports
+in_turn s before (Lacks p) (reported.Refused q r) reports marked = tt
+in_turn s before (Lacks p) (reported.Tired q) reports marked = tt
+in_turn s before (Lacks p) (reported.Shown store) reports marked = tt
+in_turn s before (Tires p) (reported.Accepted made) reports marked = absurd reports
+in_turn s before (Tires p) (reported.Refused q r) reports marked = tt
+in_turn s before (Tires p) (reported.Tired q) reports marked = tt
+in_turn s before (Tires p) (reported.Shown store) reports marked = tt
+in_turn s before Looks (reported.Accepted made) reports marked = absurd reports
+in_turn s before Looks (reported.Refused q r) reports marked = tt
+in_turn s before Looks (reported.Tired q) reports marked = tt
+in_turn s before Looks (reported.Shown store) reports marked = tt
 
 -- the lines of the calls that have ended, with the reported entry
-lines_told : (s : Setup) (past : Past) (answer : Told) → ended_lines s (past_with past answer) ≡ ended_lines s past ++ told_line s past answer
-lines_told s past (told.Accepted made) = refl
-lines_told s past (told.Refused p r) = sym (append-nil (ended_lines s past))
-lines_told s past (told.Tired p) = sym (append-nil (ended_lines s past))
-lines_told s past (told.Shown store) = sym (append-nil (ended_lines s past))
+lines_reported : (s : Setup) (past : Past) (answer : TurnReport) → ended_lines s (past_with past answer) ≡ ended_lines s past ++ reported_line s past answer
+lines_reported s past (reported.Accepted made) = refl
+lines_reported s past (reported.Refused p r) = sym (append-nil (ended_lines s past))
+lines_reported s past (reported.Tired p) = sym (append-nil (ended_lines s past))
+lines_reported s past (reported.Shown store) = sym (append-nil (ended_lines s past))
 
 -- the entries that the table observes, and the lines that are written
-told_heard : (s : Setup) (before : List Happening) (this : Happening) (answer : Told) (old new : TableState) (a b : Option (List ℕ)) → Happens s before this answer → Tells answer old new a b → HasTabled s before old →
-    HasHeard new (past_with (past_after s before) answer) × Appends a b (told_line s (past_after s before) answer)
-told_heard s before this answer old new a b h tells t =
+reported_observed : (s : Setup) (before : List Happening) (this : Happening) (answer : TurnReport) (old new : TableState) (a b : Option (List ℕ)) → Happens s before this answer → Reports answer old new a b → HasTabled s before old →
+    HasObserved new (past_with (past_after s before) answer) × Appends a b (reported_line s (past_after s before) answer)
+reported_observed s before this answer old new a b h reports t =
     let past : Past = past_after s before in
-    subst (λ (s : Setup). HasHeard new (past_with past answer) × Appends a b (told_line s past answer)) t.setup
-    (tells past t.heard (subst (λ (s : Setup). IsInTurn s past answer) (sym t.setup) (in_turn s before this answer h.tells h.marked)))
+    subst (λ (s : Setup). HasObserved new (past_with past answer) × Appends a b (reported_line s past answer)) t.setup
+    (reports past t.observed (subst (λ (s : Setup). IsInTurn s past answer) (sym t.setup) (in_turn s before this answer h.reports h.marked)))
 
-pub told_tabled : (s : Setup) (before : List Happening) (this : Happening) (answer : Told) (old new : TableState) (a b : Option (List ℕ)) → Happens s before this answer → Tells answer old new a b → new.setup ≡ old.setup →
+pub reported_tabled : (s : Setup) (before : List Happening) (this : Happening) (answer : TurnReport) (old new : TableState) (a b : Option (List ℕ)) → Happens s before this answer → Reports answer old new a b → new.setup ≡ old.setup →
     HasTabled s before old → HasTabled s (this ∷ before) new
-told_tabled s before this answer old new a b h tells kept t = record {
+reported_tabled s before this answer old new a b h reports kept t = record {
   setup = kept ∙ t.setup;
-  heard = subst (HasHeard new) (sym (past_told s before this answer h.tells)) (told_heard s before this answer old new a b h tells t).0;
+  observed = subst (HasObserved new) (sym (past_reported s before this answer h.reports)) (reported_observed s before this answer old new a b h reports t).0;
 }
 
-pub told_written : (s : Setup) (before : List Happening) (this : Happening) (answer : Told) (old new : TableState) (a b : Option (List ℕ)) → Happens s before this answer → Tells answer old new a b → HasTabled s before old →
+pub reported_written : (s : Setup) (before : List Happening) (this : Happening) (answer : TurnReport) (old new : TableState) (a b : Option (List ℕ)) → Happens s before this answer → Reports answer old new a b → HasTabled s before old →
     Writes (lines_after s before) (lines_after s (this ∷ before)) a b
-told_written s before this answer old new a b h tells t = record {
-  text = told_line s (past_after s before) answer;
-  is = ap (ended_lines s) (past_told s before this answer h.tells) ∙ lines_told s (past_after s before) answer;
-  taken = (told_heard s before this answer old new a b h tells t).1;
+reported_written s before this answer old new a b h reports t = record {
+  text = reported_line s (past_after s before) answer;
+  is = ap (ended_lines s) (past_reported s before this answer h.reports) ∙ lines_reported s (past_after s before) answer;
+  taken = (reported_observed s before this answer old new a b h reports t).1;
 }
 
-pub told_cut : (s : Setup) (before : List Happening) (this : Happening) (answer : Told) (old : TableState) (a b : Option (List ℕ)) → Happens s before this answer → CutsTold answer old a b → HasTabled s before old →
+pub reported_cut : (s : Setup) (before : List Happening) (this : Happening) (answer : TurnReport) (old : TableState) (a b : Option (List ℕ)) → Happens s before this answer → CutsReported answer old a b → HasTabled s before old →
     WritesPart (lines_after s before) (lines_after s (this ∷ before)) a b
-told_cut s before this answer old a b h cuts t =
+reported_cut s before this answer old a b h cuts t =
     let past : Past = past_after s before in
     record {
-      text = told_line s past answer;
-      is = ap (ended_lines s) (past_told s before this answer h.tells) ∙ lines_told s past answer;
-      front = subst (λ (s : Setup). WritesFront a b (told_line s past answer)) t.setup (cuts past t.heard (subst (λ (s : Setup). IsInTurn s past answer) (sym t.setup) (in_turn s before this answer h.tells h.marked)));
+      text = reported_line s past answer;
+      is = ap (ended_lines s) (past_reported s before this answer h.reports) ∙ lines_reported s past answer;
+      front = subst (λ (s : Setup). WritesFront a b (reported_line s past answer)) t.setup (cuts past t.observed (subst (λ (s : Setup). IsInTurn s past answer) (sym t.setup) (in_turn s before this answer h.reports h.marked)));
     }
 
 -- No call ends with an entry without a mark.
@@ -131,8 +131,8 @@ err_all {A} (Err f) R m n then p is e = err_both {A = A} (Err f) R m n (λ f is 
 -- The whole text.
 
 -- at the start
-pub nothing_tabled : (s : Setup) (table : TableState) → table.setup ≡ s → HasHeard table [] → HasTabled s [] table
-nothing_tabled s table kept heard = record { setup = kept; heard = heard }
+pub nothing_tabled : (s : Setup) (table : TableState) → table.setup ≡ s → HasObserved table [] → HasTabled s [] table
+nothing_tabled s table kept observed = record { setup = kept; observed = observed }
 
 -- at the end: the entries that the table has observed, and the lines of the calls that have ended
 pub all_tabled : {was said : Script} {table table' : TableState} {a b b' : Option (List ℕ)} → was ≡ said → table' ≡ table → b' ≡ b → HasTabled was.setup (happenings was) table → Writes [] (lines_after was.setup (happenings was)) a b →

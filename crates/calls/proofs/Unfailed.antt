@@ -6,7 +6,7 @@ use Rattle.model.specs.{Access, Entry, Mark, Past, first_of, has, is_called, is_
 use Rattle.model.specs.declared.marks.Mark.TheVariants.{Called, Waiting, Entered, Taken, Left, Answered, Failed, Settled, Down, Withdrew, Restarted}
 use Rattle.model.specs.Closings.{Closing, Withdraws, Settles, Frees, Lowers, Quit, Ended}
 use Rattle.world.specs.laws.{Doing, Rests, Lies, Runs, Closes, closes, does_after, doing, goes_on}
-use Rattle.world.specs.process.{ProcessState, left_at, process_after}
+use Rattle.world.specs.process.{ProcessState, remaining_at, process_after}
 
 -- The mark with which a program begins.
 
@@ -103,11 +103,11 @@ pub running_unfailed : (s : Setup) (p : ℕ) (past : Past) → runs_call (doing 
 running_unfailed s p [] is = refl
 running_unfailed s p (e ∷ past) is = whoever s p e past (running_unfailed s p past) (e.process == p) is
 
-left_runs : (now : ProcessState) (d : Doing) → 0 < left_at (record now { doing = d }) → runs_call d ≡ true
+left_runs : (now : ProcessState) (d : Doing) → 0 < remaining_at (record now { doing = d }) → runs_call d ≡ true
 left_runs now Rests some = absurd (omega (arith, some))
 left_runs now Lies some = absurd (omega (arith, some))
 left_runs now (Runs command number at) some = refl
 left_runs now (Closes command number at) some = absurd (omega (arith, some))
 
-pub within_unfailed : (s : Setup) (p : ℕ) (past : Past) → 0 < left_at (process_after s past p) → number_in_call p (has is_failed) past ≡ None
+pub within_unfailed : (s : Setup) (p : ℕ) (past : Past) → 0 < remaining_at (process_after s past p) → number_in_call p (has is_failed) past ≡ None
 within_unfailed s p past some = running_unfailed s p past (left_runs (process_after s past p) (doing s p past) some)

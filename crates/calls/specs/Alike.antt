@@ -4,7 +4,7 @@ use Rattle.plain_store.specs.{Setup, checked}
 use Rattle.model.specs.{AreGiven, Event, Past, past_of, processes}
 use Rattle.calls.specs.Lines.{header, line_of}
 use Rattle.calls.specs.declared.called.Called.{Called}
-use Rattle.calls.specs.Hearing.{ended_call, open_call}
+use Rattle.calls.specs.Observing.{ended_call, open_call}
 use Rattle.calls.specs.Recorded.{record_table}
 use Rattle.judge.specs.any_lock.{verdict_after}
 use Rattle.judge.specs.safe_monitor.declared.verdicts.Verdict.TheVariants.{Good}

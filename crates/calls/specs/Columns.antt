@@ -10,7 +10,7 @@ use Rattle.world.specs.laws.{doing}
 use Rattle.world.specs.process.{number_read}
 use Rattle.world.specs.{ends_overlapped_read}
 use Rattle.calls.specs.declared.called.Accesses.{Accesses}
-use Rattle.calls.specs.declared.called.Called.{Called as Told}
+use Rattle.calls.specs.declared.called.Called.{Called as TurnReport}
 use Rattle.calls.specs.declared.called.Marked.{Marked}
 
 -- Marks.
@@ -130,7 +130,7 @@ marked p past = record {
   wait_end = number_in_call p (has ends_waiting) past;
   taken = number_in_call p (has is_taken) past;
   place = place_in_call p past;
-  left = number_in_call p (has is_left) past;
+  remaining = number_in_call p (has is_left) past;
   answered = number_in_call p (has is_answered) past;
   failed = number_in_call p (has is_failed) past;
   withdrew = number_in_call p (has is_withdrawal) past;
@@ -188,9 +188,9 @@ holds_up p ticket q Ticket n = nat_lt 0 n && is_below n q ticket p
 holds_up p ticket q _ n = false
 
 -- p waits with this ticket, and the number that it has read with this access holds it up, so it waits for the register's owner
-abbrev pub tells_waiting : Setup → ℕ → Option ℕ → Option ℕ → Access → ℕ → Bool
-tells_waiting s p None wait_end a n = false
-tells_waiting s p (Some ticket) wait_end a n = is_none wait_end && (ends_number (width s a.field) a.bit a.how && holds_up p ticket a.owner a.field n)
+abbrev pub reports_waiting : Setup → ℕ → Option ℕ → Option ℕ → Access → ℕ → Bool
+reports_waiting s p None wait_end a n = false
+reports_waiting s p (Some ticket) wait_end a n = is_none wait_end && (ends_number (width s a.field) a.bit a.how && holds_up p ticket a.owner a.field n)
 
 -- no marks
 abbrev pub is_unmarked : List Mark → Bool
@@ -201,7 +201,7 @@ is_unmarked (m ∷ marks) = false
 abbrev pub waited_for : Setup → ℕ → Past → Option ℕ
 waited_for s p past = over_call p None (λ before e newest. elim e.access [
   | None ↦ newest
-  | Some a ↦ cond (is_unmarked e.marks && tells_waiting s p (ticket_in_call p before) (number_in_call p (has ends_waiting) before) a (number_after a.bit a.how (number_read (doing s p before)))) (Some a.owner) newest
+  | Some a ↦ cond (is_unmarked e.marks && reports_waiting s p (ticket_in_call p before) (number_in_call p (has ends_waiting) before) a (number_after a.bit a.how (number_read (doing s p before)))) (Some a.owner) newest
 ]) past
 
 -- the columns from the accesses of p's last call
@@ -215,7 +215,7 @@ accesses s p past = record {
 }
 
 -- p's last call
-abbrev pub called : Setup → ℕ → Past → Told
+abbrev pub called : Setup → ℕ → Past → TurnReport
 called s p past = record {
   process = p;
   call = calls_in (own p past);

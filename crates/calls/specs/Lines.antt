@@ -5,7 +5,7 @@ use Rattle.std.specs.List.{list_any}
 use Rattle.plain_store.specs.{Answer, Setup, answer_text, command_text}
 use Rattle.model.specs.{Past, processes}
 use Rattle.calls.specs.declared.called.Called.{Called}
-use Rattle.calls.specs.Hearing.{ended_call, open_call}
+use Rattle.calls.specs.Observing.{ended_call, open_call}
 
 -- a comma or a quote
 abbrev pub is_special : ℕ → Bool
@@ -51,7 +51,7 @@ numbers newest c =
     ∷ c.marks.entered
     ∷ c.marks.taken
     ∷ c.marks.place
-    ∷ c.marks.left
+    ∷ c.marks.remaining
     ∷ c.marks.answered
     ∷ c.marks.failed
     ∷ c.marks.withdrew

@@ -5,7 +5,7 @@ use Rattle.model.specs.safe_bit.{Move}
 use Rattle.model.specs.safe_bit.declared.Move.TheVariants.{BeginWrite, EndWrite, BeginRead, EndRead, Settle}
 use Rattle.model.specs.{Access, Entry, Past, first_of, has, is_failed, number_in_call, width}
 use Rattle.calls.specs.declared.called.Accesses.{Accesses}
-use Rattle.calls.specs.declared.standing.CallStanding.{CallStanding}
+use Rattle.calls.specs.declared.call_state.CallState.{CallState}
 use Rattle.world.specs.{ends_overlapped_read}
 use Rattle.calls.specs.Columns.{ends_number, is_read, is_read_end, is_write, more_if}
 
@@ -57,7 +57,7 @@ abbrev pub with_passed : ℕ → ℕ → ℕ → ℕ → Accesses → Accesses
 with_passed number reads writes overlapped k = record k { doorway = first_of k.doorway (Some number); reads = k.reads + reads; writes = k.writes + writes; overlapped = k.overlapped + overlapped }
 
 -- the state of a process with these accesses
-abbrev pub passed : ℕ → ℕ → ℕ → ℕ → CallStanding → CallStanding
+abbrev pub passed : ℕ → ℕ → ℕ → ℕ → CallState → CallState
 passed number reads writes overlapped k = record k { last = record k.last { accesses = with_passed number reads writes overlapped k.last.accesses } }
 
 -- p has not failed in its last call

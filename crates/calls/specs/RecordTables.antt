@@ -7,30 +7,30 @@ use Rattle.calls.specs.Recorded.{HasListed, last_access, record_table, recorded_
 use Rattle.judge.specs.Ends.{TrialEnds}
 use Rattle.judge.specs.files.Engines.{Streams}
 use Rattle.judge.specs.files.{Fault}
-use Rattle.judge.specs.safe_monitor.{HasHeard}
-use Rattle.calls.specs.declared.overlaps.OverlapWatch.{OverlapWatch}
+use Rattle.judge.specs.safe_monitor.{HasObserved}
+use Rattle.calls.specs.declared.overlaps.OverlapMonitor.{OverlapMonitor}
 use Rattle.calls.specs.declared.record_table.RecordCalls.{RecordCalls}
 
 -- the table of a record's calls, and the status 0
-pub record TellsCalls (s : Setup) (entries : List Entry) (numbers told : List ℕ) (status : ℕ) : Type 0 where
-  pub table : told ≡ record_table s (reverse entries)
+pub record ReportsCalls (s : Setup) (entries : List Entry) (numbers reported : List ℕ) (status : ℕ) : Type 0 where
+  pub table : reported ≡ record_table s (reverse entries)
   pub answer : status ≡ 0
 
 -- How listing ends: with the table of the record that the whole input says, or with its fault. Each fault has its cause, and nothing was written unless the table is known.
 abbrev pub CallsEnd : Result ℕ Fault → Streams → Streams → Type 0
-CallsEnd = TrialEnds TellsCalls
+CallsEnd = TrialEnds ReportsCalls
 
 -- a watch has heard these entries, and the last access of each process is kept
-pub record Watches (s : Setup) (past : Past) (w : OverlapWatch) : Type 0 where
+pub record Monitors (s : Setup) (past : Past) (w : OverlapMonitor) : Type 0 where
   pub good : checked s ≡ Ok tt
-  pub watched : w.watch.setup ≡ s
-  pub heard : HasHeard w.watch past
+  pub monitored : w.monitor.setup ≡ s
+  pub observed : HasObserved w.monitor past
   pub last : (p : ℕ) → p < 16 → get_or w.last p None ≡ last_access p past
   pub room : length w.last ≡ 16
 
 -- all entries of a record were listed, and the lines of the ended calls were printed
 pub record HasListedAll (c : RecordCalls) (s : Setup) (entries : List Entry) : Type 0 where
-  pub reads : Watches s (reverse entries) c.reads
+  pub reads : Monitors s (reverse entries) c.reads
   pub setup : c.table.setup ≡ s
   pub table : HasListed c.table (reverse entries)
   pub count : c.table.entries ≡ length entries

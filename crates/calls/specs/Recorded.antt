@@ -5,9 +5,9 @@ use Rattle.plain_store.specs.{Setup}
 use Rattle.world.specs.{ends_overlapped}
 use Rattle.calls.specs.declared.called.Accesses.{Accesses}
 use Rattle.calls.specs.declared.called.Called.{Called}
-use Rattle.calls.specs.declared.standing.CallStanding.{CallStanding}
+use Rattle.calls.specs.declared.call_state.CallState.{CallState}
 use Rattle.calls.specs.Columns.{accesses_itself, called_at, count_in_call, first_in_call, is_calling, is_read, is_write, makes_itself, marked}
-use Rattle.calls.specs.Hearing.{TableState}
+use Rattle.calls.specs.Observing.{TableState}
 use Rattle.calls.specs.Lines.{header, line_of}
 
 -- Overlapped reads.
@@ -95,17 +95,17 @@ record_table s past = header ++ (recorded_lines s past ++ open_recorded_lines s 
 -- What a table keeps.
 
 -- what is kept of p
-abbrev pub listed : Setup → ℕ → Past → CallStanding
+abbrev pub listed : Setup → ℕ → Past → CallState
 listed s p past = record { calling = is_calling p past; last = recorded s p past }
 
 -- the call of a process of which this is kept, if it has not ended
-abbrev pub call_kept : Option CallStanding → Option Called
+abbrev pub call_kept : Option CallState → Option Called
 call_kept None = None
 call_kept (Some k) = cond k.calling (Some k.last) None
 
 -- it has listed these entries of a record
 pub record HasListed (t : TableState) (past : Past) : Type 0 where
-  pub standings : (p : ℕ) → p < t.setup.processes → slice_get t.standings p ≡ Some (listed t.setup p past)
+  pub call_states : (p : ℕ) → p < t.setup.processes → slice_get t.call_states p ≡ Some (listed t.setup p past)
   pub entries : t.entries ≡ length past
 
 -- the entry with these parts

@@ -5,29 +5,29 @@ use Rattle.plain_store.specs.declared.Command.TheVariants.{Ask}
 use Rattle.model.specs.{Access, Mark, Past, called_in, first_of}
 use Rattle.model.specs.declared.marks.Mark.TheVariants as mark
 use Rattle.calls.specs.declared.called.Accesses.{Accesses}
-use Rattle.calls.specs.declared.called.EntryKnown.{EntryKnown}
+use Rattle.calls.specs.declared.called.EntryFacts.{EntryFacts}
 use Rattle.calls.specs.declared.called.Marked.{Marked}
-use Rattle.calls.specs.declared.standing.CallStanding.{CallStanding}
-use Rattle.calls.specs.Columns.{answer_after, called, first_if, goes_on_after, is_calling, is_read, is_write, more_if, number_after, tells_waiting}
+use Rattle.calls.specs.declared.call_state.CallState.{CallState}
+use Rattle.calls.specs.Columns.{answer_after, called, first_if, goes_on_after, is_calling, is_read, is_write, more_if, number_after, reports_waiting}
 
 -- the state of p
-abbrev pub standing : Setup → ℕ → Past → CallStanding
-standing s p past = record { calling = is_calling p past; last = called s p past }
+abbrev pub call_state : Setup → ℕ → Past → CallState
+call_state s p past = record { calling = is_calling p past; last = called s p past }
 
 -- no marks
 abbrev pub no_marks : Marked
-no_marks = record { door_end = None; entered = None; wait_end = None; taken = None; place = None; left = None; answered = None; failed = None; withdrew = None; ticket = None; answer = None }
+no_marks = record { door_end = None; entered = None; wait_end = None; taken = None; place = None; remaining = None; answered = None; failed = None; withdrew = None; ticket = None; answer = None }
 
 -- no accesses
 abbrev pub no_accesses : Accesses
 no_accesses = record { doorway = None; reads = 0; writes = 0; overlapped = 0; waited_for = None }
 
 -- without an entry
-abbrev pub at_rest : ℕ → CallStanding
+abbrev pub at_rest : ℕ → CallState
 at_rest p = record { calling = false; last = record { process = p; call = 0; command = Ask; called = 0; accesses = no_accesses; marks = no_marks } }
 
 -- with a call
-abbrev pub begun : ℕ → Command → CallStanding → CallStanding
+abbrev pub begun : ℕ → Command → CallState → CallState
 begun number c k = record {
   calling = true;
   last = record { process = k.last.process; call = k.last.call + 1; command = c; called = number; accesses = no_accesses; marks = no_marks };
@@ -36,10 +36,10 @@ begun number c k = record {
 -- an access shows that p waits for the register's owner, by the number that was read before it, if that is reported
 abbrev pub waits_by : Setup → ℕ → Option ℕ → Option ℕ → Access → Option ℕ → Bool
 waits_by s p ticket wait_end a None = false
-waits_by s p ticket wait_end a (Some n) = tells_waiting s p ticket wait_end a (number_after a.bit a.how n)
+waits_by s p ticket wait_end a (Some n) = reports_waiting s p ticket wait_end a (number_after a.bit a.how n)
 
 -- with the access of the entry with this number, about which these facts are known
-abbrev pub with_access : Setup → ℕ → ℕ → EntryKnown → Marked → Access → Accesses → Accesses
+abbrev pub with_access : Setup → ℕ → ℕ → EntryFacts → Marked → Access → Accesses → Accesses
 with_access s p number known m a k = record {
   doorway = first_if (is_none m.failed) number k.doorway;
   reads = more_if (is_read a.how && is_none m.failed) k.reads;
@@ -54,7 +54,7 @@ with_mark number k (mark.Called c) = k
 with_mark number k (mark.Waiting t) = record k { door_end = first_of k.door_end (Some number); ticket = first_of k.ticket (Some t) }
 with_mark number k mark.Entered = record k { entered = first_of k.entered (Some number); wait_end = first_of k.wait_end (Some number) }
 with_mark number k (mark.Taken place r) = record k { taken = first_of k.taken (Some number); place = first_of k.place (Some place) }
-with_mark number k mark.Left = record k { left = first_of k.left (Some number) }
+with_mark number k mark.Left = record k { remaining = first_of k.remaining (Some number) }
 with_mark number k (mark.Answered a) = record k { answered = first_of k.answered (Some number); answer = answer_after k.answer (mark.Answered a) }
 with_mark number k mark.Failed = record k { failed = first_of k.failed (Some number); wait_end = first_of k.wait_end (Some number) }
 with_mark number k (mark.Settled v) = k
@@ -63,25 +63,25 @@ with_mark number k mark.Withdrew = record k { withdrew = first_of k.withdrew (So
 with_mark number k mark.Restarted = k
 
 -- the state of a process with such a mark
-abbrev pub marked_on : ℕ → CallStanding → Mark → CallStanding
+abbrev pub marked_on : ℕ → CallState → Mark → CallState
 marked_on number k m = record { calling = goes_on_after k.calling m; last = record k.last { marks = with_mark number k.last.marks m } }
 
 -- with these marks
-abbrev pub marked_all : ℕ → CallStanding → List Mark → CallStanding
+abbrev pub marked_all : ℕ → CallState → List Mark → CallState
 marked_all number = fold (marked_on number)
 
 -- with an access
-abbrev pub accessed : Setup → ℕ → EntryKnown → Access → CallStanding → CallStanding
+abbrev pub accessed : Setup → ℕ → EntryFacts → Access → CallState → CallState
 accessed s number known a k = record k { last = record k.last { accesses = with_access s k.last.process number known k.last.marks a k.last.accesses } }
 
 -- with an access, if there is one
-abbrev pub accessed_by : Setup → ℕ → EntryKnown → Option Access → CallStanding → CallStanding
+abbrev pub accessed_by : Setup → ℕ → EntryFacts → Option Access → CallState → CallState
 accessed_by s number known None k = k
 accessed_by s number known (Some a) k = accessed s number known a k
 
 -- with an entry of this number: the call that it begins, or otherwise its access and its marks
-abbrev pub heard : Setup → ℕ → EntryKnown → Option Access → List Mark → CallStanding → CallStanding
-heard s number known access marks k = elim (called_in marks) [
+abbrev pub observed : Setup → ℕ → EntryFacts → Option Access → List Mark → CallState → CallState
+observed s number known access marks k = elim (called_in marks) [
   | Some c ↦ begun number c k
   | None ↦ marked_all number (accessed_by s number known access k) marks
 ]

@@ -6,11 +6,11 @@ use Rattle.plain_store.specs.{Setup}
 use Rattle.model.specs.{Entry, Past, entry_of}
 use Rattle.scenario.specs.files.{LineFault, WritesFront, text_by}
 use Rattle.scenario.specs.{Script, scenario_of}
-use Rattle.scenario_run.specs.{Accepted, Happening, Lacks, Looks, Stepped, Tires, Told, Tries, entry_made, happenings, past_after}
-use Rattle.scenario_run.specs.declared.told.Told.TheVariants as told
-use Rattle.calls.specs.Hearing.{ComesInTurn, HasHeard, TableState, ended_call}
+use Rattle.scenario_run.specs.{Accepted, Happening, Lacks, Looks, UnmarkedStep, Tires, TurnReport, Tries, entry_made, happenings, past_after}
+use Rattle.scenario_run.specs.declared.reports.TurnReport.TheVariants as reported
+use Rattle.calls.specs.Observing.{ComesInTurn, HasObserved, TableState, ended_call}
 use Rattle.calls.specs.Lines.{ended_lines, line_of, table_text}
-use Rattle.calls.specs.declared.called.EntryKnown.{EntryKnown}
+use Rattle.calls.specs.declared.called.EntryFacts.{EntryFacts}
 
 -- the table of the calls of a scenario's run
 abbrev pub tabled : Script → List ℕ
@@ -21,47 +21,47 @@ abbrev pub calls_text : List ℕ → Result (List ℕ) LineFault
 calls_text = text_by scenario_of tabled
 
 -- the past with the entry that is reported, if one is
-abbrev pub past_with : Past → Told → Past
-past_with past (told.Accepted made) = entry_made made ∷ past
-past_with past (told.Refused p refusal) = past
-past_with past (told.Tired p) = past
-past_with past (told.Shown store) = past
+abbrev pub past_with : Past → TurnReport → Past
+past_with past (reported.Accepted made) = entry_made made ∷ past
+past_with past (reported.Refused p refusal) = past
+past_with past (reported.Tired p) = past
+past_with past (reported.Shown store) = past
 
 -- the line of the call that ends with it, if one does
-abbrev pub told_line : Setup → Past → Told → List ℕ
-told_line s past (told.Accepted made) = line_of (length past) (ended_call s past (entry_made made))
-told_line s past (told.Refused p refusal) = []
-told_line s past (told.Tired p) = []
-told_line s past (told.Shown store) = []
+abbrev pub reported_line : Setup → Past → TurnReport → List ℕ
+reported_line s past (reported.Accepted made) = line_of (length past) (ended_call s past (entry_made made))
+reported_line s past (reported.Refused p refusal) = []
+reported_line s past (reported.Tired p) = []
+reported_line s past (reported.Shown store) = []
 
 -- the facts about a reported entry; it has marks, so the number that it read is left out
-abbrev pub known_told : Accepted → EntryKnown
-known_told made = record { overlapped = made.overlapped; read = None }
+abbrev pub known_reported : Accepted → EntryFacts
+known_reported made = record { overlapped = made.overlapped; read = None }
 
 -- the facts about a Step without a mark
-abbrev pub known_step : Stepped → EntryKnown
+abbrev pub known_step : UnmarkedStep → EntryFacts
 known_step made = record { overlapped = made.overlapped; read = made.number }
 
 -- the entry that is reported, if one is, may come next
-abbrev pub IsInTurn : Setup → Past → Told → Type 0
-IsInTurn s past (told.Accepted made) = ComesInTurn s past (entry_made made) (known_told made)
-IsInTurn s past (told.Refused p refusal) = Unit {0}
-IsInTurn s past (told.Tired p) = Unit {0}
-IsInTurn s past (told.Shown store) = Unit {0}
+abbrev pub IsInTurn : Setup → Past → TurnReport → Type 0
+IsInTurn s past (reported.Accepted made) = ComesInTurn s past (entry_made made) (known_reported made)
+IsInTurn s past (reported.Refused p refusal) = Unit {0}
+IsInTurn s past (reported.Tired p) = Unit {0}
+IsInTurn s past (reported.Shown store) = Unit {0}
 
 -- a table has observed what is reported, after any past, and the line of the call that ended was written
-abbrev pub Tells : Told → TableState → TableState → Option (List ℕ) → Option (List ℕ) → Type 0
-Tells answer old new taken then =
-    (past : Past) → HasHeard old past → IsInTurn old.setup past answer → HasHeard new (past_with past answer) × Appends taken then (told_line old.setup past answer)
+abbrev pub Reports : TurnReport → TableState → TableState → Option (List ℕ) → Option (List ℕ) → Type 0
+Reports answer old new taken then =
+    (past : Past) → HasObserved old past → IsInTurn old.setup past answer → HasObserved new (past_with past answer) × Appends taken then (reported_line old.setup past answer)
 
 -- a prefix of that line was written
-abbrev pub CutsTold : Told → TableState → Option (List ℕ) → Option (List ℕ) → Type 0
-CutsTold answer old taken then = (past : Past) → HasHeard old past → IsInTurn old.setup past answer → WritesFront taken then (told_line old.setup past answer)
+abbrev pub CutsReported : TurnReport → TableState → Option (List ℕ) → Option (List ℕ) → Type 0
+CutsReported answer old taken then = (past : Past) → HasObserved old past → IsInTurn old.setup past answer → WritesFront taken then (reported_line old.setup past answer)
 
 -- a table with this setup has observed all that has happened
 pub record HasTabled (s : Setup) (happened : List Happening) (table : TableState) : Type 0 where
   pub setup : table.setup ≡ s
-  pub heard : HasHeard table (past_after s happened)
+  pub observed : HasObserved table (past_after s happened)
 
 -- the lines of the calls that have ended
 abbrev pub lines_after : Setup → List Happening → List ℕ

@@ -2,7 +2,7 @@
 ghost use Rattle.std.specs.Prelude.{◌≡◌, ◌+◌, ◌-◌, ◌^◌, ◌<◌, ◌&&◌, Some, Ok};
 ghost use Rattle.plain_store.specs.{checked};
 ghost use Rattle.model.specs.{is_below as below, width};
-ghost use Rattle.calls.specs.Columns.{ends_number, holds_up as holds, is_read as begins_read, is_write as begins_write, more_if as one_more_if, number_after as after, tells_waiting, with_bit as bit_with};
+ghost use Rattle.calls.specs.Columns.{ends_number, holds_up as holds, is_read as begins_read, is_write as begins_write, more_if as one_more_if, number_after as after, reports_waiting, with_bit as bit_with};
 ghost use Rattle.calls.specs.Passing.{of_read, reads_begun, writes_begun};
 ghost use Rattle.calls.specs.Stepping.{waits_by};
 
@@ -108,16 +108,16 @@ pub(crate) fn waits_by(
         None => false,
         Some(read) => {
             let number = number_after(access, u64::from(read));
-            tells_waiting(setup, process, marks, access, number)
+            reports_waiting(setup, process, marks, access, number)
         }
     }
 }
 
 /// Returns whether a process that has read `number` with this access waits for the register's owner.
 #[inline]
-fn tells_waiting(setup: &Setup, process: u8, marks: &Marked, access: &Access, number: u64) -> bool
+fn reports_waiting(setup: &Setup, process: u8, marks: &Marked, access: &Access, number: u64) -> bool
     requires { checked setup.now ≡ Ok tt }
-    ensures { result ≡ tells_waiting setup.now process marks.now.ticket marks.now.wait_end access.now number }
+    ensures { result ≡ reports_waiting setup.now process marks.now.ticket marks.now.wait_end access.now number }
 {
     let Some(ticket) = marks.ticket else {
         return false;

@@ -18,7 +18,7 @@ pub struct Accesses {
 
 /// Facts about an entry that its access and its marks do not show.
 #[derive(Clone, Copy)]
-pub struct EntryKnown {
+pub struct EntryFacts {
     /// Whether it ends a read that a write overlapped.
     pub overlapped: bool,
     /// The number that was read before it, as far as it was read. It may be omitted for an entry with marks, and for one that
@@ -38,7 +38,7 @@ pub struct Marked {
     pub taken: Option<u64>,
     /// The position of its command in the history, from 0.
     pub place: Option<u64>,
-    pub left: Option<u64>,
+    pub remaining: Option<u64>,
     pub answered: Option<u64>,
     pub failed: Option<u64>,
     pub withdrew: Option<u64>,

@@ -6,33 +6,33 @@ ghost use Rattle.scenario.specs.files.Engines.{Ran, streams};
 ghost use Rattle.scenario.specs.files.{ReadsFront, WritesFront};
 ghost use Rattle.scenario.specs.{script};
 ghost use Rattle.scenario_run.specs.{IsWriteFault, ended, failed_write};
-ghost use Rattle.calls.specs.Hearing.{HasHeard, open_call};
+ghost use Rattle.calls.specs.Observing.{HasObserved, open_call};
 ghost use Rattle.calls.specs.Lines.{header, line_of, open_lines};
 ghost use Rattle.calls.specs.Tables.{calls_text, tabled};
 
-use crate::hearing::{Tabler, write_if};
+use crate::observing::{CallsWriter, write_if};
 use crate::printed::HEADER;
 use crate::table::CallTable;
-use scenario_run::{Course, Until};
+use scenario_run::{ScenarioRun, PlayLimit};
 use plain_store::Setup;
-use scenario::progress::Onlooker;
+use scenario::progress::ProgressObserver;
 use scenario::{Fault, Scenario, Sink, Source, read_input, read_scenario, write_all};
 use std::alloc::Global;
 
 /// Reads a whole scenario file, and then writes the table of the calls of its run: a line of comma-separated values for each
 /// call, as it ends. It takes at most `INPUT_LIMIT` bytes from the start of the input, even if it fails. It reports its
-/// progress to the onlooker; `Nobody` ignores the reports.
+/// progress to the onlooker; `NoObserver` ignores the reports.
 ///
 /// # Errors
 ///
 /// Returns [`Fault::Read`] or [`Fault::Memory`] if the file cannot be read, and [`Fault::Line`] for its first fault; nothing is
 /// written then. Returns [`Fault::Memory`] or [`Fault::Write`] if an allocation or the output fails later; a prefix of the
 /// table is written then.
-pub fn run_calls<R: Source, W: Sink, L: Onlooker>(
+pub fn run_calls<R: Source, W: Sink, L: ProgressObserver>(
     alloc: Global,
     input: &mut R,
     output: &mut W,
-    onlooker: &mut L,
+    progress_observer: &mut L,
 ) -> Result<(), Fault>
     requires reads { R.failures input.old < 2 ^ 64 - 1 }
     requires writes { W.failures output.old < 2 ^ 64 - 1 }
@@ -43,15 +43,15 @@ pub fn run_calls<R: Source, W: Sink, L: Onlooker>(
 {
     let file = read_input(alloc, input)?;
     let scenario = read_scenario(alloc, file.as_slice())?;
-    table_scenario(alloc, &scenario, output, onlooker)
+    table_scenario(alloc, &scenario, output, progress_observer)
 }
 
 /// Writes the table of the calls of a scenario's run.
-fn table_scenario<W: Sink, L: Onlooker>(
+fn table_scenario<W: Sink, L: ProgressObserver>(
     alloc: Global,
     scenario: &Scenario,
     output: &mut W,
-    onlooker: &mut L,
+    progress_observer: &mut L,
 ) -> Result<(), Fault>
     requires { W.failures output.old < 2 ^ 64 - 1 }
     ensures ok { OnOk result (Appends (W.taken output.old) (W.taken output.new) (tabled (script scenario.now))) }
@@ -59,15 +59,15 @@ fn table_scenario<W: Sink, L: Onlooker>(
     ensures fault { IfErr result IsWriteFault }
     ensures failures { W.failures output.new ≡ W.failures output.old + failed_write result }
 {
-    let mut course = Course::new(alloc, &scenario.setup)?;
+    let mut scenario_run = ScenarioRun::new(alloc, &scenario.setup)?;
     let mut table = CallTable::new(alloc, &scenario.setup)?;
     write_header(output)?;
-    let mut tabler = Tabler {
+    let mut tabler = CallsWriter {
         alloc,
         table: &mut table,
         output,
     };
-    course.play_all(scenario, Until::End, &mut tabler, onlooker)?;
+    scenario_run.play_all(scenario, PlayLimit::End, &mut tabler, progress_observer)?;
     write_open(alloc, &scenario.setup, &table, output)
 }
 
@@ -91,8 +91,8 @@ fn write_open<W: Sink>(
 ) -> Result<(), Fault>
     requires writes { W.failures output.old < 2 ^ 64 - 1 }
     requires setup { table.now.setup ≡ setup.now }
-    ensures ok { OnOk result ((past : Past) → HasHeard table.now past → Appends (W.taken output.old) (W.taken output.new) (open_lines setup.now past)) }
-    ensures front { (past : Past) → HasHeard table.now past → WritesFront (W.taken output.old) (W.taken output.new) (open_lines setup.now past) }
+    ensures ok { OnOk result ((past : Past) → HasObserved table.now past → Appends (W.taken output.old) (W.taken output.new) (open_lines setup.now past)) }
+    ensures front { (past : Past) → HasObserved table.now past → WritesFront (W.taken output.old) (W.taken output.new) (open_lines setup.now past) }
     ensures fault { IfErr result IsWriteFault }
     ensures failures { W.failures output.new ≡ W.failures output.old + failed_write result }
 {
@@ -111,8 +111,8 @@ fn write_open_call<W: Sink>(
 ) -> Result<(), Fault>
     requires writes { W.failures output.old < 2 ^ 64 - 1 }
     requires process { process < table.now.setup.processes }
-    ensures ok { OnOk result ((past : Past) → HasHeard table.now past → Appends (W.taken output.old) (W.taken output.new) (line_of (length past - 1) (open_call table.now.setup process past))) }
-    ensures front { (past : Past) → HasHeard table.now past → WritesFront (W.taken output.old) (W.taken output.new) (line_of (length past - 1) (open_call table.now.setup process past)) }
+    ensures ok { OnOk result ((past : Past) → HasObserved table.now past → Appends (W.taken output.old) (W.taken output.new) (line_of (length past - 1) (open_call table.now.setup process past))) }
+    ensures front { (past : Past) → HasObserved table.now past → WritesFront (W.taken output.old) (W.taken output.new) (line_of (length past - 1) (open_call table.now.setup process past)) }
     ensures fault { IfErr result IsWriteFault }
     ensures failures { W.failures output.new ≡ W.failures output.old + failed_write result }
 {

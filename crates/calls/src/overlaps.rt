@@ -5,28 +5,28 @@ ghost use Rattle.plain_store.specs.declared.setups.Setup.{Setup as Given};
 ghost use Rattle.model.specs.{Past};
 ghost use Rattle.model.specs.declared.marks.Mark.{Mark as Marking};
 ghost use Rattle.calls.specs.Recorded.{begins_read_of, entry_with, overlaps_in};
-ghost use Rattle.calls.specs.RecordTables.{Watches};
+ghost use Rattle.calls.specs.RecordTables.{Monitors};
 
-use judge::Watch;
+use judge::SafeMonitor;
 use plain_store::Setup;
 use model::{Access, Move};
 use std::alloc::{AllocError, Global};
 
 /// A watch on the bits, and the last access of each process.
 #[derive(Drop)]
-pub(crate) struct OverlapWatch {
-    pub watch: Watch,
+pub(crate) struct OverlapMonitor {
+    pub monitor: SafeMonitor,
     pub last: [Option<Access>; 16],
 }
 
-impl OverlapWatch {
+impl OverlapMonitor {
     /// Creates one that has heard no entry. Fails only if an allocation fails.
-    pub fn new(alloc: Global, setup: &Setup) -> Result<OverlapWatch, AllocError>
+    pub fn new(alloc: Global, setup: &Setup) -> Result<OverlapMonitor, AllocError>
         requires { checked setup.now ≡ Ok tt }
-        ensures { IfOk result (Watches setup.now []) }
+        ensures { IfOk result (Monitors setup.now []) }
     {
-        Ok(OverlapWatch {
-            watch: Watch::new(alloc, setup)?,
+        Ok(OverlapMonitor {
+            monitor: SafeMonitor::new(alloc, setup)?,
             last: [None; 16],
         })
     }
@@ -34,12 +34,12 @@ impl OverlapWatch {
     /// Returns whether the next entry, of this process and with this access, ends a read that a write overlapped.
     #[inline(always)]
     pub fn overlaps(&self, process: u8, access: &Option<Access>) -> bool
-        ensures { (s : Given) (past : Past) (marks : List Marking) → Watches s past self.now → process < s.processes →
+        ensures { (s : Given) (past : Past) (marks : List Marking) → Monitors s past self.now → process < s.processes →
             result ≡ overlaps_in s past (entry_with process access.now marks) }
     {
         match access {
             None => false,
-            Some(access) => self.has_begun(process, access) && self.watch.overlaps(access),
+            Some(access) => self.has_begun(process, access) && self.monitor.overlaps(access),
         }
     }
 
@@ -56,11 +56,11 @@ impl OverlapWatch {
 
     /// Adds the next entry, of this process and with this access.
     #[inline(always)]
-    pub fn hear(&mut self, process: u8, access: &Option<Access>)
-        ensures { (s : Given) (past : Past) (marks : List Marking) → Watches s past self.old →
-            Watches s (entry_with process access.now marks ∷ past) self.new }
+    pub fn observe(&mut self, process: u8, access: &Option<Access>)
+        ensures { (s : Given) (past : Past) (marks : List Marking) → Monitors s past self.old →
+            Monitors s (entry_with process access.now marks ∷ past) self.new }
     {
-        self.watch.hear(access);
+        self.monitor.observe(access);
         if let Some(access) = access {
             self.keep(process, *access);
         }

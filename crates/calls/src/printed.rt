@@ -81,7 +81,7 @@ fn numbers(called: &Called, newest: u64) -> [Option<u64>; 15]
         marks.entered,
         marks.taken,
         marks.place,
-        marks.left,
+        marks.remaining,
         marks.answered,
         marks.failed,
         marks.withdrew,

@@ -4,13 +4,13 @@ ghost use Rattle.plain_store.specs.declared.setups.Setup.{Setup as Given};
 ghost use Rattle.model.specs.{Entry as Noted, Past};
 ghost use Rattle.calls.specs.Lines.{line_of};
 ghost use Rattle.calls.specs.Recorded.{HasListed, entry_with, open_recorded_lines};
-ghost use Rattle.calls.specs.RecordTables.{HasListedAll, TellsCalls};
+ghost use Rattle.calls.specs.RecordTables.{HasListedAll, ReportsCalls};
 
 use crate::called::Called;
-use crate::overlaps::OverlapWatch;
+use crate::overlaps::OverlapMonitor;
 use crate::printed::{HEADER, print_call};
 use crate::table::CallTable;
-use judge::{DONE, Hearer, Telling};
+use judge::{DONE, EntryObserver, Reporting};
 use plain_store::Setup;
 use model::{Access, Mark};
 use std::alloc::{AllocError, Global};
@@ -18,24 +18,24 @@ use std::alloc::{AllocError, Global};
 /// The table of the calls of a record, up to the newest entry.
 #[derive(Drop)]
 pub(crate) struct RecordCalls {
-    pub reads: OverlapWatch,
+    pub reads: OverlapMonitor,
     pub table: CallTable,
     /// The first line of the table, and the lines of the calls that have ended.
     pub lines: Vec<u8>,
 }
 
-impl Hearer for RecordCalls {
-    ghost HasHeard = { λ calls s entries numbers. HasListedAll calls s entries };
+impl EntryObserver for RecordCalls {
+    ghost HasObserved = { λ calls s entries numbers. HasListedAll calls s entries };
 
     ghost count = { λ calls. calls.table.entries };
 
-    ghost Tells = { TellsCalls };
+    ghost Reports = { ReportsCalls };
 
     fn begin(alloc: Global, setup: &Setup) -> Result<RecordCalls, AllocError> {
         let mut lines = Vec::new(alloc);
         lines.extend_from_slice(HEADER.as_bytes())?;
         Ok(RecordCalls {
-            reads: OverlapWatch::new(alloc, setup)?,
+            reads: OverlapMonitor::new(alloc, setup)?,
             table: CallTable::new(alloc, setup)?,
             lines,
         })
@@ -49,26 +49,26 @@ impl Hearer for RecordCalls {
         access: &Option<Access>,
         marks: &[Mark],
     ) -> Result<(), AllocError> {
-        self.hear(alloc, process, access, marks)
+        self.observe(alloc, process, access, marks)
     }
 
     fn entries(&self) -> u64 {
         self.table.entries()
     }
 
-    fn tell(&self, alloc: Global) -> Result<Telling, AllocError> {
+    fn report(&self, alloc: Global) -> Result<Reporting, AllocError> {
         let mut text = Vec::new(alloc);
         text.extend_from_slice(self.lines.as_slice())?;
         self.print_open(alloc, &mut text)?;
-        Ok(Telling { text, status: DONE })
+        Ok(Reporting { text, status: DONE })
     }
 
-    ghost counts = { λ calls s entries numbers heard. heard.count };
+    ghost counts = { λ calls s entries numbers observed. observed.count };
 }
 
 impl RecordCalls {
     /// Adds the next entry, by its parts, and prints the line of the call that ends with it.
-    fn hear(
+    fn observe(
         &mut self,
         alloc: Global,
         process: u8,
@@ -82,7 +82,7 @@ impl RecordCalls {
         let overlapped = self.reads.overlaps(process, access);
         let newest = self.table.entries();
         let ended = self.table.list(process, overlapped, access, marks);
-        self.reads.hear(process, access);
+        self.reads.observe(process, access);
         print_if(alloc, &ended, newest, &mut self.lines)
     }
 

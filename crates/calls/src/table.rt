@@ -2,14 +2,14 @@ ghost use Rattle.std.specs.Prelude.{◌≡◌, ◌+◌, ◌-◌, ◌^◌, ◌<�
 ghost use Rattle.plain_store.specs.{checked};
 ghost use Rattle.model.specs.{Entry as Noted, Past, called_in as command_in, calls_in, own};
 ghost use Rattle.model.specs.declared.access.Access.{Access as AccessMade};
-ghost use Rattle.calls.specs.declared.standing.CallStanding.{CallStanding as Stood};
+ghost use Rattle.calls.specs.declared.call_state.CallState.{CallState as Stood};
 ghost use Rattle.calls.specs.Passing.{HasNotFailed, Passes};
-ghost use Rattle.calls.specs.Hearing.{ComesInTurn, GoesBy, GoesOn, HasHeard, ended_call, open_call};
+ghost use Rattle.calls.specs.Observing.{ComesInTurn, GoesBy, GoesOn, HasObserved, ended_call, open_call};
 ghost use Rattle.calls.specs.Recorded.{HasListed, Lists, call_kept, entry_with, open_recorded};
 
 use crate::accesses::{is_of_read, reads_among, writes_among};
-use crate::called::{Accesses, Called, EntryKnown, Marked};
-use crate::standing::{CallStanding, called_in};
+use crate::called::{Accesses, Called, EntryFacts, Marked};
+use crate::call_state::{CallState, called_in};
 use plain_store::{NestedTypes, Setup};
 use model::{Access, Mark, Move};
 use std::alloc::{AllocError, Global};
@@ -20,19 +20,19 @@ use std::marker::Model;
 #[derive(Drop)]
 pub struct CallTable {
     setup: Setup,
-    standings: Vec<CallStanding>,
+    call_states: Vec<CallState>,
     entries: u64,
 }
 
 impl Model for CallTable {
-    ghost use Rattle.calls.specs.declared.standing.CallStanding.{CallStanding as Stood};
-    ghost use Rattle.calls.specs.Hearing.{IsTable, TableState};
+    ghost use Rattle.calls.specs.declared.call_state.CallState.{CallState as Stood};
+    ghost use Rattle.calls.specs.Observing.{IsTable, TableState};
 
     ghost Value = { TableState };
 
-    ghost view = { λ t. record { setup = t.setup; standings = t.standings.items; entries = t.entries } };
+    ghost view = { λ t. record { setup = t.setup; call_states = t.call_states.items; entries = t.entries } };
 
-    ghost invariant = { λ t. IsTable (record { setup = t.setup; standings = t.standings.items; entries = t.entries }) };
+    ghost invariant = { λ t. IsTable (record { setup = t.setup; call_states = t.call_states.items; entries = t.entries }) };
 }
 
 impl CallTable {
@@ -44,17 +44,17 @@ impl CallTable {
     pub fn new(alloc: Global, setup: &Setup) -> Result<CallTable, AllocError>
         requires { checked setup.now ≡ Ok tt }
         ensures setup { IfOk result (λ table. table.setup ≡ setup.now) }
-        ensures heard { IfOk result (λ table. HasHeard table []) }
+        ensures observed { IfOk result (λ table. HasObserved table []) }
     {
         let _nested: NestedTypes = None;
         let _calls: Option<(Accesses, Called, Marked)> = None;
-        let mut standings = Vec::new(alloc);
+        let mut call_states = Vec::new(alloc);
         for process in 0..setup.processes {
-            standings.push(CallStanding::at_rest(process))?;
+            call_states.push(CallState::at_rest(process))?;
         }
         Ok(CallTable {
             setup: *setup,
-            standings,
+            call_states,
             entries: 0,
         })
     }
@@ -62,18 +62,18 @@ impl CallTable {
     /// Observes one more entry of a run, and returns the call that ends with it, if one does. It is inlined, so that no call is
     /// looked for if the caller's entry has no mark.
     #[inline(always)]
-    pub fn hear(
+    pub fn observe(
         &mut self,
         process: u8,
-        known: &EntryKnown,
+        known: &EntryFacts,
         access: &Option<Access>,
         marks: &[Mark],
     ) -> Option<Called>
         requires { self.old.entries < 2 ^ 64 - 1 }
         ensures setup { self.new.setup ≡ self.old.setup }
         ensures count { self.new.entries ≡ self.old.entries + 1 }
-        ensures ended { (past : Past) (e : Noted) → e.process ≡ process → e.access ≡ access.now → e.marks ≡ marks.now → HasHeard self.old past → ComesInTurn self.old.setup past e known.now → result ≡ ended_call self.old.setup past e }
-        ensures heard { (past : Past) (e : Noted) → e.process ≡ process → e.access ≡ access.now → e.marks ≡ marks.now → HasHeard self.old past → ComesInTurn self.old.setup past e known.now → HasHeard self.new (e ∷ past) }
+        ensures ended { (past : Past) (e : Noted) → e.process ≡ process → e.access ≡ access.now → e.marks ≡ marks.now → HasObserved self.old past → ComesInTurn self.old.setup past e known.now → result ≡ ended_call self.old.setup past e }
+        ensures observed { (past : Past) (e : Noted) → e.process ≡ process → e.access ≡ access.now → e.marks ≡ marks.now → HasObserved self.old past → ComesInTurn self.old.setup past e known.now → HasObserved self.new (e ∷ past) }
     {
         self.go_on(process, known, access, marks)
     }
@@ -86,7 +86,7 @@ impl CallTable {
         requires room { self.old.entries + steps < 2 ^ 64 }
         ensures setup { self.new.setup ≡ self.old.setup }
         ensures count { self.new.entries ≡ self.old.entries + steps }
-        ensures heard { (past after : Past) (access : AccessMade) → access.how ≡ newest → Passes self.old.setup process steps access overlapped past after → process < self.old.setup.processes → HasNotFailed process past → HasHeard self.old past → HasHeard self.new after }
+        ensures observed { (past after : Past) (access : AccessMade) → access.how ≡ newest → Passes self.old.setup process steps access overlapped past after → process < self.old.setup.processes → HasNotFailed process past → HasObserved self.old past → HasObserved self.new after }
     {
         // This test comes first: where the caller's move is known, the compiler keeps only one of the two calls.
         if is_of_read(newest) {
@@ -102,16 +102,16 @@ impl CallTable {
         requires { self.old.entries + steps < 2 ^ 64 }
         ensures setup { self.new.setup ≡ self.old.setup }
         ensures count { self.new.entries ≡ self.old.entries + steps }
-        ensures goes { (before : Stood) → slice_get self.old.standings process ≡ Some before → GoesBy self.old process reads writes overlapped before self.new.standings }
+        ensures goes { (before : Stood) → slice_get self.old.call_states process ≡ Some before → GoesBy self.old process reads writes overlapped before self.new.call_states }
     {
         let _nested: NestedTypes = None;
         let number = self.entries;
         self.entries += u64::from(steps);
         let place = usize::from(process);
-        if place >= self.standings.len() {
+        if place >= self.call_states.len() {
             return;
         }
-        self.standings[place].pass(number, reads, writes, overlapped);
+        self.call_states[place].pass(number, reads, writes, overlapped);
     }
 
     /// Adds one more entry to the state of its process, and returns the call that ends with it, if one does.
@@ -119,24 +119,24 @@ impl CallTable {
     fn go_on(
         &mut self,
         process: u8,
-        known: &EntryKnown,
+        known: &EntryFacts,
         access: &Option<Access>,
         marks: &[Mark],
     ) -> Option<Called>
         requires { self.old.entries < 2 ^ 64 - 1 }
         ensures setup { self.new.setup ≡ self.old.setup }
         ensures count { self.new.entries ≡ self.old.entries + 1 }
-        ensures goes { (before : Stood) → slice_get self.old.standings process ≡ Some before → GoesOn self.old process known.now access.now marks.now before result self.new.standings }
-        ensures stray { self.old.setup.processes ≤ process → (result ≡ None) × (self.new.standings ≡ self.old.standings) }
+        ensures goes { (before : Stood) → slice_get self.old.call_states process ≡ Some before → GoesOn self.old process known.now access.now marks.now before result self.new.call_states }
+        ensures stray { self.old.setup.processes ≤ process → (result ≡ None) × (self.new.call_states ≡ self.old.call_states) }
     {
         let _nested: NestedTypes = None;
         let number = self.entries;
         self.entries += 1;
         let place = usize::from(process);
-        if place >= self.standings.len() {
+        if place >= self.call_states.len() {
             return None;
         }
-        self.standings[place].hear(&self.setup, number, known, access, marks)
+        self.call_states[place].observe(&self.setup, number, known, access, marks)
     }
 
     /// Returns the number of entries.
@@ -156,19 +156,19 @@ impl CallTable {
     /// Returns the number of calls that a process has made.
     pub fn calls(&self, process: u8) -> u64
         requires { process < self.now.setup.processes }
-        ensures { (past : Past) → HasHeard self.now past → result ≡ calls_in (own process past) }
+        ensures { (past : Past) → HasObserved self.now past → result ≡ calls_in (own process past) }
     {
-        self.standings[usize::from(process)].last.call
+        self.call_states[usize::from(process)].last.call
     }
 
     /// Returns the call of a process, if it has not ended.
     pub fn open_call(&self, process: u8) -> Option<Called>
         requires { process < self.now.setup.processes }
-        ensures { (past : Past) → HasHeard self.now past → result ≡ open_call self.now.setup process past }
+        ensures { (past : Past) → HasObserved self.now past → result ≡ open_call self.now.setup process past }
     {
-        let standing = &self.standings[usize::from(process)];
-        if standing.calling {
-            Some(standing.last)
+        let call_state = &self.call_states[usize::from(process)];
+        if call_state.calling {
+            Some(call_state.last)
         } else {
             None
         }
@@ -194,7 +194,7 @@ impl CallTable {
             (entry_with process access.now marks.now) result }
     {
         let replaced = self.replaced(process, marks);
-        let known = EntryKnown {
+        let known = EntryFacts {
             overlapped,
             read: None,
         };
@@ -222,7 +222,7 @@ impl CallTable {
     #[inline(always)]
     fn replaced(&self, process: u8, marks: &[Mark]) -> Option<Called>
         ensures call { result ≡ cond (is_some (command_in marks.now))
-            (call_kept (slice_get self.now.standings process)) None }
+            (call_kept (slice_get self.now.call_states process)) None }
         ensures stray { self.now.setup.processes ≤ process → result ≡ None }
     {
         if called_in(marks).is_none() {
@@ -233,12 +233,12 @@ impl CallTable {
 
     /// Returns the open call of a process.
     fn call_kept(&self, process: u8) -> Option<Called>
-        ensures call { result ≡ call_kept (slice_get self.now.standings process) }
+        ensures call { result ≡ call_kept (slice_get self.now.call_states process) }
         ensures stray { self.now.setup.processes ≤ process → result ≡ None }
     {
-        let standing = self.standings.get(usize::from(process))?;
-        if standing.calling {
-            Some(standing.last)
+        let call_state = self.call_states.get(usize::from(process))?;
+        if call_state.calling {
+            Some(call_state.last)
         } else {
             None
         }

@@ -25,10 +25,10 @@ exact n k s e word some parts little =
     let split : a * k + r ≡ word = div-add-mod' word k in
     let below : r < k = mod-lt word some in
     let whole : word * s ≡ a * n + m = ap (λ w. w * s) (sym split) ∙ apart a k r s ∙ ap (λ x. a * x + r * s) parts ∙ together a n e (r * s) in
-    let left : m * k ≡ r * n + word * e = shared a e r s k ∙ ap (λ x. r * x + a * k * e) parts ∙ ends r n e (a * k) ∙ ap (λ w. r * n + w * e) split in
+    let remaining : m * k ≡ r * n + word * e = shared a e r s k ∙ ap (λ x. r * x + a * k * e) parts ∙ ends r n e (a * k) ∙ ap (λ w. r * n + w * e) split in
     let room : suc r * n ≤ k * n = mul-le-mul_right n below in
-    let less : m < n = lt_of_mul-lt-mul_right k (omega (arith, left, little, room, suc-mul r n, mul_comm n k)) in
-    ap (λ x. x % n * k / n) whole ∙ ap (λ x. x * k / n) (mod-mul-add a n m less) ∙ ap (λ x. x / n) left ∙ div-mul-add r n (word * e) little
+    let less : m < n = lt_of_mul-lt-mul_right k (omega (arith, remaining, little, room, suc-mul r n, mul_comm n k)) in
+    ap (λ x. x % n * k / n) whole ∙ ap (λ x. x * k / n) (mod-mul-add a n m less) ∙ ap (λ x. x / n) remaining ∙ div-mul-add r n (word * e) little
 
 -- the share of one of k parts is too large by less than one of them
 pub fair : (k word : ℕ) → 1 ≤ k → k < 2 ^ 32 → word < 2 ^ 32 → (word * share_of k) % 2 ^ 64 * k / 2 ^ 64 ≡ word % k

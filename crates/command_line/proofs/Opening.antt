@@ -102,12 +102,12 @@ pub opened_behind : (front rest : List ℕ) → is_some (word_opened (said_words
 opened_behind front rest is = ap (λ l. word_opened (filter is_said (map words_of l))) (lines_behind_end front rest) ∙ opened_more (lines (front ++ 10 ∷ [])) (lines rest) is
 
 -- a front of `input_limit` bytes determines the first word, whatever comes after it
-pub told_by_length : (front rest : List ℕ) → input_limit ≤ length front → first_word (front ++ rest) ≡ first_word front
-told_by_length front rest long = ap (λ t. unwrap_or (word_opened (said_words t)) Other) (take-append-le input_limit front rest long)
+pub reported_by_length : (front rest : List ℕ) → input_limit ≤ length front → first_word (front ++ rest) ≡ first_word front
+reported_by_length front rest long = ap (λ t. unwrap_or (word_opened (said_words t)) Other) (take-append-le input_limit front rest long)
 
 -- a front in which a line that is not skipped has its end determines the first word too
-pub told_by_line : (front ended rest : List ℕ) → length front < input_limit → ((more : List ℕ) → lines (front ++ more) ≡ lines ended ++ lines (drop (length ended) front ++ more)) → is_some (word_opened (said_words ended)) ≡ true → first_word (front ++ rest) ≡ first_word front
-told_by_line front ended rest few splits is = ap (λ o. unwrap_or o Other) (all (front ++ rest) (take-of rest) ∙ sym (all front (take-of-none)))
+pub reported_by_line : (front ended rest : List ℕ) → length front < input_limit → ((more : List ℕ) → lines (front ++ more) ≡ lines ended ++ lines (drop (length ended) front ++ more)) → is_some (word_opened (said_words ended)) ≡ true → first_word (front ++ rest) ≡ first_word front
+reported_by_line front ended rest few splits is = ap (λ o. unwrap_or o Other) (all (front ++ rest) (take-of rest) ∙ sym (all front (take-of-none)))
   where
     all : (text : List ℕ) → (more : List ℕ) × (take input_limit text ≡ front ++ more) → word_opened (said_words (take input_limit text)) ≡ word_opened (said_words ended)
     all text more = ap (λ t. word_opened (said_words t)) more.1 ∙ ap (λ l. word_opened (filter is_said (map words_of l))) (splits more.0) ∙ opened_more (lines ended) (lines (drop (length ended) front ++ more.0)) is
@@ -119,21 +119,21 @@ told_by_line front ended rest few splits is = ap (λ o. unwrap_or o Other) (all 
     take-of-none = ([], take_all input_limit front (omega (arith, few)) ∙ sym (append-nil front))
 
 -- the first word of a front is that of all bytes: there are no others, or they do not matter
-pub told_whole : (unseen rest : Option (List ℕ)) (front : List ℕ) (is : FirstWord) → is ≡ first_word front → Keeps unseen (prepend_known front rest) → IsAtEnd rest → IfSome unseen (λ text. is ≡ first_word text)
-told_whole None rest front is same keeps end = tt
-told_whole (Some text) None front is same keeps end = absurd keeps
-told_whole (Some text) (Some more) front is same keeps end = same ∙ ap first_word (sym (append-nil front) ∙ ap (λ l. front ++ l) (sym end) ∙ keeps)
+pub reported_whole : (unseen rest : Option (List ℕ)) (front : List ℕ) (is : FirstWord) → is ≡ first_word front → Keeps unseen (prepend_known front rest) → IsAtEnd rest → IfSome unseen (λ text. is ≡ first_word text)
+reported_whole None rest front is same keeps end = tt
+reported_whole (Some text) None front is same keeps end = absurd keeps
+reported_whole (Some text) (Some more) front is same keeps end = same ∙ ap first_word (sym (append-nil front) ∙ ap (λ l. front ++ l) (sym end) ∙ keeps)
 
-pub told_front : (unseen rest : Option (List ℕ)) (front : List ℕ) (is : FirstWord) → is ≡ first_word front → Keeps unseen (prepend_known front rest) → ((rest : List ℕ) → first_word (front ++ rest) ≡ first_word front) → IfSome unseen (λ text. is ≡ first_word text)
-told_front None rest front is same keeps tells = tt
-told_front (Some text) None front is same keeps tells = absurd keeps
-told_front (Some text) (Some more) front is same keeps tells = same ∙ sym (tells more) ∙ ap first_word keeps
+pub reported_front : (unseen rest : Option (List ℕ)) (front : List ℕ) (is : FirstWord) → is ≡ first_word front → Keeps unseen (prepend_known front rest) → ((rest : List ℕ) → first_word (front ++ rest) ≡ first_word front) → IfSome unseen (λ text. is ≡ first_word text)
+reported_front None rest front is same keeps reports = tt
+reported_front (Some text) None front is same keeps reports = absurd keeps
+reported_front (Some text) (Some more) front is same keeps reports = same ∙ sym (reports more) ∙ ap first_word keeps
 
 -- with each block the bytes that are left to look at are fewer, or their end was found
-pub fewer_left : (looked longer : ℕ) (some next : Bool) → some ≡ true → looked < input_limit → looked + cond next 1 0 ≤ longer → (input_limit - longer) + cond next 1 0 < (input_limit - looked) + cond some 1 0
-fewer_left looked longer true true is left more = omega (arith, left, more)
-fewer_left looked longer true false is left more = omega (arith, left, more)
-fewer_left looked longer false next is left more = absurd (cc)
+pub fewer_remaining : (looked longer : ℕ) (some next : Bool) → some ≡ true → looked < input_limit → looked + cond next 1 0 ≤ longer → (input_limit - longer) + cond next 1 0 < (input_limit - looked) + cond some 1 0
+fewer_remaining looked longer true true is remaining more = omega (arith, remaining, more)
+fewer_remaining looked longer true false is remaining more = omega (arith, remaining, more)
+fewer_remaining looked longer false next is remaining more = absurd (cc)
 
 -- The next bytes of such a source.
 

@@ -8,7 +8,7 @@ use Rattle.std.specs.Option.{is_some, unwrap_or}
 use Rattle.std.specs.Str.{bytes_eq}
 use Rattle.files.specs.{FaultKind, at_line, begins_with, begun, fault_if, file_of, input_limit, is_said, lines, said_words, statement_read, word, words_of, words_read, ◌>>=◌}
 use Rattle.files.specs.declared.faults.FaultKind.TheVariants.{NotFirst, TooLong}
-use Rattle.files.proofs.CutTexts.{tells_at_limit}
+use Rattle.files.proofs.CutTexts.{reports_at_limit}
 use Rattle.files.proofs.Passing.{Passed, no_fault, passed}
 use Rattle.files.proofs.Said.{first_then, said_read, text_said}
 use Rattle.model.specs.{Entry}
@@ -95,8 +95,8 @@ recognizes_records text said read = by
 
     by : IsLookedAt text → first_word text ≡ Record
     by (Whole few) = looked_at text Record few opens
-    by (Front front rest is few told) =
-        ap (λ o. unwrap_or o Other) (ap (λ t. word_opened (said_words (take input_limit t))) is ∙ line_looked_at front rest few told ∙ ap (λ t. word_opened (said_words t)) (sym is) ∙ opens)
+    by (Front front rest is few reported) =
+        ap (λ o. unwrap_or o Other) (ap (λ t. word_opened (said_words (take input_limit t))) is ∙ line_looked_at front rest few reported ∙ ap (λ t. word_opened (said_words t)) (sym is) ∙ opens)
 
 -- Scenarios.
 
@@ -125,6 +125,6 @@ leaves_scenarios text script read = by (nat_lt (length text) input_limit) refl
     by true is = let few : length text ≤ input_limit = grind (arith, nat_tests) in looked_at text Other few (said_otherwise (said_words text) a.value (text_said scenario_grammar text a.value a.first).1)
     by false is =
         let many : input_limit ≤ length text = grind (arith, nat_tests) in
-        let whole = tells_at_limit scenario_grammar text many in
+        let whole = reports_at_limit scenario_grammar text many in
         let no : Ok a.value ≡ Err whole.fault = sym a.first ∙ whole.right in
         absurd (cc)

@@ -78,5 +78,5 @@ recognizes_traces text said read = by
 
     by : IsLookedAt text → first_word text ≡ Trace
     by (Whole few) = looked_at text Trace few opens
-    by (Front front rest is few told) =
-        ap (λ o. unwrap_or o Other) (ap (λ t. word_opened (said_words (take input_limit t))) is ∙ line_looked_at front rest few told ∙ ap (λ t. word_opened (said_words t)) (sym is) ∙ opens)
+    by (Front front rest is few reported) =
+        ap (λ o. unwrap_or o Other) (ap (λ t. word_opened (said_words (take input_limit t))) is ∙ line_looked_at front rest few reported ∙ ap (λ t. word_opened (said_words t)) (sym is) ∙ opens)

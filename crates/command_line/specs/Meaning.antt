@@ -10,10 +10,10 @@ use Rattle.clap.specs.Words.{subcommand_of, takes, with_rule, with_subcommand}
 use Rattle.clap.specs.declared.builder.action.ArgAction.TheVariants.{SetTrue}
 use Rattle.command_line.specs.declared.commands.Engine.{Engine}
 use Rattle.command_line.specs.declared.commands.CommandEntry.{CommandEntry}
-use Rattle.command_line.specs.declared.commands.Intake.{Intake}
+use Rattle.command_line.specs.declared.commands.InputMode.{InputMode}
 use Rattle.command_line.specs.declared.commands.TheConstants.{COMMANDS as table}
 use Rattle.command_line.specs.declared.words.Invocation.{Invocation}
-use Rattle.command_line.specs.declared.words.Invocation.TheVariants.{Run, Tell}
+use Rattle.command_line.specs.declared.words.Invocation.TheVariants.{Run, Report}
 use Rattle.command_line.specs.declared.pages.HelpPage.{HelpPage}
 use Rattle.command_line.specs.declared.pages.HelpPage.TheVariants.{Words, Run as OfRun, Faults, Command as OfCommand}
 
@@ -65,7 +65,7 @@ says e = record {
 
 -- a row of the table
 abbrev pub CommandRow : Type 0
-CommandRow = Bor Text × Engine × Intake × Bor (List (Bor Text)) × Bor Text × Bor Text
+CommandRow = Bor Text × Engine × InputMode × Bor (List (Bor Text)) × Bor Text × Bor Text
 
 abbrev pub listed : CommandRow → Listed
 listed r = record { name = r.0.now; engine = r.1; options = map (λ o. o.now) r.3.now }
@@ -119,16 +119,16 @@ pub record Running : Type 0 where
 -- a request: to run a file, or to print the page with all words, with the words of a run, with the faults, or with a command
 pub data Meant : Type 0 where
   runs : Running → Meant
-  tells_words : Meant
-  tells_run : Meant
-  tells_faults : Meant
-  tells_command : Engine → Meant
+  reports_words : Meant
+  reports_run : Meant
+  reports_faults : Meant
+  reports_command : Engine → Meant
 
-abbrev pub told_by : HelpPage → Meant
-told_by Words = tells_words
-told_by OfRun = tells_run
-told_by Faults = tells_faults
-told_by (OfCommand e) = tells_command e.engine
+abbrev pub reported_by : HelpPage → Meant
+reported_by Words = reports_words
+reported_by OfRun = reports_run
+reported_by Faults = reports_faults
+reported_by (OfCommand e) = reports_command e.engine
 
 abbrev pub asked_by : Invocation → Meant
 asked_by (Run r) = runs (record {
@@ -145,7 +145,7 @@ asked_by (Run r) = runs (record {
   explain = r.explain;
   quiet = r.quiet;
 })
-asked_by (Tell page) = told_by page
+asked_by (Report page) = reported_by page
 
 -- the command of this name
 unfoldable pub command_named : Text → Option Listed
@@ -153,10 +153,10 @@ command_named name = find (λ c. bytes_eq c.name name) commands
 
 -- the page of this name
 abbrev pub page_named : Text → Option Meant
-page_named name = if bytes_eq name (codes "help") then Some tells_words
-    else if bytes_eq name (codes "run") then Some tells_run
-    else if bytes_eq name (codes "faults") then Some tells_faults
-    else option_map (λ e. tells_command e.engine) (command_named name)
+page_named name = if bytes_eq name (codes "help") then Some reports_words
+    else if bytes_eq name (codes "run") then Some reports_run
+    else if bytes_eq name (codes "faults") then Some reports_faults
+    else option_map (λ e. reports_command e.engine) (command_named name)
 
 abbrev pub is_true : Option Text → Bool
 is_true text = option_map_or (λ t. bytes_eq t (codes "true")) text false
@@ -189,7 +189,7 @@ asked_of_none quiet = option_map (λ plain. asked_of_file quiet plain [] (codes 
 
 -- the request of `help`, with the word after it
 abbrev pub asked_of_help : Option Text → Option Meant
-asked_of_help None = Some tells_words
+asked_of_help None = Some reports_words
 asked_of_help (Some name) = page_named name
 
 abbrev pub asked_of_command : Bool → Text → List Found → Option Meant

@@ -37,7 +37,7 @@ pub enum Engine {
 
 /// How an engine reads its file.
 #[derive(Clone, Copy, PartialEq, Eq)]
-pub enum Intake {
+pub enum InputMode {
     /// It reads the whole file before it runs it.
     Whole,
     /// It runs the file while it reads it, so the input shows the progress.
@@ -52,7 +52,7 @@ pub struct CommandEntry {
     /// The engine that runs the file.
     pub engine: Engine,
     /// How that engine reads the file.
-    pub intake: Intake,
+    pub intake: InputMode,
     /// Its options, in addition to `--quiet` and `--explain`, which all commands have. `at`, `from` and `to`
     /// have a value.
     pub options: &'static [&'static str],
@@ -69,7 +69,7 @@ pub struct CommandEntry {
 pub type CommandRow = (
     &'static str,
     Engine,
-    Intake,
+    InputMode,
     &'static [&'static str],
     &'static str,
     &'static str,
@@ -77,11 +77,11 @@ pub type CommandRow = (
 
 /// The commands, in the order in which the general page lists them. Arguments, pages and the program learn of commands
 /// from this table and from the pages alone.
-pub const COMMANDS: [(&str, Engine, Intake, &[&str], &str, &str); 12] = [
+pub const COMMANDS: [(&str, Engine, InputMode, &[&str], &str, &str); 12] = [
     (
         "plain",
         Engine::Plain,
-        Intake::Whole,
+        InputMode::Whole,
         &[],
         "runs the calls of a scenario on the sequential store",
         "examples/counters.bakery",
@@ -89,7 +89,7 @@ pub const COMMANDS: [(&str, Engine, Intake, &[&str], &str, &str); 12] = [
     (
         "bits",
         Engine::Bits,
-        Intake::Whole,
+        InputMode::Whole,
         &[],
         "makes the accesses of a bits file to one safe bit",
         "examples/overlap.bits",
@@ -97,7 +97,7 @@ pub const COMMANDS: [(&str, Engine, Intake, &[&str], &str, &str); 12] = [
     (
         "replay",
         Engine::Replay,
-        Intake::Whole,
+        InputMode::Whole,
         &[],
         "runs a scenario: calls, single steps, failures, restarts",
         "examples/torn-commit.bakery",
@@ -105,7 +105,7 @@ pub const COMMANDS: [(&str, Engine, Intake, &[&str], &str, &str); 12] = [
     (
         "audit",
         Engine::Audit,
-        Intake::Whole,
+        InputMode::Whole,
         &[],
         "runs a scenario and judges each entry of its record",
         "examples/torn-commit.bakery",
@@ -113,7 +113,7 @@ pub const COMMANDS: [(&str, Engine, Intake, &[&str], &str, &str); 12] = [
     (
         "sweep",
         Engine::Sweep,
-        Intake::Whole,
+        InputMode::Whole,
         &[],
         "counts the runs in which a process fails after one event",
         "examples/torn-commit.bakery",
@@ -121,7 +121,7 @@ pub const COMMANDS: [(&str, Engine, Intake, &[&str], &str, &str); 12] = [
     (
         "race",
         Engine::Race,
-        Intake::Whole,
+        InputMode::Whole,
         &[],
         "makes the calls of a scenario, each process on its thread",
         "examples/refusals.bakery",
@@ -129,7 +129,7 @@ pub const COMMANDS: [(&str, Engine, Intake, &[&str], &str, &str); 12] = [
     (
         "record",
         Engine::Record,
-        Intake::Whole,
+        InputMode::Whole,
         &[],
         "prints the record of a scenario's run, entry by entry",
         "examples/failed-read.bakery",
@@ -137,7 +137,7 @@ pub const COMMANDS: [(&str, Engine, Intake, &[&str], &str, &str); 12] = [
     (
         "state",
         Engine::State,
-        Intake::Whole,
+        InputMode::Whole,
         &["at"],
         "prints the state after the first events of a run or a record",
         "--at 820 examples/torn-commit.bakery",
@@ -145,7 +145,7 @@ pub const COMMANDS: [(&str, Engine, Intake, &[&str], &str, &str); 12] = [
     (
         "calls",
         Engine::Calls,
-        Intake::Whole,
+        InputMode::Whole,
         &[],
         "prints a table of the calls of a run, a record or a trace (CSV)",
         "examples/torn-commit.bakery",
@@ -153,7 +153,7 @@ pub const COMMANDS: [(&str, Engine, Intake, &[&str], &str, &str); 12] = [
     (
         "judge",
         Engine::Judge,
-        Intake::Streamed,
+        InputMode::Streamed,
         &["any-lock", "why"],
         "judges a record of this lock or of any lock, or a trace",
         "examples/failed-read.record",
@@ -161,7 +161,7 @@ pub const COMMANDS: [(&str, Engine, Intake, &[&str], &str, &str); 12] = [
     (
         "draw",
         Engine::Draw,
-        Intake::Whole,
+        InputMode::Whole,
         &["reads", "judge", "any-lock", "accesses", "from", "to"],
         "draws a run, a record or a trace, as a page for a browser",
         "examples/torn-commit.bakery",
@@ -169,7 +169,7 @@ pub const COMMANDS: [(&str, Engine, Intake, &[&str], &str, &str); 12] = [
     (
         "draw-svg",
         Engine::DrawSvg,
-        Intake::Whole,
+        InputMode::Whole,
         &["reads", "judge", "any-lock", "accesses", "from", "to"],
         "draws the same as one SVG",
         "examples/torn-commit.bakery",

@@ -20,15 +20,15 @@ mod terminal;
 mod words;
 
 pub use causes::{NotedReader, NotedWriter, reason_of};
-pub use commands::{CommandEntry, Engine, Intake};
+pub use commands::{CommandEntry, Engine, InputMode};
 pub use entry_ranges::{EntryRange, RangeFault, entries_asked};
 pub use files::{Fault, FromRead, IntoWrite, LineFault, Sink, Source, exit_status};
 pub use first_word::FirstWord;
 pub use fronts::FrontSink;
 pub use notices::{Notice, USAGE_STATUS, shown_word};
-pub use opened::Opened;
+pub use opened::SniffedSource;
 pub use pages::HelpPage;
-pub use progress::{WatchedInput, Watcher};
+pub use progress::{CountedInput, ProgressPrinter};
 pub use recognized::{
     records_are_recognized, scenarios_have_another_first_word, traces_are_recognized,
 };

@@ -2,7 +2,7 @@
 ghost use Rattle.std.specs.Prelude.{◌≡◌, ◌⊎◌, IfOk, OnErr};
 ghost use Rattle.clap.specs.Words.{kind_of};
 
-use crate::pages::{HelpPage, tell};
+use crate::pages::{HelpPage, print_page};
 use crate::program::{matched, program};
 use clap::Error;
 use clap::error::ErrorKind;
@@ -31,11 +31,11 @@ impl Notice {
     /// # Errors
     ///
     /// Returns [`Fault::Memory`] if an allocation fails or failed, and [`Fault::Write`] if standard output cannot be written.
-    pub fn tell<T: Print + Eprint + AllocGlobal>(&self, rt: &T) -> Result<u8, Fault> {
+    pub fn print_page<T: Print + Eprint + AllocGlobal>(&self, rt: &T) -> Result<u8, Fault> {
         match self.error.kind() {
             ErrorKind::OutOfMemory => Err(Fault::Memory),
-            ErrorKind::DisplayHelp => self.tell_page(rt),
-            ErrorKind::DisplayVersion => tell(rt, self.text(rt.alloc())?.as_str()),
+            ErrorKind::DisplayHelp => self.print_named_page(rt),
+            ErrorKind::DisplayVersion => print_page(rt, self.text(rt.alloc())?.as_str()),
             _ => {
                 let _ = rt.eprint(&self.error);
                 Ok(USAGE_STATUS)
@@ -44,10 +44,10 @@ impl Notice {
     }
 
     /// Prints the page that `clap` names: the help of each command is the name of its page (`program`).
-    fn tell_page<T: Print + AllocGlobal>(&self, rt: &T) -> Result<u8, Fault> {
+    fn print_named_page<T: Print + AllocGlobal>(&self, rt: &T) -> Result<u8, Fault> {
         let name = self.text(rt.alloc())?;
         let page = HelpPage::named(name.as_str().trim_end());
-        page.unwrap_or(HelpPage::Words).tell(rt)
+        page.unwrap_or(HelpPage::Words).print_page(rt)
     }
 
     /// Prints the text that `clap` has for it.
@@ -92,7 +92,7 @@ fn error_as_shown(alloc: Global, words: &[String], kind: ErrorKind) -> Result<Er
 }
 
 /// Returns the error that was made, or the allocation failure of making it.
-pub fn told(made: Result<Error, AllocError>) -> Error
+pub fn reported(made: Result<Error, AllocError>) -> Error
     ensures ok { IfOk made (λ e. result ≡ e) }
     ensures memory { OnErr made (kind_of result ≡ ErrorKind.OutOfMemory) }
 {

@@ -15,7 +15,7 @@ const BLOCK: usize = 1024;
 
 /// A source, the bytes of its front that were read for its kind, and the number of these that were given.
 #[derive(Drop)]
-pub struct Opened<R: Source + Drop> {
+pub struct SniffedSource<R: Source + Drop> {
     /// The first word of the first line that is not skipped.
     pub first_word: FirstWord,
     front: Vec<u8>,
@@ -23,28 +23,28 @@ pub struct Opened<R: Source + Drop> {
     source: R,
 }
 
-impl<R: Source + Drop> Opened<R> {
+impl<R: Source + Drop> SniffedSource<R> {
     /// Reads the front of a source, at most as far as a scenario file may go. The bytes to come stay the same.
     ///
     /// # Errors
     ///
     /// Returns `Read` if a read fails, and `Memory` if an allocation fails.
     #[tactic(auto, using(crate::proofs::Opening::keeps_none, crate::proofs::Opening::keeps_both))]
-    pub fn new(alloc: Global, unseen: R) -> Result<Opened<R>, Fault>
+    pub fn new(alloc: Global, unseen: R) -> Result<SniffedSource<R>, Fault>
         requires { R.failures unseen < 2 ^ 64 - 1 }
         ensures word { IfOk result (λ opened. IfSome (R.to_come unseen) (λ text. opened.first_word ≡ first_word_of text)) }
-        ensures bytes { IfOk result (λ opened. Keeps (R.to_come unseen) (⟦<Opened<R> as Source>⟧.to_come opened)) }
-        ensures failures { IfOk result (λ opened. ⟦<Opened<R> as Source>⟧.failures opened ≡ R.failures unseen) }
+        ensures bytes { IfOk result (λ opened. Keeps (R.to_come unseen) (⟦<SniffedSource<R> as Source>⟧.to_come opened)) }
+        ensures failures { IfOk result (λ opened. ⟦<SniffedSource<R> as Source>⟧.failures opened ≡ R.failures unseen) }
         ensures fault { IfErr result IsReadFault }
     {
         let mut source = unseen;
         let mut front = Vec::new(alloc);
         let mut some = true;
         let mut goal = 0;
-        'blocks: while some && !tells_now(alloc, front.as_slice(), &mut goal)? {
+        'blocks: while some && !reports_now(alloc, front.as_slice(), &mut goal)? {
             some = look(&mut source, &mut front)?;
         }
-        Ok(Opened {
+        Ok(SniffedSource {
             first_word: word_of_front(alloc, front.as_slice())?,
             front,
             given: 0,
@@ -53,12 +53,12 @@ impl<R: Source + Drop> Opened<R> {
     }
 
     /// Returns the source without a look at it, as if its first word were another.
-    pub fn unseen(alloc: Global, source: R) -> Opened<R>
+    pub fn unseen(alloc: Global, source: R) -> SniffedSource<R>
         ensures word { result.first_word ≡ Other }
-        ensures bytes { Keeps (R.to_come source) (⟦<Opened<R> as Source>⟧.to_come result) }
-        ensures failures { ⟦<Opened<R> as Source>⟧.failures result ≡ R.failures source }
+        ensures bytes { Keeps (R.to_come source) (⟦<SniffedSource<R> as Source>⟧.to_come result) }
+        ensures failures { ⟦<SniffedSource<R> as Source>⟧.failures result ≡ R.failures source }
     {
-        Opened {
+        SniffedSource {
             first_word: FirstWord::Other,
             front: Vec::new(alloc),
             given: 0,
@@ -67,7 +67,7 @@ impl<R: Source + Drop> Opened<R> {
     }
 }
 
-impl<R: Source + Drop> Source for Opened<R> {
+impl<R: Source + Drop> Source for SniffedSource<R> {
     ghost to_come = { λ o. prepend_known (drop o.given o.front.items) (R.to_come o.source) };
 
     ghost failures = { λ o. R.failures o.source };
@@ -125,9 +125,9 @@ fn look<R: Source>(source: &mut R, front: &mut Vec<u8>) -> Result<bool, Fault>
 }
 
 /// Returns whether a file that begins with these bytes has the same first word, whatever follows them.
-fn is_told(alloc: Global, front: &[u8]) -> Result<bool, Fault>
-    ensures told { IfOk result (λ told. told ≡ true → (rest : List ℕ) → first_word_of (front.now ++ rest) ≡ first_word_of front.now) }
-    ensures not_yet { IfOk result (λ told. told ≡ false → length front.now < input_limit) }
+fn is_reported(alloc: Global, front: &[u8]) -> Result<bool, Fault>
+    ensures reported { IfOk result (λ reported. reported ≡ true → (rest : List ℕ) → first_word_of (front.now ++ rest) ≡ first_word_of front.now) }
+    ensures not_yet { IfOk result (λ reported. reported ≡ false → length front.now < input_limit) }
     ensures fault { IfErr result IsReadFault }
     ensures failures { failed_reading result ≡ 0 }
 {
@@ -139,10 +139,10 @@ fn is_told(alloc: Global, front: &[u8]) -> Result<bool, Fault>
 
 /// Returns the same, and asks again only when the front is twice as long as when it was asked last. So all the answers about
 /// a long front take no longer than a few looks at it.
-fn tells_now(alloc: Global, front: &[u8], goal: &mut usize) -> Result<bool, Fault>
+fn reports_now(alloc: Global, front: &[u8], goal: &mut usize) -> Result<bool, Fault>
     requires { goal.old ≤ input_limit }
-    ensures told { IfOk result (λ told. told ≡ true → (rest : List ℕ) → first_word_of (front.now ++ rest) ≡ first_word_of front.now) }
-    ensures not_yet { IfOk result (λ told. told ≡ false → length front.now < input_limit) }
+    ensures reported { IfOk result (λ reported. reported ≡ true → (rest : List ℕ) → first_word_of (front.now ++ rest) ≡ first_word_of front.now) }
+    ensures not_yet { IfOk result (λ reported. reported ≡ false → length front.now < input_limit) }
     ensures goal { goal.new ≤ input_limit }
     ensures fault { IfErr result IsReadFault }
     ensures failures { failed_reading result ≡ 0 }
@@ -150,7 +150,7 @@ fn tells_now(alloc: Global, front: &[u8], goal: &mut usize) -> Result<bool, Faul
     if front.len() < *goal {
         return Ok(false);
     }
-    if is_told(alloc, front)? {
+    if is_reported(alloc, front)? {
         return Ok(true);
     }
     *goal = front.len().saturating_mul(2).min(INPUT_LIMIT);

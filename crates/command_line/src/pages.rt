@@ -1,6 +1,6 @@
 //! The help pages, as they are printed.
 ghost use Rattle.std.specs.Prelude.{◌≡◌, option_map};
-ghost use Rattle.command_line.specs.Meaning.{page_named, told_by};
+ghost use Rattle.command_line.specs.Meaning.{page_named, reported_by};
 
 use crate::commands::{CommandEntry, command_named, command_rows};
 use crate::help::{FAULTS, MORE_WORDS, RUN, WORDS};
@@ -24,7 +24,7 @@ pub enum HelpPage {
 impl HelpPage {
     /// Returns the page of this name: the name of a command, or `help`, `run` or `faults`.
     pub fn named(name: &str) -> Option<HelpPage>
-        ensures { option_map told_by result ≡ page_named name.now }
+        ensures { option_map reported_by result ≡ page_named name.now }
     {
         match name {
             "help" => Some(HelpPage::Words),
@@ -39,9 +39,9 @@ impl HelpPage {
     /// # Errors
     ///
     /// Returns [`Fault::Memory`] if an allocation fails, and [`Fault::Write`] if the write fails.
-    pub fn tell<T: Print + AllocGlobal>(self, rt: &T) -> Result<u8, Fault> {
+    pub fn print_page<T: Print + AllocGlobal>(self, rt: &T) -> Result<u8, Fault> {
         match self.text(rt.alloc()) {
-            Ok(text) => tell(rt, text.as_str()),
+            Ok(text) => print_page(rt, text.as_str()),
             Err(AllocError) => Err(Fault::Memory),
         }
     }
@@ -62,7 +62,7 @@ impl HelpPage {
 /// # Errors
 ///
 /// Returns [`Fault::Write`] if the write fails.
-pub fn tell<T: Print>(rt: &T, text: &str) -> Result<u8, Fault> {
+pub fn print_page<T: Print>(rt: &T, text: &str) -> Result<u8, Fault> {
     match rt.write_all(text.as_bytes()) {
         Ok(()) => Ok(DONE),
         Err(_) => Err(Fault::Write),

@@ -1,7 +1,7 @@
 //! The line that shows the progress of a run, on standard error.
 ghost use Rattle.std.specs.Prelude.{◌≡◌};
 
-use files::progress::{LinePlace, Onlooker, Reached};
+use files::progress::{LinePosition, ProgressObserver, ProgressPoint};
 use files::{Failed, Source};
 use std::time::{Clock, Duration};
 
@@ -16,16 +16,16 @@ const CLEAR: &str = "\r\x1b[K";
 
 /// Shows the progress that an engine reports.
 #[derive(Drop)]
-pub struct Watcher<'a, T> {
+pub struct ProgressPrinter<'a, T> {
     rt: &'a T,
     progress: Option<ShownProgress>,
 }
 
-impl<'a, T: Clock + Eprint> Watcher<'a, T> {
+impl<'a, T: Clock + Eprint> ProgressPrinter<'a, T> {
     /// Creates it. Nothing is shown unless `shows` is true.
-    pub fn new(rt: &'a T, shows: bool) -> Watcher<'a, T> {
+    pub fn new(rt: &'a T, shows: bool) -> ProgressPrinter<'a, T> {
         let progress = if shows { ShownProgress::new(rt) } else { None };
-        Watcher { rt, progress }
+        ProgressPrinter { rt, progress }
     }
 
     /// Removes the line, if it is shown.
@@ -37,8 +37,8 @@ impl<'a, T: Clock + Eprint> Watcher<'a, T> {
     }
 }
 
-impl<'a, T: Clock + Eprint> Onlooker for Watcher<'a, T> {
-    fn reached(&mut self, reached: Reached<'_>) {
+impl<'a, T: Clock + Eprint> ProgressObserver for ProgressPrinter<'a, T> {
+    fn reached(&mut self, reached: ProgressPoint<'_>) {
         let Some(progress) = &mut self.progress else {
             return;
         };
@@ -46,14 +46,14 @@ impl<'a, T: Clock + Eprint> Onlooker for Watcher<'a, T> {
             return;
         };
         match reached {
-            Reached::Line(place) => show_line(self.rt, place, millis),
-            Reached::Swept { events, of } => show_swept(self.rt, events, of, millis),
+            ProgressPoint::Line(place) => show_line(self.rt, place, millis),
+            ProgressPoint::Swept { events, of } => show_swept(self.rt, events, of, millis),
         }
     }
 }
 
 /// Shows that a line of the file is run, after this number of milliseconds.
-fn show_line<T: Eprint>(rt: &T, place: LinePlace<'_>, millis: u128) {
+fn show_line<T: Eprint>(rt: &T, place: LinePosition<'_>, millis: u128) {
     let (events, number) = (place.events(), place.number());
     let speed = in_a_second(events, millis);
     let again = if place.is_again() {
@@ -74,7 +74,7 @@ fn show_swept<T: Eprint>(rt: &T, events: u64, of: u64, millis: u128) {
 
 /// A source before another one, which counts the lines that were read and shows their number.
 #[derive(Drop)]
-pub struct WatchedInput<'a, S: Source + Drop, T> {
+pub struct CountedInput<'a, S: Source + Drop, T> {
     source: S,
     rt: &'a T,
     progress: Option<ShownProgress>,
@@ -82,14 +82,14 @@ pub struct WatchedInput<'a, S: Source + Drop, T> {
     lines: u64,
 }
 
-impl<'a, S: Source + Drop, T: Clock + Eprint> WatchedInput<'a, S, T> {
+impl<'a, S: Source + Drop, T: Clock + Eprint> CountedInput<'a, S, T> {
     /// Creates it before a source. Nothing is shown unless `shows` is true.
-    pub fn new(source: S, rt: &'a T, shows: bool) -> WatchedInput<'a, S, T>
-        ensures to_come { ⟦<WatchedInput<'a, S, T> as Source>⟧.to_come result ≡ S.to_come source }
-        ensures failures { ⟦<WatchedInput<'a, S, T> as Source>⟧.failures result ≡ S.failures source }
+    pub fn new(source: S, rt: &'a T, shows: bool) -> CountedInput<'a, S, T>
+        ensures to_come { ⟦<CountedInput<'a, S, T> as Source>⟧.to_come result ≡ S.to_come source }
+        ensures failures { ⟦<CountedInput<'a, S, T> as Source>⟧.failures result ≡ S.failures source }
     {
         let progress = if shows { ShownProgress::new(rt) } else { None };
-        WatchedInput {
+        CountedInput {
             source,
             rt,
             progress,
@@ -131,10 +131,10 @@ impl<'a, S: Source + Drop, T: Clock + Eprint> WatchedInput<'a, S, T> {
     }
 }
 
-impl<'a, S: Source + Drop, T: Clock + Eprint> Source for WatchedInput<'a, S, T> {
-    ghost to_come = { λ watched. S.to_come watched.source };
+impl<'a, S: Source + Drop, T: Clock + Eprint> Source for CountedInput<'a, S, T> {
+    ghost to_come = { λ monitored. S.to_come monitored.source };
 
-    ghost failures = { λ watched. S.failures watched.source };
+    ghost failures = { λ monitored. S.failures monitored.source };
 
     fn next_byte(&mut self) -> Result<Option<u8>, Failed> {
         let byte = self.source.next_byte()?;

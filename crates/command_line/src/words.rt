@@ -5,7 +5,7 @@ ghost use Rattle.std.specs.String.{string_bytes};
 ghost use Rattle.command_line.specs.Meaning.{RunsEachFile, asked_by, asked_of, asked_of_command, asked_of_file, asked_of_help, asked_of_none, bakery, has_flag, meaning, says};
 
 use crate::commands::{CommandEntry, command_named};
-use crate::notices::{Notice, no_such_page, no_text, shown_error, told};
+use crate::notices::{Notice, no_such_page, no_text, shown_error, reported};
 use crate::pages::HelpPage;
 use crate::program::matched;
 use clap::error::ErrorKind;
@@ -48,7 +48,7 @@ pub enum Invocation<'a> {
     /// A command runs a file.
     Run(Request<'a>),
     /// A page is printed.
-    Tell(HelpPage),
+    Report(HelpPage),
 }
 
 /// Returns the program's words, of which the first is its own name.
@@ -61,7 +61,7 @@ fn given_words<T: Env + AllocGlobal>(rt: &T) -> Result<Vec<String>, Error> {
     let arguments = match env::args(rt) {
         Ok(arguments) => arguments,
         Err(error) if error.kind() == io::ErrorKind::OutOfMemory => return Err(AllocError.into()),
-        Err(_) => return Err(told(no_text(rt.alloc()))),
+        Err(_) => return Err(reported(no_text(rt.alloc()))),
     };
     let mut words = Vec::new(rt.alloc());
     for word in arguments {
@@ -97,9 +97,9 @@ fn parse<'a>(alloc: Global, words: &'a [String]) -> Result<Invocation<'a>, Error
     match matched(alloc, words) {
         Ok(matches) => match asked_of(&matches) {
             Some(asked) => Ok(asked),
-            None => Err(told(no_such_page(alloc, page_asked_for(&matches)))),
+            None => Err(reported(no_such_page(alloc, page_asked_for(&matches)))),
         },
-        Err(error) => Err(told(shown_error(alloc, words, error))),
+        Err(error) => Err(reported(shown_error(alloc, words, error))),
     }
 }
 
@@ -174,8 +174,8 @@ fn asked_of_help<'a>(own: &ArgMatches<'a>) -> Option<Invocation<'a>>
         ≡ asked_of_help (first_of (codes "PAGE") (rows_of (found_of own.now))) }
 {
     match text_of(own, "PAGE") {
-        None => Some(Invocation::Tell(HelpPage::Words)),
-        Some(name) => Some(Invocation::Tell(HelpPage::named(name)?)),
+        None => Some(Invocation::Report(HelpPage::Words)),
+        Some(name) => Some(Invocation::Report(HelpPage::named(name)?)),
     }
 }
 

@@ -1,5 +1,5 @@
 //! The texts that state what was expected at the position of a word.
-use crate::forms::{Item, LineForm};
+use crate::forms::{FormItem, LineForm};
 use crate::kinds::FileKind;
 use crate::near::add_near;
 use scenario::forms::{Letter, Operand};
@@ -61,12 +61,12 @@ pub(crate) fn add_form(form: &LineForm, text: &mut String) -> Result<(), AllocEr
     for item in &form.items {
         text.push_str(" ")?;
         match *item {
-            Item::Key(word) => text.push_str(word)?,
-            Item::Choice => add_between(form.keys.as_slice(), "|", text)?,
-            Item::Operand(operand) => text.push_str(letters(operand))?,
-            Item::Bit => text.push_str("bit")?,
-            Item::Cell => text.push_str("cell")?,
-            Item::OfTrace(operand) => text.push_str(trace_letters(operand))?,
+            FormItem::Key(word) => text.push_str(word)?,
+            FormItem::Choice => add_between(form.keys.as_slice(), "|", text)?,
+            FormItem::Operand(operand) => text.push_str(letters(operand))?,
+            FormItem::Bit => text.push_str("bit")?,
+            FormItem::Cell => text.push_str("cell")?,
+            FormItem::OfTrace(operand) => text.push_str(trace_letters(operand))?,
         }
     }
     Ok(())

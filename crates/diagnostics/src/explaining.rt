@@ -1,8 +1,8 @@
 //! The lines that explain a fault.
-use crate::kept::KeptFile;
+use crate::kept::StoredFile;
 use crate::kinds::FileKind;
 use crate::lines::{Span, SplitLine};
-use crate::places::Faulty;
+use crate::places::FileWithFault;
 use crate::traces::FaultyTrace;
 use bstr::ByteSlice;
 use files::{FaultKind, FromLines, LineFault, read_any_line};
@@ -23,7 +23,7 @@ use trace_file::TraceReader;
 pub fn explanation(
     alloc: Global,
     kind: FileKind,
-    kept: &KeptFile,
+    kept: &StoredFile,
     fault: &LineFault,
 ) -> Result<String, AllocError> {
     let mut text = String::new(alloc);
@@ -37,7 +37,7 @@ pub fn explanation(
 fn add_explanation(
     alloc: Global,
     kind: FileKind,
-    kept: &KeptFile,
+    kept: &StoredFile,
     fault: &LineFault,
     text: &mut String,
 ) -> Result<(), AllocError> {
@@ -46,7 +46,7 @@ fn add_explanation(
         kind.add_all_first_lines(text)?;
         return text.push_str(" as the first line\n");
     };
-    let faulty = Faulty {
+    let faulty = FileWithFault {
         alloc,
         kind,
         setup: setup_before(alloc, kind, kept.front(), fault.line)?,

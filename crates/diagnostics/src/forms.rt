@@ -14,7 +14,7 @@ use trace_file::forms::{
 
 /// An item of a form.
 #[derive(Clone, Copy)]
-pub(crate) enum Item {
+pub(crate) enum FormItem {
     /// This key word.
     Key(&'static str),
     /// A choice of key words, of which the line has none.
@@ -33,7 +33,7 @@ pub(crate) enum Item {
 #[derive(Drop)]
 pub(crate) struct LineForm {
     version: u8,
-    pub items: Vec<Item>,
+    pub items: Vec<FormItem>,
     /// The key words of the choice.
     pub keys: Vec<&'static str>,
     /// The key word of version 2 that the line has in place of one of them.
@@ -80,9 +80,9 @@ pub(crate) fn bits_form(alloc: Global, words: &[&[u8]]) -> Result<LineForm, Allo
 /// Returns the form of the words of an entry before its marks.
 pub(crate) fn access_form(alloc: Global, words: &[&[u8]]) -> Result<LineForm, AllocError> {
     let mut form = LineForm::new(alloc, 2);
-    form.items.push(Item::Operand(PROCESS_OF_ENTRY))?;
+    form.items.push(FormItem::Operand(PROCESS_OF_ENTRY))?;
     if words.len() >= 2 {
-        form.items.push(Item::Bit)?;
+        form.items.push(FormItem::Bit)?;
         form.add_phrase(&[&MOVES], words)?;
     }
     Ok(form)
@@ -105,9 +105,9 @@ pub(crate) fn trace_head_form(alloc: Global, words: &[&[u8]]) -> Result<LineForm
 /// Returns the form of the words of an entry of a trace before its marks.
 pub(crate) fn trace_access_form(alloc: Global, words: &[&[u8]]) -> Result<LineForm, AllocError> {
     let mut form = LineForm::new(alloc, 2);
-    form.items.push(Item::OfTrace(TraceOperand::Process))?;
+    form.items.push(FormItem::OfTrace(TraceOperand::Process))?;
     if words.len() >= 2 {
-        form.items.push(Item::Cell)?;
+        form.items.push(FormItem::Cell)?;
         form.add_trace_phrase(&CELL_MOVES, words)?;
     }
     Ok(form)
@@ -147,7 +147,7 @@ impl LineForm {
                 }
             }
         }
-        self.items.push(Item::Choice)?;
+        self.items.push(FormItem::Choice)?;
         Ok(())
     }
 
@@ -170,7 +170,7 @@ impl LineForm {
                 }
             }
         }
-        self.items.push(Item::Choice)?;
+        self.items.push(FormItem::Choice)?;
         Ok(())
     }
 
@@ -186,7 +186,7 @@ impl LineForm {
             return Ok(false);
         }
         self.keys.clear();
-        self.items.push(Item::Key(key))?;
+        self.items.push(FormItem::Key(key))?;
         Ok(true)
     }
 
@@ -201,7 +201,7 @@ impl LineForm {
     /// Adds operands, in their order.
     fn add_operands(&mut self, operands: &[Operand]) -> Result<(), AllocError> {
         for operand in operands {
-            self.items.push(Item::Operand(*operand))?;
+            self.items.push(FormItem::Operand(*operand))?;
         }
         Ok(())
     }
@@ -223,7 +223,7 @@ impl LineForm {
                 return self.add_trace_ending(pattern.phrases, words);
             }
         }
-        self.items.push(Item::Choice)?;
+        self.items.push(FormItem::Choice)?;
         Ok(())
     }
 
@@ -252,14 +252,14 @@ impl LineForm {
                 return self.add_trace_operands(operands);
             }
         }
-        self.items.push(Item::Choice)?;
+        self.items.push(FormItem::Choice)?;
         Ok(())
     }
 
     /// Adds operands of a trace, in their order.
     fn add_trace_operands(&mut self, operands: &[TraceOperand]) -> Result<(), AllocError> {
         for operand in operands {
-            self.items.push(Item::OfTrace(*operand))?;
+            self.items.push(FormItem::OfTrace(*operand))?;
         }
         Ok(())
     }
@@ -268,15 +268,15 @@ impl LineForm {
 /// Returns the first operand of a form that refuses the word at its place with this fault, in a file of this version.
 pub(crate) fn refused_operand(
     version: u8,
-    form: &[Item],
+    form: &[FormItem],
     words: &[&[u8]],
     fault: FaultKind,
 ) -> Option<(usize, Operand)>
-    ensures item { IfSome result (λ r. slice_get form.now r.0 ≡ Some (Item.Operand r.1)) }
+    ensures item { IfSome result (λ r. slice_get form.now r.0 ≡ Some (FormItem.Operand r.1)) }
     ensures word { IfSome result (λ r. fault_at version r.1 (slice_index_or (texts words.now) r.0 []) ≡ Some fault) }
 {
     for place in 0..form.len().min(words.len()) {
-        if let Item::Operand(operand) = form[place] {
+        if let FormItem::Operand(operand) = form[place] {
             if operand.fault(version, words[place]) == Some(fault) {
                 return Some((place, operand));
             }
@@ -287,15 +287,15 @@ pub(crate) fn refused_operand(
 
 /// Returns the first operand of a form of a trace that refuses the word at its place with this fault.
 pub(crate) fn refused_trace_operand(
-    form: &[Item],
+    form: &[FormItem],
     words: &[&[u8]],
     fault: FaultKind,
 ) -> Option<(usize, TraceOperand)>
-    ensures item { IfSome result (λ r. slice_get form.now r.0 ≡ Some (Item.OfTrace r.1)) }
+    ensures item { IfSome result (λ r. slice_get form.now r.0 ≡ Some (FormItem.OfTrace r.1)) }
     ensures word { IfSome result (λ r. trace_fault_at r.1 (slice_index_or (texts words.now) r.0 []) ≡ Some fault) }
 {
     for place in 0..form.len().min(words.len()) {
-        if let Item::OfTrace(operand) = form[place] {
+        if let FormItem::OfTrace(operand) = form[place] {
             if operand.fault(words[place]) == Some(fault) {
                 return Some((place, operand));
             }

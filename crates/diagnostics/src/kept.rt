@@ -8,7 +8,7 @@ use std::alloc::{AllocError, Global};
 
 /// The first bytes of a file, and its last blocks.
 #[derive(Drop)]
-pub struct KeptFile {
+pub struct StoredFile {
     front: Vec<u8>,
     /// The block before the last one, and the last one.
     last: Vec<u8>,
@@ -20,10 +20,10 @@ pub struct KeptFile {
     whole: bool,
 }
 
-impl KeptFile {
+impl StoredFile {
     /// Creates a file of which nothing is kept yet.
-    fn new(alloc: Global) -> KeptFile {
-        KeptFile {
+    fn new(alloc: Global) -> StoredFile {
+        StoredFile {
             front: Vec::new(alloc),
             last: Vec::new(alloc),
             block: 0,
@@ -92,34 +92,34 @@ fn ends_among(bytes: &[u8]) -> u64 {
 
 /// A source that reads from another one, and keeps what is read.
 #[derive(Drop)]
-pub struct KeptInput<S: Source + Drop> {
+pub struct TeeInput<S: Source + Drop> {
     source: S,
     keeps: bool,
-    kept: KeptFile,
+    kept: StoredFile,
 }
 
-impl<S: Source + Drop> KeptInput<S> {
+impl<S: Source + Drop> TeeInput<S> {
     /// Creates a source that reads from `source`; nothing is kept unless `keeps`.
-    pub fn new(alloc: Global, source: S, keeps: bool) -> KeptInput<S>
-        ensures to_come { ⟦<KeptInput<S> as Source>⟧.to_come result ≡ S.to_come source }
-        ensures failures { ⟦<KeptInput<S> as Source>⟧.failures result ≡ S.failures source }
+    pub fn new(alloc: Global, source: S, keeps: bool) -> TeeInput<S>
+        ensures to_come { ⟦<TeeInput<S> as Source>⟧.to_come result ≡ S.to_come source }
+        ensures failures { ⟦<TeeInput<S> as Source>⟧.failures result ≡ S.failures source }
     {
-        KeptInput {
+        TeeInput {
             source,
             keeps,
-            kept: KeptFile::new(alloc),
+            kept: StoredFile::new(alloc),
         }
     }
 
     /// Returns the bytes that were kept, and the source from which they were read.
-    pub fn into_parts(self) -> (KeptFile, S)
+    pub fn into_parts(self) -> (StoredFile, S)
         ensures { result.1 ≡ self.source }
     {
         (self.kept, self.source)
     }
 }
 
-impl<S: Source + Drop> Source for KeptInput<S> {
+impl<S: Source + Drop> Source for TeeInput<S> {
     ghost to_come = { λ kept. S.to_come kept.source };
 
     ghost failures = { λ kept. S.failures kept.source };

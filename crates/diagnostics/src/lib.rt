@@ -17,6 +17,6 @@ mod traces;
 
 pub use explaining::explanation;
 pub use files::{progress, read_any_line, source_lines};
-pub use kept::{KeptFile, KeptInput};
+pub use kept::{StoredFile, TeeInput};
 pub use kinds::FileKind;
 pub use record_file::RecordReader;

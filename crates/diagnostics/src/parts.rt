@@ -1,27 +1,27 @@
 //! Parts of a line, each of which should have a form.
 use crate::expected::add_form;
-use crate::forms::{Item, LineForm, word_at};
+use crate::forms::{FormItem, LineForm, word_at};
 use crate::lines::{Span, SplitLine};
 use record_file::is_sign;
 use std::alloc::AllocError;
 
 /// The position of a fault in a line, if it is found.
-pub(crate) type Found = Result<Option<Span>, AllocError>;
+pub(crate) type FoundPosition = Result<Option<Span>, AllocError>;
 
 /// Returns a position, and adds what was expected there.
-pub(crate) fn found(place: Span, expected: &str, what: &mut String) -> Found {
+pub(crate) fn found(place: Span, expected: &str, what: &mut String) -> FoundPosition {
     found_by(place, what.push_str(expected))
 }
 
 /// Returns a position after what was expected there was added.
-pub(crate) fn found_by(place: Span, added: Result<(), AllocError>) -> Found {
+pub(crate) fn found_by(place: Span, added: Result<(), AllocError>) -> FoundPosition {
     added?;
     Ok(Some(place))
 }
 
 /// Words of a line that follow one another, and the form that they should have.
 #[derive(Clone, Copy)]
-pub(crate) struct Part<'l, 'w> {
+pub(crate) struct LinePart<'l, 'w> {
     pub line: &'l SplitLine<'w>,
     /// The number of words before them.
     pub at: usize,
@@ -29,7 +29,7 @@ pub(crate) struct Part<'l, 'w> {
     pub form: &'l LineForm,
 }
 
-impl<'l, 'w> Part<'l, 'w> {
+impl<'l, 'w> LinePart<'l, 'w> {
     /// Returns the position of the word with this number.
     pub fn word(&self, place: usize) -> Span {
         self.line.word(self.at.saturating_add(place))
@@ -38,7 +38,7 @@ impl<'l, 'w> Part<'l, 'w> {
     /// Returns the word of the bit, if this is an access of a record.
     pub fn bit(&self) -> Option<&'w [u8]> {
         match self.form.items.get(1) {
-            Some(Item::Bit) => self.words.get(1).copied(),
+            Some(FormItem::Bit) => self.words.get(1).copied(),
             _ => None,
         }
     }
@@ -46,13 +46,13 @@ impl<'l, 'w> Part<'l, 'w> {
     /// Returns the word of the cell, if this is an access of a trace.
     pub fn cell(&self) -> Option<&'w [u8]> {
         match self.form.items.get(1) {
-            Some(Item::Cell) => self.words.get(1).copied(),
+            Some(FormItem::Cell) => self.words.get(1).copied(),
             _ => None,
         }
     }
 
     /// Returns the position of the words that are too many, or the column where one is missing.
-    pub fn wrong_number(&self, what: &mut String) -> Found {
+    pub fn wrong_number(&self, what: &mut String) -> FoundPosition {
         let (has, wants) = (self.words.len(), self.form.items.len());
         if has == wants {
             return Ok(None);
@@ -80,10 +80,10 @@ pub(crate) trait EntryFault {
         end: usize,
         marks: usize,
         what: &mut String,
-    ) -> Found;
+    ) -> FoundPosition;
 
     /// Looks for the fault in an entry, and returns its position in the first part between signs that has it.
-    fn in_entry(&self, line: &SplitLine<'_>, what: &mut String) -> Found {
+    fn in_entry(&self, line: &SplitLine<'_>, what: &mut String) -> FoundPosition {
         let words = line.words.as_slice();
         let (mut at, mut marks) = (0_usize, 0_usize);
         for place in 0..=words.len() {

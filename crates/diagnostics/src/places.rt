@@ -1,13 +1,13 @@
 //! The position of a fault in a line, by the kind of the fault.
 use crate::expected::{add_keys, add_meant, add_operand, add_two};
 use crate::forms::{
-    Item, access_form, bits_form, head_form, line_form, mark_form, refused_operand,
+    FormItem, access_form, bits_form, head_form, line_form, mark_form, refused_operand,
     trace_head_form, word_at,
 };
 use crate::kinds::{FileKind, name_of_file};
 use crate::lines::{Span, SplitLine, dotted_part};
 use crate::near::add_near;
-use crate::parts::{EntryFault, Found, Part, found, found_by};
+use crate::parts::{EntryFault, FoundPosition, LinePart, found, found_by};
 use files::FaultKind;
 use plain_store::{OpenFault, Setup, Value};
 use record_file::LineKind;
@@ -21,7 +21,7 @@ use trace_file::forms::TRACE;
 
 /// A file that has a fault.
 #[derive(Clone, Copy)]
-pub(crate) struct Faulty {
+pub(crate) struct FileWithFault {
     pub alloc: Global,
     pub kind: FileKind,
     /// The setup that the lines before the fault declare; `None` if they are all skipped.
@@ -29,7 +29,7 @@ pub(crate) struct Faulty {
     pub fault: FaultKind,
 }
 
-impl Faulty {
+impl FileWithFault {
     /// Returns the version of the file.
     fn version(&self) -> u8 {
         match &self.setup {
@@ -39,7 +39,7 @@ impl Faulty {
     }
 
     /// Returns the position of the fault in the line with this number, and adds what was expected there.
-    pub fn place(&self, line: &SplitLine<'_>, number: u64, what: &mut String) -> Found {
+    pub fn place(&self, line: &SplitLine<'_>, number: u64, what: &mut String) -> FoundPosition {
         match self.fault {
             FaultKind::TooLong => self.too_long(line, number, what),
             FaultKind::NotFirst if self.setup.is_none() => self.not_first(line, what),
@@ -50,7 +50,7 @@ impl Faulty {
     }
 
     /// Returns the position in a line that is too long, or in one line too many.
-    fn too_long(&self, line: &SplitLine<'_>, number: u64, what: &mut String) -> Found {
+    fn too_long(&self, line: &SplitLine<'_>, number: u64, what: &mut String) -> FoundPosition {
         if line.len() > 128 {
             let place = Span { from: 128, to: 129 };
             return found(place, "at most 128 bytes in a line", what);
@@ -66,7 +66,7 @@ impl Faulty {
     }
 
     /// Returns the position in the first line: the word that differs, or the words that are too many.
-    fn not_first(&self, line: &SplitLine<'_>, what: &mut String) -> Found {
+    fn not_first(&self, line: &SplitLine<'_>, what: &mut String) -> FoundPosition {
         let Some(first) = line.words.first() else {
             return Ok(None);
         };
@@ -103,7 +103,7 @@ impl Faulty {
     }
 
     /// Returns the position in a line that comes too late.
-    fn too_late(&self, line: &SplitLine<'_>, what: &mut String) -> Found {
+    fn too_late(&self, line: &SplitLine<'_>, what: &mut String) -> FoundPosition {
         let Some(first) = line.words.first() else {
             return Ok(None);
         };
@@ -120,7 +120,7 @@ impl Faulty {
     }
 
     /// Returns the position in an opening pair for which the store has no slot, or whose name is already open.
-    fn not_opened(&self, line: &SplitLine<'_>, what: &mut String) -> Found {
+    fn not_opened(&self, line: &SplitLine<'_>, what: &mut String) -> FoundPosition {
         let Some(setup) = &self.setup else {
             return Ok(None);
         };
@@ -133,7 +133,7 @@ impl Faulty {
     }
 
     /// Returns the position in a line whose words are at fault.
-    fn in_line(&self, line: &SplitLine<'_>, what: &mut String) -> Found {
+    fn in_line(&self, line: &SplitLine<'_>, what: &mut String) -> FoundPosition {
         let words = line.words.as_slice();
         let form = match self.kind {
             FileKind::Scenario => line_form(self.alloc, self.version(), words)?,
@@ -145,7 +145,7 @@ impl Faulty {
             FileKind::Trace => trace_head_form(self.alloc, words)?,
         };
         self.in_part(
-            &Part {
+            &LinePart {
                 line,
                 at: 0,
                 words,
@@ -156,7 +156,7 @@ impl Faulty {
     }
 
     /// Returns the position in words that should have a form.
-    fn in_part(&self, part: &Part<'_, '_>, what: &mut String) -> Found {
+    fn in_part(&self, part: &LinePart<'_, '_>, what: &mut String) -> FoundPosition {
         match self.fault {
             FaultKind::Unknown => self.unknown(part, what),
             FaultKind::Words => part.wrong_number(what),
@@ -165,7 +165,7 @@ impl Faulty {
     }
 
     /// Returns the position of a bit or a key word that does not exist.
-    fn unknown(&self, part: &Part<'_, '_>, what: &mut String) -> Found {
+    fn unknown(&self, part: &LinePart<'_, '_>, what: &mut String) -> FoundPosition {
         if let Some(span) = self.no_bit(part, what)? {
             return Ok(Some(span));
         }
@@ -173,9 +173,9 @@ impl Faulty {
     }
 
     /// Returns the position of a word in the place of a choice.
-    pub fn unknown_key(&self, part: &Part<'_, '_>, what: &mut String) -> Found {
+    pub fn unknown_key(&self, part: &LinePart<'_, '_>, what: &mut String) -> FoundPosition {
         let place = part.form.items.len().saturating_sub(1);
-        let (Some(Item::Choice), Some(word)) = (part.form.items.last(), part.words.get(place))
+        let (Some(FormItem::Choice), Some(word)) = (part.form.items.last(), part.words.get(place))
         else {
             return Ok(None);
         };
@@ -189,7 +189,7 @@ impl Faulty {
     }
 
     /// Returns the position of a word that is not a bit, or of its part that does not name a register.
-    fn no_bit(&self, part: &Part<'_, '_>, what: &mut String) -> Found {
+    fn no_bit(&self, part: &LinePart<'_, '_>, what: &mut String) -> FoundPosition {
         let Some(bit) = part.bit() else {
             return Ok(None);
         };
@@ -210,7 +210,7 @@ impl Faulty {
     }
 
     /// Returns the position of the first operand that has the fault.
-    fn refused(&self, part: &Part<'_, '_>, what: &mut String) -> Found {
+    fn refused(&self, part: &LinePart<'_, '_>, what: &mut String) -> FoundPosition {
         if let Some(span) = self.refused_number(part, what)? {
             return Ok(Some(span));
         }
@@ -224,7 +224,7 @@ impl Faulty {
     }
 
     /// Returns the position of the first part of a bit that is not the number of an owner, a bit or a reader.
-    fn refused_number(&self, part: &Part<'_, '_>, what: &mut String) -> Found {
+    fn refused_number(&self, part: &LinePart<'_, '_>, what: &mut String) -> FoundPosition {
         let (Some(process), Some(bit)) = (part.words.first(), part.bit()) else {
             return Ok(None);
         };
@@ -249,7 +249,7 @@ impl Faulty {
     }
 }
 
-impl EntryFault for Faulty {
+impl EntryFault for FileWithFault {
     fn in_entry_part(
         &self,
         line: &SplitLine<'_>,
@@ -257,14 +257,14 @@ impl EntryFault for Faulty {
         end: usize,
         marks: usize,
         what: &mut String,
-    ) -> Found {
+    ) -> FoundPosition {
         let words = line.words.get(at..end).unwrap_or(&[]);
         let form = if marks == 0 {
             access_form(self.alloc, words)?
         } else {
             mark_form(self.alloc, words)?
         };
-        let part = Part {
+        let part = LinePart {
             line,
             at,
             words,

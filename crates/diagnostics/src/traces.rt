@@ -6,8 +6,8 @@ use crate::forms::{
 };
 use crate::lines::SplitLine;
 use crate::near::add_near;
-use crate::parts::{EntryFault, Found, Part, found, found_by};
-use crate::places::Faulty;
+use crate::parts::{EntryFault, FoundPosition, LinePart, found, found_by};
+use crate::places::FileWithFault;
 use crate::registers::{RegisterPart, refused_part, register_of};
 use files::FaultKind;
 use std::alloc::AllocError;
@@ -18,13 +18,13 @@ use trace_file::keywords::{TraceLine, lock_mark};
 /// A trace that has a fault, and what the lines before the fault have declared.
 #[derive(Clone, Copy)]
 pub(crate) struct FaultyTrace<'r> {
-    pub faulty: Faulty,
+    pub faulty: FileWithFault,
     pub read: &'r TraceReader,
 }
 
 impl<'r> FaultyTrace<'r> {
     /// Returns the position of the fault in the line of this number, and adds what was expected there.
-    pub fn place(&self, line: &SplitLine<'_>, number: u64, what: &mut String) -> Found {
+    pub fn place(&self, line: &SplitLine<'_>, number: u64, what: &mut String) -> FoundPosition {
         match self.faulty.fault {
             FaultKind::TooLong => self.faulty.place(line, number, what),
             FaultKind::NotFirst => too_late(line, what),
@@ -34,7 +34,7 @@ impl<'r> FaultyTrace<'r> {
     }
 
     /// Looks for the fault in the words of a line.
-    fn in_line(&self, line: &SplitLine<'_>, what: &mut String) -> Found {
+    fn in_line(&self, line: &SplitLine<'_>, what: &mut String) -> FoundPosition {
         let words = line.words.as_slice();
         if let Some(TraceLine::Entry) = TraceLine::of(word_at(words, 0)) {
             let place = self.in_entry(line, what)?;
@@ -43,7 +43,7 @@ impl<'r> FaultyTrace<'r> {
         }
         let form = trace_head_form(self.faulty.alloc, words)?;
         self.in_part(
-            &Part {
+            &LinePart {
                 line,
                 at: 0,
                 words,
@@ -54,7 +54,7 @@ impl<'r> FaultyTrace<'r> {
     }
 
     /// Looks for the fault in words that should have a form.
-    fn in_part(&self, part: &Part<'_, '_>, what: &mut String) -> Found {
+    fn in_part(&self, part: &LinePart<'_, '_>, what: &mut String) -> FoundPosition {
         match self.faulty.fault {
             FaultKind::Unknown => self.unknown(part, what),
             FaultKind::Words => part.wrong_number(what),
@@ -63,7 +63,7 @@ impl<'r> FaultyTrace<'r> {
     }
 
     /// Looks for a cell of no register, or for another word in the place of a key word.
-    fn unknown(&self, part: &Part<'_, '_>, what: &mut String) -> Found {
+    fn unknown(&self, part: &LinePart<'_, '_>, what: &mut String) -> FoundPosition {
         if let Some(span) = self.no_cell(part, what)? {
             return Ok(Some(span));
         }
@@ -74,7 +74,7 @@ impl<'r> FaultyTrace<'r> {
     }
 
     /// Returns the word of the cell, if it has the fault.
-    fn faulty_cell<'w>(&self, part: &Part<'_, 'w>) -> Option<&'w [u8]> {
+    fn faulty_cell<'w>(&self, part: &LinePart<'_, 'w>) -> Option<&'w [u8]> {
         let word = part.cell()?;
         match self.read.cell(word) {
             Err(fault) if fault == self.faulty.fault => Some(word),
@@ -83,7 +83,7 @@ impl<'r> FaultyTrace<'r> {
     }
 
     /// Returns the position of a cell's name if no register has it, and of the whole cell if the register has other cells.
-    fn no_cell(&self, part: &Part<'_, '_>, what: &mut String) -> Found {
+    fn no_cell(&self, part: &LinePart<'_, '_>, what: &mut String) -> FoundPosition {
         let Some(word) = self.faulty_cell(part) else {
             return Ok(None);
         };
@@ -118,7 +118,7 @@ impl<'r> FaultyTrace<'r> {
     }
 
     /// Returns the position of the first operand that has the fault. The index of a cell comes after the process.
-    fn refused(&self, part: &Part<'_, '_>, what: &mut String) -> Found {
+    fn refused(&self, part: &LinePart<'_, '_>, what: &mut String) -> FoundPosition {
         let form = part.form.items.as_slice();
         let refused = refused_trace_operand(form, part.words, self.faulty.fault);
         if let (Some(word), true) = (self.faulty_cell(part), !is_first(refused)) {
@@ -132,7 +132,7 @@ impl<'r> FaultyTrace<'r> {
     }
 
     /// Returns the position of what the setup refuses: the number of processes, or a part of a register.
-    fn not_declared(&self, line: &SplitLine<'_>, what: &mut String) -> Found {
+    fn not_declared(&self, line: &SplitLine<'_>, what: &mut String) -> FoundPosition {
         let words = line.words.as_slice();
         let setup = self.read.setup();
         let Some(register) = register_of(words) else {
@@ -167,14 +167,14 @@ impl<'r> EntryFault for FaultyTrace<'r> {
         end: usize,
         marks: usize,
         what: &mut String,
-    ) -> Found {
+    ) -> FoundPosition {
         let words = line.words.get(at..end).unwrap_or(&[]);
         let form = if marks == 0 {
             trace_access_form(self.faulty.alloc, words)?
         } else {
             trace_mark_form(self.faulty.alloc, words)?
         };
-        let part = Part {
+        let part = LinePart {
             line,
             at,
             words,
@@ -188,7 +188,7 @@ impl<'r> EntryFault for FaultyTrace<'r> {
 }
 
 /// Returns the position of a fifth mark, or the column after the process of an entry with neither an access nor a mark.
-fn wrong_marks(line: &SplitLine<'_>, at: usize, marks: usize, what: &mut String) -> Found {
+fn wrong_marks(line: &SplitLine<'_>, at: usize, marks: usize, what: &mut String) -> FoundPosition {
     if line.words.len() == 1 {
         return found(
             line.behind(0),
@@ -211,7 +211,7 @@ fn is_first(refused: Option<(usize, TraceOperand)>) -> bool {
 }
 
 /// Returns the position of a line that comes too late.
-fn too_late(line: &SplitLine<'_>, what: &mut String) -> Found {
+fn too_late(line: &SplitLine<'_>, what: &mut String) -> FoundPosition {
     let expected = match TraceLine::of(word_at(line.words.as_slice(), 0)) {
         Some(TraceLine::Processes) => "processes once, and before registers and entries",
         Some(TraceLine::Memory) => "memory once, and before registers and entries",

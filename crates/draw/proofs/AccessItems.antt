@@ -6,8 +6,8 @@ use Rattle.picture.specs.picture_layout.declared.accesses.ShownAccess.{ShownAcce
 use Rattle.picture.specs.declared.reads.Reads.{Reads as Mode}
 use Rattle.picture.specs.declared.reads.Reads.TheVariants as modes
 use Rattle.model.specs.{Entry, Past}
-use Rattle.record_accesses.specs.{HasWatched, WatchState, WaveLimit, shown_access}
-use Rattle.draw.specs.{GivesAccess, WatchesAccesses, given_access_of, gives_access, marks_given, texts_given}
+use Rattle.record_accesses.specs.{HasMonitored, MonitorState, WaveLimit, shown_access}
+use Rattle.draw.specs.{GivesAccess, MonitorsAccesses, given_access_of, gives_access, marks_given, texts_given}
 
 -- of two tests neither holds
 pub neither : (b c : Bool) → (b || c) ≡ false → (b ≡ false) × (c ≡ false)
@@ -16,40 +16,40 @@ neither false c none = (refl, none)
 
 module _ (mode : Mode) (limit : WaveLimit) (s : Setup) (past : Past) where
   -- where none is observed, none is shown
-  pub none_shown : (e : Entry) → WatchesAccesses mode limit s past None → given_access_of mode limit s past e ≡ []
-  none_shown e watches = by mode watches
+  pub none_shown : (e : Entry) → MonitorsAccesses mode limit s past None → given_access_of mode limit s past e ≡ []
+  none_shown e monitors = by mode monitors
     where
-      by : (mode : Mode) → WatchesAccesses mode limit s past None → given_access_of mode limit s past e ≡ []
-      by modes.All watches = absurd watches
-      by modes.Hidden watches = refl
-      by modes.Shown watches = refl
+      by : (mode : Mode) → MonitorsAccesses mode limit s past None → given_access_of mode limit s past e ≡ []
+      by modes.All monitors = absurd monitors
+      by modes.Hidden monitors = refl
+      by modes.Shown monitors = refl
 
   -- and none is later
-  pub none_later : (then : Past) → WatchesAccesses mode limit s past None → WatchesAccesses mode limit s then None
-  none_later then watches = by mode watches
+  pub none_later : (then : Past) → MonitorsAccesses mode limit s past None → MonitorsAccesses mode limit s then None
+  none_later then monitors = by mode monitors
     where
-      by : (mode : Mode) → WatchesAccesses mode limit s past None → WatchesAccesses mode limit s then None
-      by modes.All watches = absurd watches
-      by modes.Hidden watches = tt
-      by modes.Shown watches = tt
+      by : (mode : Mode) → MonitorsAccesses mode limit s past None → MonitorsAccesses mode limit s then None
+      by modes.All monitors = absurd monitors
+      by modes.Hidden monitors = tt
+      by modes.Shown monitors = tt
 
   -- where they are observed, all are shown
-  pub all_shown : (w : WatchState) → WatchesAccesses mode limit s past (Some w) → (mode ≡ modes.All) × HasWatched w s limit past
-  all_shown w watches = by mode watches
+  pub all_shown : (w : MonitorState) → MonitorsAccesses mode limit s past (Some w) → (mode ≡ modes.All) × HasMonitored w s limit past
+  all_shown w monitors = by mode monitors
     where
-      by : (mode : Mode) → WatchesAccesses mode limit s past (Some w) → (mode ≡ modes.All) × HasWatched w s limit past
-      by modes.All watches = (refl, watches)
-      by modes.Hidden watches = absurd watches
-      by modes.Shown watches = absurd watches
+      by : (mode : Mode) → MonitorsAccesses mode limit s past (Some w) → (mode ≡ modes.All) × HasMonitored w s limit past
+      by modes.All monitors = (refl, monitors)
+      by modes.Hidden monitors = absurd monitors
+      by modes.Shown monitors = absurd monitors
 
   -- the same of an observer that does not exist
-  pub still_watches : (then : Past) (o : Option WatchState) → is_some o ≡ false → WatchesAccesses mode limit s past o → WatchesAccesses mode limit s then o
-  still_watches then None none watches = none_later then watches
-  still_watches then (Some w) none watches = absurd (true≢false none)
+  pub still_monitors : (then : Past) (o : Option MonitorState) → is_some o ≡ false → MonitorsAccesses mode limit s past o → MonitorsAccesses mode limit s then o
+  still_monitors then None none monitors = none_later then monitors
+  still_monitors then (Some w) none monitors = absurd (true≢false none)
 
-  pub none_given : (e : Entry) (o : Option WatchState) → is_some o ≡ false → WatchesAccesses mode limit s past o → given_access_of mode limit s past e ≡ []
-  none_given e None none watches = none_shown e watches
-  none_given e (Some w) none watches = absurd (true≢false none)
+  pub none_given : (e : Entry) (o : Option MonitorState) → is_some o ≡ false → MonitorsAccesses mode limit s past o → given_access_of mode limit s past e ≡ []
+  none_given e None none monitors = none_shown e monitors
+  none_given e (Some w) none monitors = absurd (true≢false none)
 
 -- the item of what is shown of an access
 pub gives_none : (o : Option ShownAccess) (shown : Option GivenAccess) → o ≡ None → option_map given_access o ≡ shown → [] ≡ gives_access shown

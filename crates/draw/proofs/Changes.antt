@@ -16,7 +16,7 @@ use Rattle.model.proofs.World.{entry-accepted}
 use Rattle.scenario_run.specs.laws.{Doing}
 use Rattle.scenario_run.specs.history_laws.{taken_with}
 use Rattle.scenario_run.proofs.history_laws.Places.{at_its_place, grows_by_the_taken}
-use Rattle.scenario_run.proofs.history_laws.Told.{says}
+use Rattle.scenario_run.proofs.history_laws.Reported.{says}
 use Rattle.scenario_run.proofs.history_laws.Took.{Says, begins, goes}
 use Rattle.scenario_run.proofs.laws.AtPlaces.{own-induction}
 use Rattle.scenario_run.proofs.laws.Frame.{own-other, own-own}

@@ -2,23 +2,23 @@
 use Rattle.std.proofs.Common.{◌≡◌, ◌+◌, inr, refl, ℕ, false, suc, List, [], ◌∷◌, ◌++◌, is_some, length, Option, None, Some, ap, sym, subst, arith, true≢false}
 use Rattle.model.specs.plain_store.{Setup}
 use Rattle.model.specs.{Access, Entry, Mark, Past}
-use Rattle.record_accesses.specs.{WatchState, entry_with}
+use Rattle.record_accesses.specs.{MonitorState, entry_with}
 use Rattle.judge.specs.safe_monitor.{entry_by}
 use Rattle.picture.specs.picture_layout.{OverlappedRead}
 use Rattle.picture.specs.declared.reads.Reads.{Reads as Mode}
-use Rattle.draw.specs.{Canvas, Drawing, DrawsMarks, DrawsOn, DrawsPart, Gives, HasDrawn, IsAfterMarks, IsStoreBefore, Kept, Overhears, OverlapsHeard, Part, PartEntry, Recalls, AccessView, WatchesAccesses, entries_among, given_access_of, given_last, given_of, kept, lines_given, marks_back, observes, overlapped_by, reads_since, says_marks}
-use Rattle.draw.proofs.AccessItems.{neither, none_given, still_watches}
+use Rattle.draw.specs.{Canvas, Drawing, DrawsMarks, DrawsOn, DrawsPart, Gives, HasDrawn, IsAfterMarks, IsStoreBefore, Kept, ObservesAll, OverlapsObserved, Part, PartEntry, Recalls, AccessView, MonitorsAccesses, entries_among, given_access_of, given_last, given_of, kept, lines_given, marks_back, observes, overlapped_by, reads_since, says_marks}
+use Rattle.draw.proofs.AccessItems.{neither, none_given, still_monitors}
 use Rattle.draw.proofs.Drawn.{draws_on_both, draws_on_none}
 use Rattle.draw.proofs.Giving.{waiting_says}
-use Rattle.draw.proofs.Overhearing.{overhears_nothing}
+use Rattle.draw.proofs.Overhearing.{observes_all_nothing}
 use Rattle.draw.proofs.StoresBefore.{before_on}
 
 -- One part.
 
 -- an entry, once its access is observed, and drawn if it is shown, and its marks are drawn
 pub entry_drawn : (view : AccessView) (s : Setup) (parts : List Part) (e : Entry) (d mid d' : Drawing) (seen : Canvas) (a m b : Option (List ℕ)) (p : ℕ) (access : Option Access) (marks : List Mark) → e.process ≡ p → e.access ≡ access → e.marks ≡ marks → kept seen ≡ kept d.canvas → Recalls view s parts d →
-    Overhears view.reads s (e ∷ entries_among parts) (reads_since s parts ++ overlapped_by s (entries_among parts) e) seen.overlaps →
-    DrawsOn (kept seen) (kept mid.canvas) a m (given_access_of view.reads view.limit s (entries_among parts) (entry_with p access marks)) × WatchesAccesses view.reads view.limit s (entry_with p access marks ∷ entries_among parts) mid.accesses →
+    ObservesAll view.reads s (e ∷ entries_among parts) (reads_since s parts ++ overlapped_by s (entries_among parts) e) seen.overlaps →
+    DrawsOn (kept seen) (kept mid.canvas) a m (given_access_of view.reads view.limit s (entries_among parts) (entry_with p access marks)) × MonitorsAccesses view.reads view.limit s (entry_with p access marks ∷ entries_among parts) mid.accesses →
     mid.canvas.overlaps ≡ seen.overlaps → mid.store ≡ d.store → mid.source ≡ d.source →
     DrawsMarks mid.canvas d'.canvas mid.store d'.store m b mid.source d.entries p marks → d'.accesses ≡ mid.accesses → d'.entries ≡ d.entries + 1 → IsStoreBefore view.window s (e ∷ entries_among parts) d'.before → DrawsPart view s parts (PartEntry e) d d' a b
 entry_drawn view s parts e d mid d' seen a m b p access marks process reached are same recalls waits shown overlaps store source drew accesses entries before =
@@ -26,7 +26,7 @@ entry_drawn view s parts e d mid d' seen a m b p access marks process reached ar
     let all : List OverlappedRead = reads_since s parts ++ overlapped_by s past e in
     let is : entry_with p access marks ≡ e = λ i. record { process = sym process i; access = sym reached i; marks = sym are i } in
     let its = (subst (λ (l : List Mark). DrawsMarks mid.canvas d'.canvas mid.store d'.store m b mid.source d.entries e.process l) (sym are) (subst (λ (q : ℕ). DrawsMarks mid.canvas d'.canvas mid.store d'.store m b mid.source d.entries q marks) (sym process) drew)) s (marks_back past) (subst (IsAfterMarks s (marks_back past)) (sym store) recalls.store) in
-    let drawn = its.0 view.reads s (e ∷ past) all (subst (Overhears view.reads s (e ∷ past) all) (sym overlaps) waits) in
+    let drawn = its.0 view.reads s (e ∷ past) all (subst (ObservesAll view.reads s (e ∷ past) all) (sym overlaps) waits) in
     let lines = subst (λ (n : ℕ). DrawsOn (kept mid.canvas) (kept d'.canvas) m b (lines_given view.reads d.source n all (says_marks s e.process (marks_back past) e.marks))) recalls.entries
     (subst (λ (n : ℕ). DrawsOn (kept mid.canvas) (kept d'.canvas) m b (lines_given view.reads n d.entries all (says_marks s e.process (marks_back past) e.marks))) source drawn.0) in
     let first = subst (λ (k : Kept). DrawsOn k (kept mid.canvas) a m (given_access_of view.reads view.limit s past e)) same
@@ -35,17 +35,17 @@ entry_drawn view s parts e d mid d' seen a m b p access marks process reached ar
       record {
         entries = let n : d.entries ≡ length past = recalls.entries in omega (arith, entries, n);
         store = its.1;
-        waits = subst (λ (l : List OverlappedRead). Overhears view.reads s (e ∷ past) l d'.canvas.overlaps) (waiting_says s e.process (marks_back past) e.marks all) drawn.1;
-        accesses = subst (λ (o : Option WatchState). WatchesAccesses view.reads view.limit s (e ∷ past) o) (sym accesses)
-            (subst (λ (x : Entry). WatchesAccesses view.reads view.limit s (x ∷ past) mid.accesses) is shown.1);
+        waits = subst (λ (l : List OverlappedRead). ObservesAll view.reads s (e ∷ past) l d'.canvas.overlaps) (waiting_says s e.process (marks_back past) e.marks all) drawn.1;
+        accesses = subst (λ (o : Option MonitorState). MonitorsAccesses view.reads view.limit s (e ∷ past) o) (sym accesses)
+            (subst (λ (x : Entry). MonitorsAccesses view.reads view.limit s (x ∷ past) mid.accesses) is shown.1);
         before = before;
       },
     )
 
 -- Entries without a mark, where no access is observed.
 
-still_waits : (mode : Mode) (s : Setup) (past then : Past) (reads more : List OverlappedRead) (overlaps : Option OverlapsHeard) → is_some overlaps ≡ false → Overhears mode s past reads overlaps → Overhears mode s then more overlaps
-still_waits mode s past then reads more None none waits = overhears_nothing mode s past then reads more waits
+still_waits : (mode : Mode) (s : Setup) (past then : Past) (reads more : List OverlappedRead) (overlaps : Option OverlapsObserved) → is_some overlaps ≡ false → ObservesAll mode s past reads overlaps → ObservesAll mode s then more overlaps
+still_waits mode s past then reads more None none waits = observes_all_nothing mode s past then reads more waits
 still_waits mode s past then reads more (Some overlaps) none waits = absurd (true≢false none)
 
 pub recalls_passed : (view : AccessView) (s : Setup) (parts : List Part) (p : ℕ) (access : Option Access) (d : Drawing) → observes d ≡ false → Recalls view s parts d →
@@ -56,7 +56,7 @@ recalls_passed view s parts p access d none recalls =
       entries = let n : d.entries ≡ length (entries_among parts) = recalls.entries in omega (arith, n);
       store = recalls.store;
       waits = still_waits view.reads s (entries_among parts) (entry_by p access [] ∷ entries_among parts) (reads_since s parts) (reads_since s (PartEntry (entry_by p access []) ∷ parts)) d.canvas.overlaps both.0 recalls.waits;
-      accesses = still_watches view.reads view.limit s (entries_among parts) (entry_by p access [] ∷ entries_among parts) d.accesses both.1 recalls.accesses;
+      accesses = still_monitors view.reads view.limit s (entries_among parts) (entry_by p access [] ∷ entries_among parts) d.accesses both.1 recalls.accesses;
       before = before_on view.window s (entries_among parts) (entry_by p access []) d.before (inr refl) recalls.before;
     }
 

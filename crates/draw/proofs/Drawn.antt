@@ -5,10 +5,10 @@ use Rattle.model.specs.{Mark}
 use Rattle.picture.specs.markup.{EndsAll, is_at_rest, lines_in, opens_in, tags_of}
 use Rattle.picture.proofs.markup.Lines.{lines_on, rests_on}
 use Rattle.picture.proofs.markup.Stacks.{opens_on}
-use Rattle.picture.specs.{Accesses, GivesRest, GoesOn, Item, Judges, Reads, SeenWindowed, Tells, ShownVerdict, Window, WindowPlan, band_text, bands_told, full_told, heights_told, judged_with, lines_if, lines_of_band, seen_verdict, shows_end, shows_line, titles_if, verdict_titles, windowed}
+use Rattle.picture.specs.{Accesses, GivesRest, GoesOn, Item, Judges, Reads, SeenWindowed, Reports, ShownVerdict, Window, WindowPlan, band_text, bands_reported, full_reported, heights_reported, judged_with, lines_if, lines_of_band, seen_verdict, shows_end, shows_line, titles_if, verdict_titles, windowed}
 use Rattle.picture.specs.picture_layout.{OverlappedRead, RunLine, ShownAccess, given_access, text_of}
-use Rattle.draw.specs.{Canvas, Draws, DrawsBands, DrawsLines, DrawsMarks, DrawsOn, DrawsRest, Fills, Gives, GivesAccess, GivesLine, GivesRead, IsAfterMarks, IsAround, Kept, Overhears, Says, TakenStore, Writes, given, kept, kept_at_first, lines_given, marks_after, says_marks, says_of, text_shown, texts_shown, waiting}
-use Rattle.draw.proofs.Giving.{both_given, lines_append, marks_after_append, says_append, shown_append, shows_saying, text_of_saying, waiting_append}
+use Rattle.draw.specs.{Canvas, Draws, DrawsBands, DrawsLines, DrawsMarks, DrawsOn, DrawsRest, Fills, Gives, GivesAccess, GivesLine, GivesRead, IsAfterMarks, IsAround, Kept, ObservesAll, Says, TakenStore, Writes, given, kept, kept_at_first, lines_given, marks_after, says_marks, says_of, text_shown, texts_shown, waiting}
+use Rattle.draw.proofs.Giving.{both_given, lines_append, marks_after_append, says_append, shown_append, shows_saying, text_of_content, waiting_append}
 use Rattle.draw.proofs.Written.{appends_both, appends_none}
 
 -- markup at rest
@@ -38,7 +38,7 @@ draws_both a b c markup then lines more first next = record {
 
 -- a page takes in nothing, or some items and then others
 fills_none : (page : SeenWindowed) → Fills page page [] []
-fills_none page = record { items = []; are = refl; goes_on = λ plan before is. (is, sym (append-nil (full_told plan before))) }
+fills_none page = record { items = []; are = refl; goes_on = λ plan before is. (is, sym (append-nil (full_reported plan before))) }
 
 fills_both : (old mid new : SeenWindowed) (markup then : List ℕ) (gives those : List Gives) → Fills old mid markup gives → Fills mid new then those → Fills old new (markup ++ then) (gives ++ those)
 fills_both old mid new markup then gives those first next = record {
@@ -48,7 +48,7 @@ fills_both old mid new markup then gives those first next = record {
       let one = first.goes_on plan before is in
       let two = next.goes_on plan (first.items ++ before) one.0 in
       let same : next.items ++ (first.items ++ before) ≡ (next.items ++ first.items) ++ before = sym (append_assoc next.items first.items before) in
-      (two.0 ∙ ap (windowed plan) same, ap (full_told plan) (sym same) ∙ two.1 ∙ ap (λ l. l ++ then) one.1 ∙ append_assoc (full_told plan before) markup then);
+      (two.0 ∙ ap (windowed plan) same, ap (full_reported plan) (sym same) ∙ two.1 ∙ ap (λ l. l ++ then) one.1 ∙ append_assoc (full_reported plan before) markup then);
 }
 
 -- or one
@@ -75,22 +75,22 @@ draws_on_both had has now a b c gives those first next = record {
 }
 
 -- the text of a line, if it is in a window
-line_shown : (w : Window) (line : RunLine) → lines_if (shows_line w line) (text_of line ∷ []) ≡ texts_shown w (GivesLine line.source line.at (says_of line.saying) ∷ [])
+line_shown : (w : Window) (line : RunLine) → lines_if (shows_line w line) (text_of line ∷ []) ≡ texts_shown w (GivesLine line.source line.at (says_of line.line_content) ∷ [])
 line_shown w line =
-    (λ i. lines_if (sym (shows_saying w line.at line.saying) i) (sym (text_of_saying line.at line.saying) i ∷ []))
-    ∙ sym (append-nil (text_shown w (GivesLine line.source line.at (says_of line.saying))))
+    (λ i. lines_if (sym (shows_saying w line.at line.line_content) i) (sym (text_of_content line.at line.line_content) i ∷ []))
+    ∙ sym (append-nil (text_shown w (GivesLine line.source line.at (says_of line.line_content))))
 
 -- a line that was told, and the band that is full, if one is
 pub draws_on_line : (line : RunLine) (had has : Kept) (band : Option (List ℕ)) (a b : Option (List ℕ)) → has.window ≡ had.window →
-    lines_of_band band ++ has.lines ≡ had.lines ++ lines_if (shows_line had.window line) (text_of line ∷ []) → GoesOn (Tells line) had.page band has.page →
-    Draws a b (band_text band) (lines_of_band band) → DrawsOn had has a b (GivesLine line.source line.at (says_of line.saying) ∷ [])
+    lines_of_band band ++ has.lines ≡ had.lines ++ lines_if (shows_line had.window line) (text_of line ∷ []) → GoesOn (Reports line) had.page band has.page →
+    Draws a b (band_text band) (lines_of_band band) → DrawsOn had has a b (GivesLine line.source line.at (says_of line.line_content) ∷ [])
 draws_on_line line had has band a b window is goes draws = record {
   markup = band_text band;
   drawn = lines_of_band band;
   draws = draws;
   window = window;
   goes_on = is ∙ ap (λ l. had.lines ++ l) (line_shown had.window line);
-  fills = fills_one (Tells line) had.page has.page band goes;
+  fills = fills_one (Reports line) had.page has.page band goes;
 }
 
 -- a read that was told, which is no line
@@ -131,7 +131,7 @@ draws_rest at None has new full last a b are rests draws = record {
   draws = subst (λ l. Draws a b (band_text full ++ last) l) (are ∙ ap (λ l. has.lines ++ l) (no_lines_if (shows_end has.window at))) draws;
   items = [];
   are = refl;
-  ends = λ plan before is. let two = rests plan before is in (two.0 ∙ append_assoc (full_told plan before) (band_text full) last, two.1);
+  ends = λ plan before is. let two = rests plan before is in (two.0 ∙ append_assoc (full_reported plan before) (band_text full) last, two.1);
 }
 draws_rest at (Some verdict) has new full last a b are rests draws = record {
   markup = band_text full ++ last;
@@ -139,7 +139,7 @@ draws_rest at (Some verdict) has new full last a b are rests draws = record {
       (are ∙ ap (λ l. has.lines ++ l) (sym (append-nil (lines_if (shows_end has.window at) (verdict_titles (seen_verdict verdict)))))) draws;
   items = Judges at verdict ∷ [];
   are = refl;
-  ends = λ plan before is. let two = rests plan before is in (two.0 ∙ append_assoc (full_told plan before) (band_text full) last, two.1);
+  ends = λ plan before is. let two = rests plan before is in (two.0 ∙ append_assoc (full_reported plan before) (band_text full) last, two.1);
 }
 
 -- items, and then the last ones
@@ -159,7 +159,7 @@ rest_behind had has a b c gives more height on rest = record {
       let one = on.fills.goes_on plan before is in
       let two = rest.ends plan (on.fills.items ++ before) one.0 in
       let same : (rest.items ++ on.fills.items) ++ before ≡ rest.items ++ (on.fills.items ++ before) = append_assoc rest.items on.fills.items before in
-      (ap (bands_told plan) same ∙ two.0 ∙ ap (λ l. l ++ rest.markup) one.1 ∙ append_assoc (full_told plan before) on.markup rest.markup, two.1 ∙ ap (heights_told plan) (sym same));
+      (ap (bands_reported plan) same ∙ two.0 ∙ ap (λ l. l ++ rest.markup) one.1 ∙ append_assoc (full_reported plan before) on.markup rest.markup, two.1 ∙ ap (heights_reported plan) (sym same));
 }
 
 -- from the start on: all bands
@@ -185,7 +185,7 @@ draws_lines_both had has now a b c source at lines more first next = λ mode s p
     let two = next mode s past (waiting lines reads) one.1 in (
       subst (λ l. DrawsOn (kept had) (kept now) a c l) (sym (lines_append mode source at reads lines more))
           (draws_on_both (kept had) (kept has) (kept now) a b c (lines_given mode source at reads lines) (lines_given mode source at (waiting lines reads) more) one.0 two.0),
-      subst (λ l. Overhears mode s past l now.overlaps) (sym (waiting_append lines more reads)) two.1,
+      subst (λ l. ObservesAll mode s past l now.overlaps) (sym (waiting_append lines more reads)) two.1,
     )
 
 -- marks of a process, and then others
@@ -207,9 +207,9 @@ IsWhole w old new markup gives = (opens_in markup (Some []) ≡ Some []) × (lin
 
 -- what stands before and behind tells nothing, and ends what it begins
 pub framed : (plan : WindowPlan) (a b c d : Option (List ℕ)) (head ending : List ℕ) (names : List (List ℕ)) (gives : List Gives) (height : ℕ) → IsAround names head ending → Writes a b head → (bands : DrawsBands plan b c gives height) → Writes c d ending →
-    IsWhole plan.window a d ((head ++ bands_told plan bands.items) ++ ending) gives
+    IsWhole plan.window a d ((head ++ bands_reported plan bands.items) ++ ending) gives
 framed plan a b c d head ending names gives height around first bands last =
-    let markup : List ℕ = bands_told plan bands.items in
+    let markup : List ℕ = bands_reported plan bands.items in
     let front = writes_both a b c head markup first bands.draws.writes in (
       opens_on (head ++ markup) ending (Some []) front.rests ∙ ap (opens_in ending) (opens_on head markup (Some []) first.rests ∙ ap (opens_in markup) around.begins ∙ bands.draws.ended (Some names)) ∙ around.ends,
       lines_on (head ++ markup) ending front.rests ∙ (λ i. lines_on head markup first.rests i ++ around.no_end i) ∙ append-nil (lines_in head ++ lines_in markup) ∙ ap (λ l. l ++ lines_in markup) around.no_head ∙ bands.draws.read_back,

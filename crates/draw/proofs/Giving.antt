@@ -2,10 +2,10 @@
 use Rattle.std.proofs.Common.{◌≡◌, ◌<◌, ℕ, ◌+◌, ◌&&◌, Bool, true, List, [], ◌∷◌, ◌++◌, flat_map, get_or, length, map, take, refl, ap, sym, ◌∙◌, append-nil, append_assoc}
 use Rattle.std.proofs.lemmas.Grind.{flat_map-append}
 use Rattle.std.proofs.lemmas.List.{map-append, take_more}
-use Rattle.picture.specs.{Accesses, Item, Judges, Reads, Tells, Window, all_entries, lines_if, sayings, seen_verdict, shows_entry, shows_said}
+use Rattle.picture.specs.{Accesses, Item, Judges, Reads, Reports, Window, all_entries, lines_if, line_contents, seen_verdict, shows_entry, shows_said}
 use Rattle.std.proofs.Math.Dec.{leb-zero}
-use Rattle.picture.specs.picture_layout.{OverlappedRead, Saying, given_access, marks_said, saying_text}
-use Rattle.picture.specs.picture_layout.declared.told.Saying.TheVariants.{Marked, Refused, Tired, Shown as ShowsStore, Ended, LockMarked, LockEnded}
+use Rattle.picture.specs.picture_layout.{OverlappedRead, LineContent, given_access, marks_said, content_text}
+use Rattle.picture.specs.picture_layout.declared.line_contents.LineContent.TheVariants.{Marked, Refused, Tired, Shown as ShowsStore, Ended, LockMarked, LockEnded}
 use Rattle.picture.specs.declared.reads.Reads.{Reads as Mode}
 use Rattle.picture.specs.declared.reads.Reads.TheVariants.{All, Hidden, Shown}
 use Rattle.model.specs.plain_store.{Setup}
@@ -47,7 +47,7 @@ module _ (mode : Mode) (source at : ℕ) where
 -- items, and then others, which stand before them
 given_append : (more items : List Item) → given (more ++ items) ≡ given items ++ given more
 given_append [] items = sym (append-nil (given items))
-given_append (Tells line ∷ more) items = ap (λ l. l ++ GivesLine line.source line.at (says_of line.saying) ∷ []) (given_append more items) ∙ append_assoc (given items) (given more) (GivesLine line.source line.at (says_of line.saying) ∷ [])
+given_append (Reports line ∷ more) items = ap (λ l. l ++ GivesLine line.source line.at (says_of line.line_content) ∷ []) (given_append more items) ∙ append_assoc (given items) (given more) (GivesLine line.source line.at (says_of line.line_content) ∷ [])
 given_append (Reads read ∷ more) items = ap (λ l. l ++ GivesRead read ∷ []) (given_append more items) ∙ append_assoc (given items) (given more) (GivesRead read ∷ [])
 given_append (Judges at verdict ∷ more) items =
     ap (λ l. l ++ GivesVerdict at (seen_verdict verdict) ∷ []) (given_append more items) ∙ append_assoc (given items) (given more) (GivesVerdict at (seen_verdict verdict) ∷ [])
@@ -62,14 +62,14 @@ both_given more items gives then is next = given_append more items ∙ (λ i. is
 pub texts_append : (gives more : List Gives) → texts_given (gives ++ more) ≡ texts_given gives ++ texts_given more
 texts_append gives more = flat_map-append text_given gives more
 
-pub text_of_saying : (at : ℕ) (saying : Saying) → says_text at (says_of saying) ≡ saying_text at saying
-text_of_saying at (Marked p mark change) = refl
-text_of_saying at (Refused p refusal) = refl
-text_of_saying at (Tired p) = refl
-text_of_saying at (ShowsStore words) = refl
-text_of_saying at (Ended events taken refused) = refl
-text_of_saying at (LockMarked p mark) = refl
-text_of_saying at (LockEnded entries) = refl
+pub text_of_content : (at : ℕ) (line_content : LineContent) → says_text at (says_of line_content) ≡ content_text at line_content
+text_of_content at (Marked p mark change) = refl
+text_of_content at (Refused p refusal) = refl
+text_of_content at (Tired p) = refl
+text_of_content at (ShowsStore words) = refl
+text_of_content at (Ended events taken refused) = refl
+text_of_content at (LockMarked p mark) = refl
+text_of_content at (LockEnded entries) = refl
 
 pub texts_of_reads : (reads : List OverlappedRead) → texts_given (map GivesRead reads) ≡ []
 texts_of_reads [] = refl
@@ -91,7 +91,7 @@ module _ (w : Window) where
   shown_append gives more = flat_map-append (text_shown w) gives more
 
   -- a line is shown by what it says
-  pub shows_saying : (at : ℕ) (saying : Saying) → shows_says w at (says_of saying) ≡ shows_said w at saying
+  pub shows_saying : (at : ℕ) (line_content : LineContent) → shows_says w at (says_of line_content) ≡ shows_said w at line_content
   shows_saying at (Marked p mark change) = refl
   shows_saying at (Refused p refusal) = refl
   shows_saying at (Tired p) = refl
@@ -135,21 +135,21 @@ shown_in w gives all = ap (λ (w : Window). texts_shown w gives) all ∙ shown_a
 pub marks_append : (gives more : List Gives) → marks_given (gives ++ more) ≡ marks_given gives ++ marks_given more
 marks_append gives more = flat_map-append mark_given gives more
 
-marks_of_saying : (saying : Saying) → marks_says (says_of saying) ≡ marks_said saying
-marks_of_saying (Marked p mark change) = refl
-marks_of_saying (Refused p refusal) = refl
-marks_of_saying (Tired p) = refl
-marks_of_saying (ShowsStore words) = refl
-marks_of_saying (Ended events taken refused) = refl
-marks_of_saying (LockMarked p mark) = refl
-marks_of_saying (LockEnded entries) = refl
+marks_of_content : (line_content : LineContent) → marks_says (says_of line_content) ≡ marks_said line_content
+marks_of_content (Marked p mark change) = refl
+marks_of_content (Refused p refusal) = refl
+marks_of_content (Tired p) = refl
+marks_of_content (ShowsStore words) = refl
+marks_of_content (Ended events taken refused) = refl
+marks_of_content (LockMarked p mark) = refl
+marks_of_content (LockEnded entries) = refl
 
-pub marks_of_items : (items : List Item) → marks_given (given items) ≡ flat_map marks_said (sayings items)
+pub marks_of_items : (items : List Item) → marks_given (given items) ≡ flat_map marks_said (line_contents items)
 marks_of_items [] = refl
-marks_of_items (Tells line ∷ before) =
-    marks_append (given before) (GivesLine line.source line.at (says_of line.saying) ∷ [])
-    ∙ (λ i. marks_of_items before i ++ (ap (λ l. l ++ []) (marks_of_saying line.saying)) i)
-    ∙ sym (flat_map-append marks_said (sayings before) (line.saying ∷ []))
+marks_of_items (Reports line ∷ before) =
+    marks_append (given before) (GivesLine line.source line.at (says_of line.line_content) ∷ [])
+    ∙ (λ i. marks_of_items before i ++ (ap (λ l. l ++ []) (marks_of_content line.line_content)) i)
+    ∙ sym (flat_map-append marks_said (line_contents before) (line.line_content ∷ []))
 marks_of_items (Reads read ∷ before) = marks_append (given before) (GivesRead read ∷ []) ∙ append-nil (marks_given (given before)) ∙ marks_of_items before
 marks_of_items (Judges at verdict ∷ before) = marks_append (given before) (GivesVerdict at (seen_verdict verdict) ∷ []) ∙ append-nil (marks_given (given before)) ∙ marks_of_items before
 marks_of_items (Accesses access ∷ before) = marks_append (given before) (GivesAccess (given_access access) ∷ []) ∙ append-nil (marks_given (given before)) ∙ marks_of_items before

@@ -12,7 +12,7 @@ use Rattle.model.specs.declared.stages.Stage.TheVariants.{Idle, Doorway, Waiting
 use Rattle.model.specs.Parts.{Part, Lowers, Waits, AsksImage, first_marks, last_marks}
 use Rattle.model.proofs.Staging.{stage-placed}
 use Rattle.model.proofs.Width.{IsGood, is_good}
-use Rattle.scenario_run.specs.laws.{call, doing, is_inside, ticket_told}
+use Rattle.scenario_run.specs.laws.{call, doing, is_inside, ticket_reported}
 use Rattle.scenario_run.proofs.laws.Always.{inv_of}
 use Rattle.scenario_run.proofs.laws.AtPlaces.{any-stepping}
 use Rattle.scenario_run.proofs.laws.DoorwayParts.{both}
@@ -20,15 +20,15 @@ use Rattle.scenario_run.proofs.laws.FrameEvents.{accepted}
 use Rattle.scenario_run.proofs.laws.FrameInside.{inside-is}
 use Rattle.scenario_run.proofs.laws.Invariant.{Inv}
 use Rattle.scenario_run.proofs.laws.Theorems.{Enters, enters, mutual_exclusion, of_entered}
-use Rattle.picture.specs.{Accesses, Item, Judges, Reads, Tells, sayings, state_after}
-use Rattle.picture.specs.picture_layout.{StagesAreTheRecords, State, at_first, before_in, line_of_first, marks_in, stage_among, state_told, ticket_in}
+use Rattle.picture.specs.{Accesses, Item, Judges, Reads, Reports, line_contents, state_after}
+use Rattle.picture.specs.picture_layout.{StagesAreTheRecords, State, at_first, before_in, line_of_first, marks_in, stage_among, state_reported, ticket_in}
 use Rattle.scenario_run.proofs.laws.FirstInLine.{first_inside}
 use Rattle.scenario_run.proofs.laws.HeldTickets.{insiders}
 use Rattle.draw.specs.{IsFirstInLine, WaitsNoMore, WhoEntersIsFirst, WhoIsInsideIsDrawnFirst, WhoIsInsideIsFirst, state_of_lines}
 use Rattle.draw.proofs.Insides as insides
 use Rattle.draw.proofs.LineOrder.{Below, HasTicket, stands_before}
 use Rattle.draw.proofs.SeatTickets.{lines_processes, lines_stages, tickets_are}
-use Rattle.draw.proofs.TicketsShown.{ShownAt, record_shown, shown_told, shows, ticket_shown}
+use Rattle.draw.proofs.TicketsShown.{ShownAt, record_shown, shown_reported, shows, ticket_shown}
 
 -- no two pairs are each below the other
 crossed : (a p b q : ℕ) → is_below a p b q ≡ true → (b < a) ⊎ ((b ≡ a) × (q < p)) → ⊥
@@ -47,7 +47,7 @@ crossed a p b q is other = go (nat_lt a b) refl
         not_both (inr (eqb-true a b tie.0, ltb-true p q tie.1)) other
 
 -- who is inside was told a ticket
-insider-positive : (s : Setup) → IsGood s → (events : List Event) (p : ℕ) → p < s.processes → inside p (past_of s events) ≡ true → 0 < ticket_told p (past_of s events)
+insider-positive : (s : Setup) → IsGood s → (events : List Event) (p : ℕ) → p < s.processes → inside p (past_of s events) ≡ true → 0 < ticket_reported p (past_of s events)
 insider-positive s g events p pN within =
     let inv : Inv s (past_of s events) = inv_of s g events in
     let here : is_inside (doing s p (past_of s events)) ≡ true = sym (inside-is s g events p) ∙ within in
@@ -65,24 +65,24 @@ no_more s g events p q at holds below = go (stage q past) refl (shows s g events
     within : inside p past ≡ true
     within = insides.is_inside p past at
 
-    mine : ticket_shown p past ≡ ticket_told p past
-    mine = subst (λ x. ShownAt x (ticket_shown p past) (ticket_told p past)) at (shows s g events p)
+    mine : ticket_shown p past ≡ ticket_reported p past
+    mine = subst (λ x. ShownAt x (ticket_shown p past) (ticket_reported p past)) at (shows s g events p)
 
     apart : (ticket_shown q past < ticket_shown p past) ⊎ ((ticket_shown q past ≡ ticket_shown p past) × (q < p)) → q ≢ p
     apart (inl lower) same = let e : ticket_shown q past ≡ ticket_shown p past = ap (λ r. ticket_shown r past) same in omega (arith, lower, e)
     apart (inr (tie, lower)) same = omega (arith, lower, same)
 
-    go : (st : Stage) → stage q past ≡ st → ShownAt (stage q past) (ticket_shown q past) (ticket_told q past) → WaitsNoMore (stage q past)
-    go Idle is shown = absurd (holds (subst (λ x. ShownAt x (ticket_shown q past) (ticket_told q past)) is shown))
-    go Doorway is shown = absurd (holds (subst (λ x. ShownAt x (ticket_shown q past) (ticket_told q past)) is shown))
-    go Down is shown = absurd (holds (subst (λ x. ShownAt x (ticket_shown q past) (ticket_told q past)) is shown))
+    go : (st : Stage) → stage q past ≡ st → ShownAt (stage q past) (ticket_shown q past) (ticket_reported q past) → WaitsNoMore (stage q past)
+    go Idle is shown = absurd (holds (subst (λ x. ShownAt x (ticket_shown q past) (ticket_reported q past)) is shown))
+    go Doorway is shown = absurd (holds (subst (λ x. ShownAt x (ticket_shown q past) (ticket_reported q past)) is shown))
+    go Down is shown = absurd (holds (subst (λ x. ShownAt x (ticket_shown q past) (ticket_reported q past)) is shown))
     go Inside is shown = absurd (apart below (mutual_exclusion s g (inv_of s g) events q p (insides.is_inside q past is) within))
     go Leaving is shown = inl is
     go Settling is shown = inr is
     go Waiting is shown =
-        let its : ticket_shown q past ≡ ticket_told q past = subst (λ x. ShownAt x (ticket_shown q past) (ticket_told q past)) is shown in
-        absurd (crossed (ticket_told p past) p (ticket_told q past) q (first_inside s g events p within q is)
-        (subst (λ t. (t < ticket_told p past) ⊎ ((t ≡ ticket_told p past) × (q < p))) its (subst (λ u. (ticket_shown q past < u) ⊎ ((ticket_shown q past ≡ u) × (q < p))) mine below)))
+        let its : ticket_shown q past ≡ ticket_reported q past = subst (λ x. ShownAt x (ticket_shown q past) (ticket_reported q past)) is shown in
+        absurd (crossed (ticket_reported p past) p (ticket_reported q past) q (first_inside s g events p within q is)
+        (subst (λ t. (t < ticket_reported p past) ⊎ ((t ≡ ticket_reported p past) × (q < p))) its (subst (λ u. (ticket_shown q past < u) ⊎ ((ticket_shown q past ≡ u) × (q < p))) mine below)))
 
 -- By the lines.
 pub inside_first : StagesAreTheRecords → WhoIsInsideIsFirst
@@ -106,17 +106,17 @@ inside_first are s good events lines say p pN at q before =
     stage_is r rN = ap (λ l. stage_among l r) (lines_stages (at_first s.processes) lines) ∙ are s.processes lines past say r rN (few r rN)
 
     ticket_is : (r : ℕ) → r < s.processes → ticket_in state r ≡ ticket_shown r past
-    ticket_is r rN = tickets_are s.processes lines r rN (few r rN) ∙ ap (fold (shown_told r) 0) say ∙ record_shown r past
+    ticket_is r rN = tickets_are s.processes lines r rN (few r rN) ∙ ap (fold (shown_reported r) 0) say ∙ record_shown r past
 
     stage_p : stage p past ≡ Inside
     stage_p = sym (stage_is p pN) ∙ at
 
     holds : ticket_in state p ≢ 0
     holds none =
-        let told : ticket_shown p past ≡ ticket_told p past = subst (λ x. ShownAt x (ticket_shown p past) (ticket_told p past)) stage_p (shows s g events p) in
+        let reported : ticket_shown p past ≡ ticket_reported p past = subst (λ x. ShownAt x (ticket_shown p past) (ticket_reported p past)) stage_p (shows s g events p) in
         let positive = insider-positive s g events p pN (insides.is_inside p past stage_p) in
         let shown = ticket_is p pN in
-        omega (arith, none, told, positive, shown)
+        omega (arith, none, reported, positive, shown)
 
     found : HasTicket state s.processes q × Below state q p
     found = stands_before state s.processes p pN holds q (subst (λ n. Contains (before_in p (line_of_first state n)) q) (lines_processes (at_first s.processes) lines) before)
@@ -197,12 +197,12 @@ entering_first are s good events event e is h lines say = inside_first are s goo
     then = ap (λ o. elim o as (λ _. Past) [ None ↦ past_of s events | Some x ↦ x ∷ past_of s events ]) is
 
 -- By the items of a picture.
-items_tell : (processes : ℕ) (items : List Item) → state_after (at_first processes) items ≡ state_of_lines processes (sayings items)
-items_tell processes [] = refl
-items_tell processes (Tells line ∷ before) = ap (λ state. state_told state line.saying) (items_tell processes before) ∙ sym (fold-append state_told (at_first processes) (sayings before) (line.saying ∷ []))
-items_tell processes (Reads read ∷ before) = items_tell processes before
-items_tell processes (Accesses access ∷ before) = items_tell processes before
-items_tell processes (Judges at verdict ∷ before) = items_tell processes before
+items_report : (processes : ℕ) (items : List Item) → state_after (at_first processes) items ≡ state_of_lines processes (line_contents items)
+items_report processes [] = refl
+items_report processes (Reports line ∷ before) = ap (λ state. state_reported state line.line_content) (items_report processes before) ∙ sym (fold-append state_reported (at_first processes) (line_contents before) (line.line_content ∷ []))
+items_report processes (Reads read ∷ before) = items_report processes before
+items_report processes (Accesses access ∷ before) = items_report processes before
+items_report processes (Judges at verdict ∷ before) = items_report processes before
 
 pub drawn_first : StagesAreTheRecords → WhoIsInsideIsDrawnFirst
-drawn_first are s good events items say p pN = subst (λ (state : State). stage_among state.stages p ≡ Inside → IsFirstInLine state p) (sym (items_tell s.processes items)) (inside_first are s good events (sayings items) say p pN)
+drawn_first are s good events items say p pN = subst (λ (state : State). stage_among state.stages p ≡ Inside → IsFirstInLine state p) (sym (items_report s.processes items)) (inside_first are s good events (line_contents items) say p pN)

@@ -8,7 +8,7 @@ use Rattle.model.specs.declared.stages.Stage.TheVariants.{Idle, Inside}
 use Rattle.model.proofs.Width.{is_good}
 use Rattle.scenario_run.proofs.laws.Always.{inv_of}
 use Rattle.scenario_run.proofs.laws.Theorems.{mutual_exclusion}
-use Rattle.picture.specs.picture_layout.{Saying, StagesAreTheRecords, marks_in, marks_said, stage_among, stages_after}
+use Rattle.picture.specs.picture_layout.{LineContent, StagesAreTheRecords, marks_in, marks_said, stage_among, stages_after}
 use Rattle.draw.specs.{OneIsInside}
 
 -- who has left is not inside
@@ -40,11 +40,11 @@ is_inside p [] at = absurd (cc)
 is_inside p (e ∷ past) at = entered_inside (e.process == p) (stage p past) (inside p past) e.marks (is_inside p past) at
 
 -- by lines that say a record's marks
-told_inside : StagesAreTheRecords → (s : Setup) → checked s ≡ Ok tt → (lines : List Saying) (past : Past) → flat_map marks_said lines ≡ marks_in past → (p : ℕ) → p < s.processes → stage_among (stages_after s.processes lines) p ≡ Inside → inside p past ≡ true
-told_inside are s good lines past say p is at =
+reported_inside : StagesAreTheRecords → (s : Setup) → checked s ≡ Ok tt → (lines : List LineContent) (past : Past) → flat_map marks_said lines ≡ marks_in past → (p : ℕ) → p < s.processes → stage_among (stages_after s.processes lines) p ≡ Inside → inside p past ≡ true
+reported_inside are s good lines past say p is at =
     let few = few-processes s good in
     is_inside p past (sym (are s.processes lines past say p is (omega (arith, few, is))) ∙ at)
 
 pub one_is : StagesAreTheRecords → OneIsInside
 one_is are s good events lines say p q is_p is_q at_p at_q =
-    mutual_exclusion s (is_good s good) (inv_of s (is_good s good)) events p q (told_inside are s good lines (past_of s events) say p is_p at_p) (told_inside are s good lines (past_of s events) say q is_q at_q)
+    mutual_exclusion s (is_good s good) (inv_of s (is_good s good)) events p q (reported_inside are s good lines (past_of s events) say p is_p at_p) (reported_inside are s good lines (past_of s events) say q is_q at_q)

@@ -10,14 +10,14 @@ use Rattle.scenario.specs.files.declared.faults.FaultKind.TheVariants.{NotFirst,
 use Rattle.model.specs.{Entry, Past}
 use Rattle.judge.specs.record_file.{Progress, cleared, entry_in, line_read, record_grammar, record_of}
 use Rattle.judge.specs.record_file.scenario.{Progress as Head}
-use Rattle.judge.specs.{IsInputFault, IsOfRecord, Telling, number_in, say_entry}
-use Rattle.judge.specs.Trials.{HearsAt, good_in}
-use Rattle.judge.specs.Trials.{GoesOn as HearsOn}
-use Rattle.judge.specs.Trials.{Stands as HearerStands}
+use Rattle.judge.specs.{IsInputFault, IsOfRecord, Reporting, number_in, say_entry}
+use Rattle.judge.specs.Trials.{ObservesAt, good_in}
+use Rattle.judge.specs.Trials.{GoesOn as ObservesOn}
+use Rattle.judge.specs.Trials.{Stands as ObserverStands}
 use Rattle.judge.proofs.Ends.{GoesOnTo, Onwards, at_end, goes_on_at_first, of_input, onwards_fault, onwards_on}
 use Rattle.judge.proofs.Trials.{unless_then}
-use Rattle.judge.proofs.Lines.{later_left}
-use Rattle.draw.specs.{All, DrawnEntry, DrawsBandsOf, EndsAsked, GoesOn, HasRead, HasStopped, IsDrawFault, IsJudged, IsShown, LineStops, SaysAll, Sheet, Stands, TellsOfLines, UpTo, entries_of}
+use Rattle.judge.proofs.Lines.{later_remaining}
+use Rattle.draw.specs.{All, DrawnEntry, DrawsBandsOf, EndsAsked, GoesOn, HasRead, HasStopped, IsDrawFault, IsJudged, IsShown, LineStops, SaysAll, RecordPicture, Stands, ReportsOfLines, UpTo, entries_of}
 use Rattle.draw.proofs.RecordEnds.{drawn_count}
 use Rattle.draw.proofs.Lines.{head_stays}
 use Rattle.draw.proofs.Whole.{if_some}
@@ -42,10 +42,10 @@ read_words line before now read = by (nat_lt 128 (length line)) read
 -- behind an entry a line leaves the setup as it is
 setup_stays : (line : List ℕ) (p : Progress) (now : Option Progress) → line_read line (Some p) ≡ Ok now → p.ended ≡ true → (next : Progress) × (cleared now ≡ Some next) × (next.ended ≡ true) × (next.head.setup ≡ p.head.setup)
 setup_stays line p now read ended =
-    let left = later_left (words_of line) p now (read_words line (Some p) now read) in
-    let next : Progress = left.0 in
-    let stays = head_stays (say_entry (words_of line)) p next ended left.2 in
-    (record next { entry = None }, ap cleared left.1, stays.0, ap (λ (h : Head). h.setup) stays.1)
+    let remaining = later_remaining (words_of line) p now (read_words line (Some p) now read) in
+    let next : Progress = remaining.0 in
+    let stays = head_stays (say_entry (words_of line)) p next ended remaining.2 in
+    (record next { entry = None }, ap cleared remaining.1, stays.0, ap (λ (h : Head). h.setup) stays.1)
 
 -- what was read of a text is all of it, where nothing is left
 says_all : (before : Option Progress) (entries : List Entry) (numbers : List ℕ) (taken : ℕ) (x y : List ℕ) → GoesOnTo before entries numbers taken x y → y ≡ [] → SaysAll before entries numbers taken x
@@ -56,23 +56,23 @@ says_all before entries numbers taken x y so_far none = by before (subst (λ y. 
     by (Some p) to = (sym to.reads, sym (append-nil numbers) ∙ to.counts)
 
 -- reading what is left goes on to what reading all gives, each entry so far was heard, and drawn as far as it is shown
-pub record Judged {H : Type 0} (HasHeard : H → Setup → List Entry → List ℕ → Type 0) (Keeps : Setup → List Entry → Type 0) (finds_good : H → Bool) (to_come rest : Option (List ℕ)) (taken : ℕ) (reader : Option Progress) (j : Option H) (shows : Bool) (t : Sheet) (first now : Option (List ℕ)) : Type 0 where
-  pub onwards : Onwards HasHeard to_come rest taken reader j
+pub record Judged {H : Type 0} (HasObserved : H → Setup → List Entry → List ℕ → Type 0) (Keeps : Setup → List Entry → Type 0) (finds_good : H → Bool) (to_come rest : Option (List ℕ)) (taken : ℕ) (reader : Option Progress) (j : Option H) (shows : Bool) (t : RecordPicture) (first now : Option (List ℕ)) : Type 0 where
+  pub onwards : Onwards HasObserved to_come rest taken reader j
   pub shown : IsShown Keeps finds_good shows j t onwards.before onwards.entries first now
 
-module _ {H : Type 0} (HasHeard : H → Setup → List Entry → List ℕ → Type 0) (Keeps : Setup → List Entry → Type 0) (finds_good : H → Bool) where
+module _ {H : Type 0} (HasObserved : H → Setup → List Entry → List ℕ → Type 0) (Keeps : Setup → List Entry → Type 0) (finds_good : H → Bool) where
   -- what was read of the file is shown
-  shown_read : (shows : Bool) (j : Option H) (t : Sheet) (before : Option Progress) (entries : List Entry) (first now : Option (List ℕ)) (p : Progress) → before ≡ Some p → IsShown Keeps finds_good shows j t before entries first now → t.reader ≡ None → ⊥
+  shown_read : (shows : Bool) (j : Option H) (t : RecordPicture) (before : Option Progress) (entries : List Entry) (first now : Option (List ℕ)) (p : Progress) → before ≡ Some p → IsShown Keeps finds_good shows j t before entries first now → t.reader ≡ None → ⊥
   shown_read true j t before entries first now p is shown none = let no : None ≡ Some p = sym none ∙ shown.1.reader ∙ is in cc
   shown_read false j t before entries first now p is shown none = let no : None ≡ Some shown.drawn = sym none ∙ shown.stands.reader in cc
 
   -- where all entries so far are shown
-  all_shown : (j : Option H) (t : Sheet) (before : Option Progress) (entries : List Entry) (first now : Option (List ℕ)) (b : Bool) → b ≡ true → IsShown Keeps finds_good b j t before entries first now → Stands t before (reverse entries) first now
+  all_shown : (j : Option H) (t : RecordPicture) (before : Option Progress) (entries : List Entry) (first now : Option (List ℕ)) (b : Bool) → b ≡ true → IsShown Keeps finds_good b j t before entries first now → Stands t before (reverse entries) first now
   all_shown j t before entries first now true shows shown = shown.1
   all_shown j t before entries first now false shows shown = absurd (cc)
 
   -- no more entries are drawn than lines were taken
-  pub shown_few : (to_come rest : Option (List ℕ)) (taken : ℕ) (reader : Option Progress) (j : Option H) (t : Sheet) (first now : Option (List ℕ)) (b : Bool) → b ≡ true → Judged HasHeard Keeps finds_good to_come rest taken reader j b t first now → entries_of t.entries ≤ taken
+  pub shown_few : (to_come rest : Option (List ℕ)) (taken : ℕ) (reader : Option Progress) (j : Option H) (t : RecordPicture) (first now : Option (List ℕ)) (b : Bool) → b ≡ true → Judged HasObserved Keeps finds_good to_come rest taken reader j b t first now → entries_of t.entries ≤ taken
   shown_few to_come rest taken reader j t first now b shows u =
       let v = u.onwards in
       let stands = all_shown j t v.before v.entries first now b shows u.shown in
@@ -81,25 +81,25 @@ module _ {H : Type 0} (HasHeard : H → Setup → List Entry → List ℕ → Ty
       omega (arith, few, count, length-reverse v.entries)
 
   -- before the first line, where no bytes have come yet
-  pub judged_start : (to_come : Option (List ℕ)) (ahead : Given) (taken : ℕ) (reader : Option Progress) (j : Option H) (t : Sheet) (first : Option (List ℕ)) → ahead.bytes ≡ [] → ahead.ended ≡ false → taken ≡ 0 → HearerStands HasHeard reader j None [] [] → Stands t None [] first first →
-      Judged HasHeard Keeps finds_good to_come (coming ahead to_come) taken reader j true t first first
+  pub judged_start : (to_come : Option (List ℕ)) (ahead : Given) (taken : ℕ) (reader : Option Progress) (j : Option H) (t : RecordPicture) (first : Option (List ℕ)) → ahead.bytes ≡ [] → ahead.ended ≡ false → taken ≡ 0 → ObserverStands HasObserved reader j None [] [] → Stands t None [] first first →
+      Judged HasObserved Keeps finds_good to_come (coming ahead to_come) taken reader j true t first first
   judged_start to_come ahead taken reader j t first fresh open_yet none stands begun =
-      subst (λ (l : List ℕ). Judged HasHeard Keeps finds_good to_come (prepend_known l (unless_ended ahead.ended to_come)) taken reader j true t first first) (sym fresh)
-      (subst (λ (b : Bool). Judged HasHeard Keeps finds_good to_come (prepend_known [] (unless_ended b to_come)) taken reader j true t first first) (sym open_yet)
-      (record { onwards = record { before = None; entries = []; numbers = []; stands = stands; few = omega arith; goes_on = goes_on_at_first to_come taken none }; shown = (nobody j stands.heard, begun) }))
+      subst (λ (l : List ℕ). Judged HasObserved Keeps finds_good to_come (prepend_known l (unless_ended ahead.ended to_come)) taken reader j true t first first) (sym fresh)
+      (subst (λ (b : Bool). Judged HasObserved Keeps finds_good to_come (prepend_known [] (unless_ended b to_come)) taken reader j true t first first) (sym open_yet)
+      (record { onwards = record { before = None; entries = []; numbers = []; stands = stands; few = omega arith; goes_on = goes_on_at_first to_come taken none }; shown = (nobody j stands.observed, begun) }))
     where
-      nobody : (j : Option H) → HearsAt HasHeard j None [] [] → good_in finds_good j ≡ true
-      nobody None heard = refl
-      nobody (Some h) heard = absurd heard
+      nobody : (j : Option H) → ObservesAt HasObserved j None [] [] → good_in finds_good j ≡ true
+      nobody None observed = refl
+      nobody (Some h) observed = absurd observed
 
   -- A line more.
 
   -- a line, as it was taken
-  heard_at : (n : ℕ) (line : List ℕ) (l : LineState) (before reader : Option Progress) (j : Option H) (entries : List Entry) (numbers : List ℕ) → n ≡ l.taken → line ≡ l.line → HearsOn HasHeard n line before reader j entries numbers → HearsOn HasHeard l.taken l.line before reader j entries numbers
-  heard_at n line l before reader j entries numbers number is on = subst (λ n. HearsOn HasHeard n l.line before reader j entries numbers) number (subst (λ (line : List ℕ). HearsOn HasHeard n line before reader j entries numbers) is on)
+  observed_at : (n : ℕ) (line : List ℕ) (l : LineState) (before reader : Option Progress) (j : Option H) (entries : List Entry) (numbers : List ℕ) → n ≡ l.taken → line ≡ l.line → ObservesOn HasObserved n line before reader j entries numbers → ObservesOn HasObserved l.taken l.line before reader j entries numbers
+  observed_at n line l before reader j entries numbers number is on = subst (λ n. ObservesOn HasObserved n l.line before reader j entries numbers) number (subst (λ (line : List ℕ). ObservesOn HasObserved n line before reader j entries numbers) is on)
 
   -- a line that was heard behind that entry
-  stopped_on : (n : ℕ) (line : List ℕ) (j j' : Option H) (t : Sheet) (before reader : Option Progress) (entries : List Entry) (numbers : List ℕ) (first now : Option (List ℕ)) → IsShown Keeps finds_good false j t before entries first now → (on : HearsOn HasHeard n line before reader j' entries numbers) → IsShown Keeps finds_good false j' t (cleared on.now) (entries ++ entry_in on.now) first now
+  stopped_on : (n : ℕ) (line : List ℕ) (j j' : Option H) (t : RecordPicture) (before reader : Option Progress) (entries : List Entry) (numbers : List ℕ) (first now : Option (List ℕ)) → IsShown Keeps finds_good false j t before entries first now → (on : ObservesOn HasObserved n line before reader j' entries numbers) → IsShown Keeps finds_good false j' t (cleared on.now) (entries ++ entry_in on.now) first now
   stopped_on n line j j' t before reader entries numbers first now shown on =
       let stays = setup_stays line shown.last on.now (ap (line_read line) (sym shown.read) ∙ on.says) shown.ended in
       record {
@@ -118,31 +118,31 @@ module _ {H : Type 0} (HasHeard : H → Setup → List Entry → List ℕ → Ty
       }
 
   -- or one that is heard alone
-  pub judged_heard : (to_come mid rest : Option (List ℕ)) (l l' : LineState) (n : ℕ) (line : List ℕ) (reader reader' : Option Progress) (j j' : Option H) (t : Sheet) (first now : Option (List ℕ)) (b : Bool) → b ≡ false → (u : Judged HasHeard Keeps finds_good to_come mid l.taken reader j b t first now) → TakesNext l l' mid rest → n ≡ l'.taken → line ≡ l'.line →
-      ((before : Option Progress) (entries : List Entry) (numbers : List ℕ) → HearerStands HasHeard reader j before entries numbers → HearsOn HasHeard n line before reader' j' entries numbers) → Judged HasHeard Keeps finds_good to_come rest l'.taken reader' j' b t first now
-  judged_heard to_come mid rest l l' n line reader reader' j j' t first now b stopped u takes number is hears =
+  pub judged_observed : (to_come mid rest : Option (List ℕ)) (l l' : LineState) (n : ℕ) (line : List ℕ) (reader reader' : Option Progress) (j j' : Option H) (t : RecordPicture) (first now : Option (List ℕ)) (b : Bool) → b ≡ false → (u : Judged HasObserved Keeps finds_good to_come mid l.taken reader j b t first now) → TakesNext l l' mid rest → n ≡ l'.taken → line ≡ l'.line →
+      ((before : Option Progress) (entries : List Entry) (numbers : List ℕ) → ObserverStands HasObserved reader j before entries numbers → ObservesOn HasObserved n line before reader' j' entries numbers) → Judged HasObserved Keeps finds_good to_come rest l'.taken reader' j' b t first now
+  judged_observed to_come mid rest l l' n line reader reader' j j' t first now b stopped u takes number is observes =
       let v = u.onwards in
-      let on = heard_at n line l' v.before reader' j' v.entries v.numbers number is (hears v.before v.entries v.numbers v.stands) in
+      let on = observed_at n line l' v.before reader' j' v.entries v.numbers number is (observes v.before v.entries v.numbers v.stands) in
       record {
-        onwards = onwards_on HasHeard to_come mid rest l l' reader reader' j j' v takes on;
+        onwards = onwards_on HasObserved to_come mid rest l l' reader reader' j j' v takes on;
         shown = subst (λ b. IsShown Keeps finds_good b j' t (cleared on.now) (v.entries ++ entry_in on.now) first now) (sym stopped)
             (stopped_on l'.taken l'.line j j' t v.before reader' v.entries v.numbers first now (subst (λ b. IsShown Keeps finds_good b j t v.before v.entries first now) stopped u.shown) on);
       }
 
   -- a line that has a fault, as it is found where it is drawn
-  pub read_fault : (to_come mid rest : Option (List ℕ)) (l l' : LineState) (n : ℕ) (line : List ℕ) (reader : Option Progress) (j : Option H) (t : Sheet) (first now : Option (List ℕ)) (b : Bool) (e : Fault) → b ≡ true → Judged HasHeard Keeps finds_good to_come mid l.taken reader j b t first now → TakesNext l l' mid rest → n ≡ l'.taken → line ≡ l'.line →
+  pub read_fault : (to_come mid rest : Option (List ℕ)) (l l' : LineState) (n : ℕ) (line : List ℕ) (reader : Option Progress) (j : Option H) (t : RecordPicture) (first now : Option (List ℕ)) (b : Bool) (e : Fault) → b ≡ true → Judged HasObserved Keeps finds_good to_come mid l.taken reader j b t first now → TakesNext l l' mid rest → n ≡ l'.taken → line ≡ l'.line →
       LineStops e n (λ kind. (before : Option Progress) → t.reader ≡ before → line_read line before ≡ Err kind) → IsDrawFault e to_come
   read_fault to_come mid rest l l' n line reader j t first now b (fault.Line f) shows u takes number is why =
       let v = u.onwards in
       let stands = all_shown j t v.before v.entries first now b shows u.shown in
       subst (λ (n : ℕ). IfSome to_come (λ text. UnlessMemory f.kind (record_of text ≡ Err (record { line = n; kind = f.kind })))) (sym (why.0 ∙ number))
-      (onwards_fault HasHeard to_come mid rest l l' reader j f.kind v takes (unless_then f.kind (λ (is_so : (before : Option Progress) → t.reader ≡ before → line_read line before ≡ Err f.kind). ap (λ (line : List ℕ). line_read line v.before) (sym is) ∙ is_so v.before stands.reader) why.1))
+      (onwards_fault HasObserved to_come mid rest l l' reader j f.kind v takes (unless_then f.kind (λ (is_so : (before : Option Progress) → t.reader ≡ before → line_read line before ≡ Err f.kind). ap (λ (line : List ℕ). line_read line v.before) (sym is) ∙ is_so v.before stands.reader) why.1))
   read_fault to_come mid rest l l' n line reader j t first now b e shows u takes number is why = tt
 
   -- The end.
 
   -- all lines were read
-  pub judged_read : (to_come mid : Option (List ℕ)) (taken n : ℕ) (reader : Option Progress) (j : Option H) (b : Bool) (t : Sheet) (first now : Option (List ℕ)) → Judged HasHeard Keeps finds_good to_come mid taken reader j b t first now → IsAtEnd mid → n ≡ taken → HasRead HasHeard Keeps finds_good to_come n reader j t first now
+  pub judged_read : (to_come mid : Option (List ℕ)) (taken n : ℕ) (reader : Option Progress) (j : Option H) (b : Bool) (t : RecordPicture) (first now : Option (List ℕ)) → Judged HasObserved Keeps finds_good to_come mid taken reader j b t first now → IsAtEnd mid → n ≡ taken → HasRead HasObserved Keeps finds_good to_come n reader j t first now
   judged_read to_come mid taken n reader j b t first now u end same =
       let v = u.onwards in
       record {
@@ -155,40 +155,40 @@ module _ {H : Type 0} (HasHeard : H → Setup → List Entry → List ℕ → Ty
         shown = u.shown;
       }
 
-  module _ (to_come : Option (List ℕ)) (taken : ℕ) (reader : Option Progress) (j : Option H) (t : Sheet) (first now : Option (List ℕ)) (u : HasRead HasHeard Keeps finds_good to_come taken reader j t first now) where
+  module _ (to_come : Option (List ℕ)) (taken : ℕ) (reader : Option Progress) (j : Option H) (t : RecordPicture) (first now : Option (List ℕ)) (u : HasRead HasObserved Keeps finds_good to_come taken reader j t first now) where
     -- all were skipped
     pub read_none : u.before ≡ None → IfSome to_come (λ text. record_of text ≡ Err (record { line = taken + 1; kind = NotFirst }))
     read_none none = subst (λ (o : Option Progress). IfSome to_come (SaysAll o u.entries u.numbers taken)) none u.says
 
     -- and something was read
-    pub read_some : (Tells : Setup → List Entry → List ℕ → List ℕ → ℕ → Type 0) (told : Telling) → TellsOfLines Tells (Some told) u.before u.entries u.numbers → t.reader ≡ None → ⊥
-    read_some Tells told is = shown_read u.shows j t u.before u.entries first now is.0 is.1 u.shown
+    pub read_some : (Reports : Setup → List Entry → List ℕ → List ℕ → ℕ → Type 0) (reported : Reporting) → ReportsOfLines Reports (Some reported) u.before u.entries u.numbers → t.reader ≡ None → ⊥
+    read_some Reports reported is = shown_read u.shows j t u.before u.entries first now is.0 is.1 u.shown
 
 -- What a judge finds is so.
 
-module _ {H : Type 0} (HasHeard : H → Setup → List Entry → List ℕ → Type 0) (Keeps : Setup → List Entry → Type 0) (finds_good : H → Bool) (begins : (s : Setup) → Keeps s [])
-    (good : (h : H) (s : Setup) (entries : List Entry) (numbers : List ℕ) → HasHeard h s entries numbers → finds_good h ≡ true → Keeps s entries)
-    (bad : (h : H) (s : Setup) (entries : List Entry) (numbers : List ℕ) → HasHeard h s entries numbers → finds_good h ≡ false → Keeps s entries → ⊥) where
+module _ {H : Type 0} (HasObserved : H → Setup → List Entry → List ℕ → Type 0) (Keeps : Setup → List Entry → Type 0) (finds_good : H → Bool) (begins : (s : Setup) → Keeps s [])
+    (good : (h : H) (s : Setup) (entries : List Entry) (numbers : List ℕ) → HasObserved h s entries numbers → finds_good h ≡ true → Keeps s entries)
+    (bad : (h : H) (s : Setup) (entries : List Entry) (numbers : List ℕ) → HasObserved h s entries numbers → finds_good h ≡ false → Keeps s entries → ⊥) where
   -- what a judge finds good keeps all laws
-  keeps_at : (j : Option H) (p : Progress) (entries : List Entry) (numbers : List ℕ) → HearsAt HasHeard j (Some p) entries numbers → good_in finds_good j ≡ true → Keeps p.head.setup entries
-  keeps_at None p entries numbers heard found = subst (λ (l : List Entry). Keeps p.head.setup l) (sym heard.0) (begins p.head.setup)
-  keeps_at (Some h) p entries numbers heard found = good h p.head.setup entries numbers heard.1 found
+  keeps_at : (j : Option H) (p : Progress) (entries : List Entry) (numbers : List ℕ) → ObservesAt HasObserved j (Some p) entries numbers → good_in finds_good j ≡ true → Keeps p.head.setup entries
+  keeps_at None p entries numbers observed found = subst (λ (l : List Entry). Keeps p.head.setup l) (sym observed.0) (begins p.head.setup)
+  keeps_at (Some h) p entries numbers observed found = good h p.head.setup entries numbers observed.1 found
 
   -- A line more, which is shown.
 
   -- what was found good before a line
-  kept_before : (line : List ℕ) (j : Option H) (before now : Option Progress) (entries : List Entry) (numbers : List ℕ) (p : Progress) → line_read line before ≡ Ok now → good_in finds_good j ≡ true → HearsAt HasHeard j before entries numbers → cleared now ≡ Some p → Keeps p.head.setup entries
-  kept_before line None before now entries numbers p read found heard is = subst (λ (l : List Entry). Keeps p.head.setup l) (sym heard.0) (begins p.head.setup)
-  kept_before line (Some i) None now entries numbers p read found heard is = absurd heard
-  kept_before line (Some i) (Some q) now entries numbers p read found heard is =
-      let stays = setup_stays line q now read heard.0 in
+  kept_before : (line : List ℕ) (j : Option H) (before now : Option Progress) (entries : List Entry) (numbers : List ℕ) (p : Progress) → line_read line before ≡ Ok now → good_in finds_good j ≡ true → ObservesAt HasObserved j before entries numbers → cleared now ≡ Some p → Keeps p.head.setup entries
+  kept_before line None before now entries numbers p read found observed is = subst (λ (l : List Entry). Keeps p.head.setup l) (sym observed.0) (begins p.head.setup)
+  kept_before line (Some i) None now entries numbers p read found observed is = absurd observed
+  kept_before line (Some i) (Some q) now entries numbers p read found observed is =
+      let stays = setup_stays line q now read observed.0 in
       let next : Progress = stays.0 in
       let both : Some next ≡ Some p = sym stays.1 ∙ is in
       let same : next ≡ p = cc in
-      subst (λ s. Keeps s entries) (sym stays.3 ∙ ap (λ (p : Progress). p.head.setup) same) (good i q.head.setup entries numbers heard.1 found)
+      subst (λ s. Keeps s entries) (sym stays.3 ∙ ap (λ (p : Progress). p.head.setup) same) (good i q.head.setup entries numbers observed.1 found)
 
   -- the first entry that breaks a law was drawn
-  stops : (t : Sheet) (before : Option Progress) (entries : List Entry) (o : Option Entry) (first after : Option (List ℕ)) (p : Progress) → before ≡ Some p → p.ended ≡ true → Keeps p.head.setup entries → (Keeps p.head.setup (entries ++ option_to_list o) → ⊥) → Stands t (Some p) (reverse (entries ++ option_to_list o)) first after →
+  stops : (t : RecordPicture) (before : Option Progress) (entries : List Entry) (o : Option Entry) (first after : Option (List ℕ)) (p : Progress) → before ≡ Some p → p.ended ≡ true → Keeps p.head.setup entries → (Keeps p.head.setup (entries ++ option_to_list o) → ⊥) → Stands t (Some p) (reverse (entries ++ option_to_list o)) first after →
       HasStopped Keeps t before (entries ++ option_to_list o) first after
   stops t before entries None first after p is ended keeps breaks stands = absurd (breaks (subst (λ (l : List Entry). Keeps p.head.setup l) (sym (append-nil entries)) keeps))
   stops t before entries (Some e) first after p is ended keeps breaks stands = record {
@@ -206,15 +206,15 @@ module _ {H : Type 0} (HasHeard : H → Setup → List Entry → List ℕ → Ty
     breaks = breaks;
   }
 
-  stops_at : (t : Sheet) (before now : Option Progress) (entries : List Entry) (first after : Option (List ℕ)) (p : Progress) → before ≡ Some p → p.ended ≡ true → Keeps p.head.setup entries → (Keeps p.head.setup (entries ++ entry_in now) → ⊥) → Stands t (Some p) (reverse (entries ++ entry_in now)) first after →
+  stops_at : (t : RecordPicture) (before now : Option Progress) (entries : List Entry) (first after : Option (List ℕ)) (p : Progress) → before ≡ Some p → p.ended ≡ true → Keeps p.head.setup entries → (Keeps p.head.setup (entries ++ entry_in now) → ⊥) → Stands t (Some p) (reverse (entries ++ entry_in now)) first after →
       HasStopped Keeps t before (entries ++ entry_in now) first after
   stops_at t before None entries first after p is ended keeps breaks stands = stops t before entries None first after p is ended keeps breaks stands
   stops_at t before (Some q) entries first after p is ended keeps breaks stands = stops t before entries q.entry first after p is ended keeps breaks stands
 
   -- a line that was heard and drawn
-  shown_on : (n : ℕ) (line : List ℕ) (j j' : Option H) (t t' : Sheet) (before reader : Option Progress) (entries : List Entry) (numbers : List ℕ) (first now after : Option (List ℕ)) → IsShown Keeps finds_good true j t before entries first now → HearsAt HasHeard j before entries numbers →
-      (on : HearsOn HasHeard n line before reader j' entries numbers) → GoesOn (line_read line before) t' (reverse entries) first after → (b : Bool) → b ≡ good_in finds_good j' → IsShown Keeps finds_good b j' t' (cleared on.now) (entries ++ entry_in on.now) first after
-  shown_on n line j j' t t' before reader entries numbers first now after shown heard on drawn b is = by b j' on.stands.heard is
+  shown_on : (n : ℕ) (line : List ℕ) (j j' : Option H) (t t' : RecordPicture) (before reader : Option Progress) (entries : List Entry) (numbers : List ℕ) (first now after : Option (List ℕ)) → IsShown Keeps finds_good true j t before entries first now → ObservesAt HasObserved j before entries numbers →
+      (on : ObservesOn HasObserved n line before reader j' entries numbers) → GoesOn (line_read line before) t' (reverse entries) first after → (b : Bool) → b ≡ good_in finds_good j' → IsShown Keeps finds_good b j' t' (cleared on.now) (entries ++ entry_in on.now) first after
+  shown_on n line j j' t t' before reader entries numbers first now after shown observed on drawn b is = by b j' on.stands.observed is
     where
       same : drawn.now ≡ on.now
       same = let both : (let r : Result (Option Progress) FaultKind = Ok drawn.now in r) ≡ Ok on.now = sym drawn.says ∙ on.says in cc
@@ -223,48 +223,48 @@ module _ {H : Type 0} (HasHeard : H → Setup → List Entry → List ℕ → Ty
       stands = subst (λ (l : List Entry). Stands t' (cleared on.now) l first after) (newest_first entries on.now)
           (subst (λ (o : Option Progress). Stands t' (cleared o) (entry_in o ++ reverse entries) first after) same drawn.stands)
 
-      found : (h : H) (o : Option Progress) → cleared on.now ≡ o → HearsAt HasHeard (Some h) o (entries ++ entry_in on.now) (numbers ++ number_in n line) → finds_good h ≡ false → HasStopped Keeps t' (cleared on.now) (entries ++ entry_in on.now) first after
-      found h None is heard' broken = absurd heard'
-      found h (Some p) is heard' broken =
-          stops_at t' (cleared on.now) on.now entries first after p is heard'.0 (kept_before line j before on.now entries numbers p on.says shown.0 heard is)
-          (bad h p.head.setup (entries ++ entry_in on.now) (numbers ++ number_in n line) heard'.1 broken)
+      found : (h : H) (o : Option Progress) → cleared on.now ≡ o → ObservesAt HasObserved (Some h) o (entries ++ entry_in on.now) (numbers ++ number_in n line) → finds_good h ≡ false → HasStopped Keeps t' (cleared on.now) (entries ++ entry_in on.now) first after
+      found h None is observed' broken = absurd observed'
+      found h (Some p) is observed' broken =
+          stops_at t' (cleared on.now) on.now entries first after p is observed'.0 (kept_before line j before on.now entries numbers p on.says shown.0 observed is)
+          (bad h p.head.setup (entries ++ entry_in on.now) (numbers ++ number_in n line) observed'.1 broken)
           (subst (λ (o : Option Progress). Stands t' o (reverse (entries ++ entry_in on.now)) first after) is stands)
 
-      by : (b : Bool) (j' : Option H) → HearsAt HasHeard j' (cleared on.now) (entries ++ entry_in on.now) (numbers ++ number_in n line) → b ≡ good_in finds_good j' → IsShown Keeps finds_good b j' t' (cleared on.now) (entries ++ entry_in on.now) first after
-      by true j' heard' is = (sym is, stands)
-      by false None heard' is = absurd (cc)
-      by false (Some h) heard' is = found h (cleared on.now) refl heard' (sym is)
+      by : (b : Bool) (j' : Option H) → ObservesAt HasObserved j' (cleared on.now) (entries ++ entry_in on.now) (numbers ++ number_in n line) → b ≡ good_in finds_good j' → IsShown Keeps finds_good b j' t' (cleared on.now) (entries ++ entry_in on.now) first after
+      by true j' observed' is = (sym is, stands)
+      by false None observed' is = absurd (cc)
+      by false (Some h) observed' is = found h (cleared on.now) refl observed' (sym is)
 
   -- a line more, which is shown
-  pub judged_shown : (to_come mid rest : Option (List ℕ)) (l l' : LineState) (n : ℕ) (line : List ℕ) (reader reader' : Option Progress) (j j' : Option H) (t t' : Sheet) (first now after : Option (List ℕ)) (b b' : Bool) → b ≡ true → (u : Judged HasHeard Keeps finds_good to_come mid l.taken reader j b t first now) → TakesNext l l' mid rest → n ≡ l'.taken → line ≡ l'.line →
-      ((before : Option Progress) (entries : List Entry) (numbers : List ℕ) → HearerStands HasHeard reader j before entries numbers → HearsOn HasHeard n line before reader' j' entries numbers) →
-      ((before : Option Progress) (past : Past) (first : Option (List ℕ)) → Stands t before past first now → GoesOn (line_read line before) t' past first after) → b' ≡ good_in finds_good j' → Judged HasHeard Keeps finds_good to_come rest l'.taken reader' j' b' t' first after
-  judged_shown to_come mid rest l l' n line reader reader' j j' t t' first now after b b' shows u takes number is hears draws good =
+  pub judged_shown : (to_come mid rest : Option (List ℕ)) (l l' : LineState) (n : ℕ) (line : List ℕ) (reader reader' : Option Progress) (j j' : Option H) (t t' : RecordPicture) (first now after : Option (List ℕ)) (b b' : Bool) → b ≡ true → (u : Judged HasObserved Keeps finds_good to_come mid l.taken reader j b t first now) → TakesNext l l' mid rest → n ≡ l'.taken → line ≡ l'.line →
+      ((before : Option Progress) (entries : List Entry) (numbers : List ℕ) → ObserverStands HasObserved reader j before entries numbers → ObservesOn HasObserved n line before reader' j' entries numbers) →
+      ((before : Option Progress) (past : Past) (first : Option (List ℕ)) → Stands t before past first now → GoesOn (line_read line before) t' past first after) → b' ≡ good_in finds_good j' → Judged HasObserved Keeps finds_good to_come rest l'.taken reader' j' b' t' first after
+  judged_shown to_come mid rest l l' n line reader reader' j j' t t' first now after b b' shows u takes number is observes draws good =
       let v = u.onwards in
       let shown : IsShown Keeps finds_good true j t v.before v.entries first now = subst (λ b. IsShown Keeps finds_good b j t v.before v.entries first now) shows u.shown in
-      let on = heard_at HasHeard Keeps finds_good n line l' v.before reader' j' v.entries v.numbers number is (hears v.before v.entries v.numbers v.stands) in
+      let on = observed_at HasObserved Keeps finds_good n line l' v.before reader' j' v.entries v.numbers number is (observes v.before v.entries v.numbers v.stands) in
       record {
-        onwards = onwards_on HasHeard to_come mid rest l l' reader reader' j j' v takes on;
-        shown = shown_on l'.taken l'.line j j' t t' v.before reader' v.entries v.numbers first now after shown v.stands.heard on (subst (λ (line : List ℕ). GoesOn (line_read line v.before) t' (reverse v.entries) first after) is (draws v.before (reverse v.entries) first shown.1)) b' good;
+        onwards = onwards_on HasObserved to_come mid rest l l' reader reader' j j' v takes on;
+        shown = shown_on l'.taken l'.line j j' t t' v.before reader' v.entries v.numbers first now after shown v.stands.observed on (subst (λ (line : List ℕ). GoesOn (line_read line v.before) t' (reverse v.entries) first after) is (draws v.before (reverse v.entries) first shown.1)) b' good;
       }
 
   -- The end.
 
   -- what is shown, and what the judge tells
-  judged_bands : (Tells : Setup → List Entry → List ℕ → List ℕ → ℕ → Type 0) (shows : Bool) (j : Option H) (t : Sheet) (before : Option Progress) (entries : List Entry) (numbers : List ℕ) (first now after : Option (List ℕ)) (p : Progress) (drawn : DrawnEntry) (told : List ℕ) (status : ℕ) →
-      before ≡ Some p → HearsAt HasHeard j before entries numbers → IsShown Keeps finds_good shows j t before entries first now → Tells p.head.setup entries numbers told status →
-      ((p : Progress) (past : Past) (first : Option (List ℕ)) → t.reader ≡ Some p → Stands t (Some p) past first now → (drawn.setup ≡ p.head.setup) × EndsAsked t.options t.form p.head.setup past told drawn.shows drawn.opening.items drawn.height first after) →
-      IsJudged Keeps Tells status (DrawsBandsOf t.options t.form drawn first after) p.head.setup entries numbers
-  judged_bands Tells true j t before entries numbers first now after p drawn told status is heard shown tells ends =
+  judged_bands : (Reports : Setup → List Entry → List ℕ → List ℕ → ℕ → Type 0) (shows : Bool) (j : Option H) (t : RecordPicture) (before : Option Progress) (entries : List Entry) (numbers : List ℕ) (first now after : Option (List ℕ)) (p : Progress) (drawn : DrawnEntry) (reported : List ℕ) (status : ℕ) →
+      before ≡ Some p → ObservesAt HasObserved j before entries numbers → IsShown Keeps finds_good shows j t before entries first now → Reports p.head.setup entries numbers reported status →
+      ((p : Progress) (past : Past) (first : Option (List ℕ)) → t.reader ≡ Some p → Stands t (Some p) past first now → (drawn.setup ≡ p.head.setup) × EndsAsked t.options t.form p.head.setup past reported drawn.shows drawn.opening.items drawn.height first after) →
+      IsJudged Keeps Reports status (DrawsBandsOf t.options t.form drawn first after) p.head.setup entries numbers
+  judged_bands Reports true j t before entries numbers first now after p drawn reported status is observed shown reports ends =
       let both = ends p (reverse entries) first (shown.1.reader ∙ is) (subst (λ (o : Option Progress). Stands t o (reverse entries) first now) is shown.1) in
       record {
-        told = told;
-        tells = tells;
+        reported = reported;
+        reports = reports;
         shown = entries;
-        shows = All refl (keeps_at j p entries numbers (subst (λ (o : Option Progress). HearsAt HasHeard j o entries numbers) is heard) shown.0);
+        shows = All refl (keeps_at j p entries numbers (subst (λ (o : Option Progress). ObservesAt HasObserved j o entries numbers) is observed) shown.0);
         is = record { setup = both.0; ends = both.1 };
       }
-  judged_bands Tells false j t before entries numbers first now after p drawn told status is heard shown tells ends =
+  judged_bands Reports false j t before entries numbers first now after p drawn reported status is observed shown reports ends =
       let q : Progress = shown.drawn in
       let entries' : List Entry = shown.front ++ shown.entry ∷ [] in
       let both = ends q (reverse entries') first shown.stands.reader shown.stands in
@@ -272,26 +272,26 @@ module _ {H : Type 0} (HasHeard : H → Setup → List Entry → List ℕ → Ty
       let two : Some last ≡ Some p = sym shown.read ∙ is in
       let same : last ≡ p = cc in
       let setup : q.head.setup ≡ p.head.setup = shown.setup ∙ ap (λ (p : Progress). p.head.setup) same in
-      subst (λ (s : Setup). IsJudged Keeps Tells status (DrawsBandsOf t.options t.form drawn first after) s entries numbers) setup (record {
-        told = told;
-        tells = subst (λ (s : Setup). Tells s entries numbers told status) (sym setup) tells;
+      subst (λ (s : Setup). IsJudged Keeps Reports status (DrawsBandsOf t.options t.form drawn first after) s entries numbers) setup (record {
+        reported = reported;
+        reports = subst (λ (s : Setup). Reports s entries numbers reported status) (sym setup) reports;
         shown = entries';
         shows = UpTo shown.front shown.entry shown.later refl shown.splits shown.keeps shown.breaks;
         is = record { setup = both.0; ends = both.1 };
       })
 
   -- all that a text says was read
-  pub read_judged : (to_come : Option (List ℕ)) (taken : ℕ) (reader : Option Progress) (j : Option H) (t : Sheet) (first now : Option (List ℕ)) (u : HasRead HasHeard Keeps finds_good to_come taken reader j t first now) (Tells : Setup → List Entry → List ℕ → List ℕ → ℕ → Type 0) (told : Telling) (drawn : DrawnEntry) (after : Option (List ℕ)) → TellsOfLines Tells (Some told) u.before u.entries u.numbers →
-      ((p : Progress) (past : Past) (first : Option (List ℕ)) → t.reader ≡ Some p → Stands t (Some p) past first now → (drawn.setup ≡ p.head.setup) × EndsAsked t.options t.form p.head.setup past told.text.items drawn.shows drawn.opening.items drawn.height first after) →
-      IfSome to_come (IsOfRecord (IsJudged Keeps Tells told.status (DrawsBandsOf t.options t.form drawn first after)))
-  read_judged to_come taken reader j t first now u Tells told drawn after is ends =
+  pub read_judged : (to_come : Option (List ℕ)) (taken : ℕ) (reader : Option Progress) (j : Option H) (t : RecordPicture) (first now : Option (List ℕ)) (u : HasRead HasObserved Keeps finds_good to_come taken reader j t first now) (Reports : Setup → List Entry → List ℕ → List ℕ → ℕ → Type 0) (reported : Reporting) (drawn : DrawnEntry) (after : Option (List ℕ)) → ReportsOfLines Reports (Some reported) u.before u.entries u.numbers →
+      ((p : Progress) (past : Past) (first : Option (List ℕ)) → t.reader ≡ Some p → Stands t (Some p) past first now → (drawn.setup ≡ p.head.setup) × EndsAsked t.options t.form p.head.setup past reported.text.items drawn.shows drawn.opening.items drawn.height first after) →
+      IfSome to_come (IsOfRecord (IsJudged Keeps Reports reported.status (DrawsBandsOf t.options t.form drawn first after)))
+  read_judged to_come taken reader j t first now u Reports reported drawn after is ends =
       let p : Progress = is.0 in
-      let judged = judged_bands Tells u.shows j t u.before u.entries u.numbers first now after p drawn told.text.items told.status is.1 u.stands.heard u.shown is.2 ends in
-      if_some to_come (SaysAll (Some p) u.entries u.numbers taken) (IsOfRecord (IsJudged Keeps Tells told.status (DrawsBandsOf t.options t.form drawn first after)))
+      let judged = judged_bands Reports u.shows j t u.before u.entries u.numbers first now after p drawn reported.text.items reported.status is.1 u.stands.observed u.shown is.2 ends in
+      if_some to_come (SaysAll (Some p) u.entries u.numbers taken) (IsOfRecord (IsJudged Keeps Reports reported.status (DrawsBandsOf t.options t.form drawn first after)))
       (λ text says. record {
         said = record { setup = p.head.setup; entries = u.entries };
         says = says.0;
-        holds = subst (λ (l : List ℕ). IsJudged Keeps Tells told.status (DrawsBandsOf t.options t.form drawn first after) p.head.setup u.entries l) says.1 judged;
+        holds = subst (λ (l : List ℕ). IsJudged Keeps Reports reported.status (DrawsBandsOf t.options t.form drawn first after) p.head.setup u.entries l) says.1 judged;
       }) (subst (λ (o : Option Progress). IfSome to_come (SaysAll o u.entries u.numbers taken)) is.1 u.says)
 
 -- a fault of the input

@@ -16,8 +16,8 @@ pub mod PartsRead
 pub mod Drawings
 -- Runs
 pub mod RunGiving
-pub mod RunTold
-mod OverlapsTold
+pub mod RunReported
+mod OverlapsReported
 pub mod Turning
 pub mod LinesDrawn
 pub mod RunEnds

@@ -11,13 +11,13 @@ use Rattle.judge.specs.record_file.{Progress, cleared, entry_in, entry_words, is
 use Rattle.judge.specs.record_file.scenario.{Progress as Head, spaced}
 use Rattle.judge.proofs.record_file.EntryLines.{entry_of_line}
 use Rattle.judge.specs.{say_entry}
-use Rattle.judge.proofs.Lines.{Left, clear_twice, empty, first_left, later_left, short_read}
-use Rattle.draw.specs.{AreDrawn, AreReadBy, AreShownBy, AreStored, DrawsAt, DrawsPast, GoesOn, RecordDrawing, RecordEntries, Sheet, Stands}
+use Rattle.judge.proofs.Lines.{Left, clear_twice, empty, first_left, later_remaining, short_read}
+use Rattle.draw.specs.{AreDrawn, AreReadBy, AreShownBy, AreStored, DrawsAt, DrawsPast, GoesOn, RecordDrawing, RecordEntries, RecordPicture, Stands}
 
 -- behind an entry the head stays
 pub head_stays : (b : Bool) (p next : Progress) → p.ended ≡ true → Left b p next → (next.ended ≡ true) × (next.head ≡ p.head)
-head_stays false p next ended left = left.1 ended
-head_stays true p next ended left = (left.1, left.2)
+head_stays false p next ended remaining = remaining.1 ended
+head_stays true p next ended remaining = (remaining.1, remaining.2)
 
 module _ (asked : PictureOptions) (form : Form) (old : Option (List ℕ)) where
   -- a picture is of the setup that was read
@@ -29,7 +29,7 @@ module _ (asked : PictureOptions) (form : Form) (old : Option (List ℕ)) where
       AreReadBy d stored asked form before past old new → AreReadBy d stored asked form (cleared now) (entry_in now ++ past) old new
   drawn_still words before now None stored past new read clear none drawn = subst (λ (l : List Entry). AreStored asked (l ++ past) stored old new) (sym none) drawn
   drawn_still words None now (Some d) stored past new read clear none drawn = absurd drawn
-  drawn_still words (Some p) now (Some d) stored past new read clear none drawn = by (later_left words p now read)
+  drawn_still words (Some p) now (Some d) stored past new read clear none drawn = by (later_remaining words p now read)
     where
       whole : (next : Progress) → (next.ended ≡ true) × (next.head ≡ p.head) → AreReadBy (Some d) stored asked form (cleared (Some next)) past old new
       whole next stays = (stays.0, drawn_at p.head.setup next.head.setup d past new (ap (λ (h : Head). h.setup) (sym stays.1)) drawn.1)
@@ -44,15 +44,15 @@ module _ (asked : PictureOptions) (form : Form) (old : Option (List ℕ)) where
       (AreShownBy d stored asked form now.head.setup past old new → AreShownBy d' stored' asked form now.head.setup (e ∷ past) old new') → AreReadBy d stored asked form before past old new → AreReadBy d' stored' asked form (cleared (Some now)) (entry_in (Some now) ++ past) old new'
   drawn_more words None now e d d' stored stored' past new new' read clear says draws drawn =
       let no : e ∷ [] ≡ [] = sym (ap option_to_list says) ∙ (first_left words (Some now) read).0 in absurd (cc)
-  drawn_more words (Some p) now e d d' stored stored' past new new' read clear says draws drawn = by (later_left words p (Some now) read)
+  drawn_more words (Some p) now e d d' stored stored' past new new' read clear says draws drawn = by (later_remaining words p (Some now) read)
     where
       before_it : (d : Option RecordDrawing) → AreReadBy d stored asked form (Some p) past old new → now.head ≡ p.head → AreShownBy d stored asked form now.head.setup past old new
       before_it None drawn same = drawn
       before_it (Some i) drawn same = drawn_at p.head.setup now.head.setup i past new (ap (λ (h : Head). h.setup) (sym same)) drawn.1
 
       ends : (b : Bool) (next : Progress) → now ≡ next → Left b p next → (now.ended ≡ true) × (now.head ≡ p.head)
-      ends false next is left = let no : Some e ≡ None = sym says ∙ ap (λ (p : Progress). p.entry) is ∙ left.0 ∙ empty p clear in absurd (cc)
-      ends true next is left = (ap (λ (p : Progress). p.ended) is ∙ left.1, ap (λ (p : Progress). p.head) is ∙ left.2)
+      ends false next is remaining = let no : Some e ≡ None = sym says ∙ ap (λ (p : Progress). p.entry) is ∙ remaining.0 ∙ empty p clear in absurd (cc)
+      ends true next is remaining = (ap (λ (p : Progress). p.ended) is ∙ remaining.1, ap (λ (p : Progress). p.head) is ∙ remaining.2)
 
       after_it : (d' : Option RecordDrawing) → now.ended ≡ true → AreShownBy d' stored' asked form now.head.setup (e ∷ past) old new' → AreReadBy d' stored' asked form (cleared (Some now)) (e ∷ past) old new'
       after_it None ended shown = shown
@@ -68,7 +68,7 @@ module _ (asked : PictureOptions) (form : Form) (old : Option (List ℕ)) where
 
 -- Behind a line, where it ends well.
 
-module _ (line : List ℕ) (before now : Option Progress) (old t : Sheet) (past : Past) (first taken after : Option (List ℕ)) (short : length line ≤ 128) (stands : Stands old before past first taken) (read : words_read record_grammar (words_of line) old.reader ≡ Ok now) where
+module _ (line : List ℕ) (before now : Option Progress) (old t : RecordPicture) (past : Past) (first taken after : Option (List ℕ)) (short : length line ≤ 128) (stands : Stands old before past first taken) (read : words_read record_grammar (words_of line) old.reader ≡ Ok now) where
   -- what its words say, by what was read before it
   read_at : words_read record_grammar (words_of line) before ≡ Ok now
   read_at = ap (λ (o : Option Progress). words_read record_grammar (words_of line) o) (sym stands.reader) ∙ read
@@ -88,7 +88,7 @@ module _ (line : List ℕ) (before now : Option Progress) (old t : Sheet) (past 
       (subst (λ (e : RecordEntries). DrawsAt old.options old.form e before past first after) (sym same) (subst (λ (w : Option (List ℕ)). DrawsAt old.options old.form old.entries before past first w) (sym kept) stands.draws)))))
 
 -- it says one, which was stored or drawn
-pub ends_drawn : (line : List ℕ) (before : Option Progress) (now : Progress) (e : Entry) (old t : Sheet) (past : Past) (first taken after : Option (List ℕ)) → length line ≤ 128 → Stands old before past first taken → words_read record_grammar (words_of line) old.reader ≡ Ok (Some now) → now.entry ≡ Some e →
+pub ends_drawn : (line : List ℕ) (before : Option Progress) (now : Progress) (e : Entry) (old t : RecordPicture) (past : Past) (first taken after : Option (List ℕ)) → length line ≤ 128 → Stands old before past first taken → words_read record_grammar (words_of line) old.reader ≡ Ok (Some now) → now.entry ≡ Some e →
     t.reader ≡ cleared (Some now) → t.options ≡ old.options → t.form ≡ old.form →
     ((past : Past) (first : Option (List ℕ)) → DrawsPast old.options old.form old.entries now.head.setup past first taken → DrawsPast old.options old.form t.entries now.head.setup (e ∷ past) first after) → GoesOn (line_read line before) t past first after
 ends_drawn line before now e old t past first taken after short stands read says reader options form draws =
@@ -97,7 +97,7 @@ ends_drawn line before now e old t past first taken after short stands read says
     (drawn_more old.options old.form first (words_of line) before now e old.entries.drawing t.entries.drawing old.entries.stored.items t.entries.stored.items past taken after (read_at line before (Some now) old t past first taken after short stands read) stands.clear says (draws past first) stands.draws)))
 
 -- it is as it is printed for a Step, which was drawn behind an entry that was drawn
-pub ends_stepped : (line : List ℕ) (old t : Sheet) (d d' : RecordDrawing) (process : ℕ) (access : Access) (before : Option Progress) (past : Past) (first now after : Option (List ℕ)) → length line ≤ 128 → line ≡ spaced (entry_words (step_entry process access)) → is_entry (step_entry process access) ≡ true → old.entries.drawing ≡ Some d →
+pub ends_stepped : (line : List ℕ) (old t : RecordPicture) (d d' : RecordDrawing) (process : ℕ) (access : Access) (before : Option Progress) (past : Past) (first now after : Option (List ℕ)) → length line ≤ 128 → line ≡ spaced (entry_words (step_entry process access)) → is_entry (step_entry process access) ≡ true → old.entries.drawing ≡ Some d →
     t.reader ≡ old.reader → t.options ≡ old.options → t.form ≡ old.form → t.entries.drawing ≡ Some d' →
     ((s : Setup) → AreDrawn old.options old.form s past d first now → AreDrawn old.options old.form s (step_entry process access ∷ past) d' first after) → Stands old before past first now → GoesOn (line_read line before) t past first after
 ends_stepped line old t d d' process access before past first now after short printed sound some reader options form drawing draws stands =

@@ -8,19 +8,19 @@ use Rattle.model.specs.safe_bit.declared.Move.TheVariants.{BeginRead}
 use Rattle.model.specs.plain_store.declared.setups.Setup.{Setup as Given}
 use Rattle.model.specs.plain_store.{checked}
 use Rattle.record_accesses.proofs.plain_store.GoodSetups.{few-processes}
-use Rattle.judge.specs.safe_monitor.{HasHeard, WatchState, ends_overlapped}
+use Rattle.judge.specs.safe_monitor.{HasObserved, MonitorState, ends_overlapped}
 use Rattle.judge.specs.safe_monitor.laws.{IsThere}
-use Rattle.judge.proofs.safe_monitor.Hears.{heard_none}
+use Rattle.judge.proofs.safe_monitor.Observes.{observed_none}
 use Rattle.picture.specs.picture_layout.{OverlappedRead}
 use Rattle.picture.specs.declared.reads.Reads.{Reads as Mode}
 use Rattle.picture.specs.declared.reads.Reads.TheVariants.{All, Hidden, Shown}
-use Rattle.draw.specs.{BegunRead, Hears, Overhears, OverlapsHeard, TellsEnd, TellsOver, Watches, begun_with, ended_of, first_three, is_begin, is_there, overlapped_by, overlapped_with, read_begun, read_ended}
+use Rattle.draw.specs.{BegunRead, Observes, ObservesAll, OverlapsObserved, ReportsEnd, ReportsOver, Monitors, begun_with, ended_of, first_three, is_begin, is_there, overlapped_by, overlapped_with, read_begun, read_ended}
 
 -- what has heard entries has heard one more
-pub hears_on : (s : Given) (past : Past) (reads : List OverlappedRead) (e : Entry) (old new : OverlapsHeard) → new.setup ≡ old.setup →
+pub observes_on : (s : Given) (past : Past) (reads : List OverlappedRead) (e : Entry) (old new : OverlapsObserved) → new.setup ≡ old.setup →
     ((p : ℕ) → p < 16 → get_or new.begun p None ≡ read_begun p (e ∷ past)) → length new.begun ≡ 16 →
-    new.ended.items ≡ first_three (reads ++ overlapped_by s past e) → Hears s past reads old → Hears s (e ∷ past) (reads ++ overlapped_by s past e) new
-hears_on s past reads e old new setup begun room ended h = record {
+    new.ended.items ≡ first_three (reads ++ overlapped_by s past e) → Observes s past reads old → Observes s (e ∷ past) (reads ++ overlapped_by s past e) new
+observes_on s past reads e old new setup begun room ended h = record {
   good = h.good;
   setup = setup ∙ h.setup;
   begun = begun;
@@ -29,8 +29,8 @@ hears_on s past reads e old new setup begun room ended h = record {
 }
 
 -- one without an access leaves it as it is
-pub hears_none : (s : Given) (past : Past) (reads : List OverlappedRead) (e : Entry) (o : OverlapsHeard) → e.access ≡ None → Hears s past reads o → Hears s (e ∷ past) (reads ++ overlapped_by s past e) o
-hears_none s past reads e o none h = record {
+pub observes_none : (s : Given) (past : Past) (reads : List OverlappedRead) (e : Entry) (o : OverlapsObserved) → e.access ≡ None → Observes s past reads o → Observes s (e ∷ past) (reads ++ overlapped_by s past e) o
+observes_none s past reads e o none h = record {
   good = h.good;
   setup = h.setup;
   begun = λ p below. h.begun p below ∙ sym (ap (λ (access : Option Access). begun_with p (length past) access (read_begun p past)) none);
@@ -107,16 +107,16 @@ not_there s a is there =
     let yes : is_there s a ≡ true = grind (arith, nat_tests, owner, reader, bit) in true≢false (sym yes ∙ is)
 
 -- so it is known which read is overlapped
-told_by : (s : Given) (past : Past) (a : Access) (over : Bool) → TellsOver s past a over →
+reported_by : (s : Given) (past : Past) (a : Access) (over : Bool) → ReportsOver s past a over →
     cond over (ended_of s (length past) a (read_begun a.reader past)) [] ≡ overlapped_with s past (Some a)
-told_by s past a over tells = by (is_there s a) refl (begins_read (moves_of a past)) refl
+reported_by s past a over reports = by (is_there s a) refl (begins_read (moves_of a past)) refl
   where
     reads : List OverlappedRead
     reads = ended_of s (length past) a (read_begun a.reader past)
 
     by : (t : Bool) → is_there s a ≡ t → (b : Bool) → begins_read (moves_of a past) ≡ b → cond over reads [] ≡ cond (is_there s a && ends_overlapped (moves_of a past) a.how) reads []
-    by false is b begins = ap (λ c. cond c reads []) (tells.stray (not_there s a is)) ∙ ap (λ t. cond (t && ends_overlapped (moves_of a past) a.how) reads []) (sym is)
-    by true is true begins = ap (λ c. cond c reads []) (tells.there (there_is s a is) begins) ∙ ap (λ t. cond (t && ends_overlapped (moves_of a past) a.how) reads []) (sym is)
+    by false is b begins = ap (λ c. cond c reads []) (reports.stray (not_there s a is)) ∙ ap (λ t. cond (t && ends_overlapped (moves_of a past) a.how) reads []) (sym is)
+    by true is true begins = ap (λ c. cond c reads []) (reports.there (there_is s a is) begins) ∙ ap (λ t. cond (t && ends_overlapped (moves_of a past) a.how) reads []) (sym is)
     by true is false begins =
         let none : reads ≡ [] = ends_none s (length past) a past begins in
         both_none over reads none ∙ sym (both_none (is_there s a && ends_overlapped (moves_of a past) a.how) reads none)
@@ -134,7 +134,7 @@ abbrev pub IsQuiet : Move → Type 0
 IsQuiet m = (is_begin m ≡ false) × ((moves : List Move) → ends_overlapped moves m ≡ false)
 
 -- an access that begins no read, or ends none, leaves what is kept
-module _ (s : Given) (past : Past) (reads : List OverlappedRead) (e : Entry) (a : Access) (o : OverlapsHeard) (is : e.access ≡ Some a) (h : Hears s past reads o) where
+module _ (s : Given) (past : Past) (reads : List OverlappedRead) (e : Entry) (a : Access) (o : OverlapsObserved) (is : e.access ≡ Some a) (h : Observes s past reads o) where
   pub still_begun : is_begin a.how ≡ false → (p : ℕ) → p < 16 → get_or o.begun p None ≡ read_begun p (e ∷ past)
   still_begun none p below = h.begun p below ∙ sym (begun_still p (length past) a (read_begun p past) none) ∙ sym (ap (λ (access : Option Access). begun_with p (length past) access (read_begun p past)) is)
 
@@ -144,67 +144,67 @@ module _ (s : Given) (past : Past) (reads : List OverlappedRead) (e : Entry) (a 
 -- Modes.
 
 -- where reads are shown
-pub overhears_on : (mode : Mode) (s : Given) (past then : Past) (reads more : List OverlappedRead) (access : Option Access) (over : Bool) (old new : OverlapsHeard) → (Hears s past reads old → IfSome access (λ a. TellsOver s past a over) → Hears s then more new) →
-    TellsEnd mode s past access over → Overhears mode s past reads (Some old) → Overhears mode s then more (Some new)
-overhears_on Hidden s past then reads more access over old new on tells h = absurd h
-overhears_on Shown s past then reads more access over old new on tells h = on h tells
-overhears_on All s past then reads more access over old new on tells h = absurd h
+pub observes_all_on : (mode : Mode) (s : Given) (past then : Past) (reads more : List OverlappedRead) (access : Option Access) (over : Bool) (old new : OverlapsObserved) → (Observes s past reads old → IfSome access (λ a. ReportsOver s past a over) → Observes s then more new) →
+    ReportsEnd mode s past access over → ObservesAll mode s past reads (Some old) → ObservesAll mode s then more (Some new)
+observes_all_on Hidden s past then reads more access over old new on reports h = absurd h
+observes_all_on Shown s past then reads more access over old new on reports h = on h reports
+observes_all_on All s past then reads more access over old new on reports h = absurd h
 
 -- where they are hidden
-pub overhears_nothing : (mode : Mode) (s : Given) (past then : Past) (reads more : List OverlappedRead) → Overhears mode s past reads None → Overhears mode s then more None
-overhears_nothing Hidden s past then reads more h = tt
-overhears_nothing Shown s past then reads more h = absurd h
-overhears_nothing All s past then reads more h = tt
+pub observes_all_nothing : (mode : Mode) (s : Given) (past then : Past) (reads more : List OverlappedRead) → ObservesAll mode s past reads None → ObservesAll mode s then more None
+observes_all_nothing Hidden s past then reads more h = tt
+observes_all_nothing Shown s past then reads more h = absurd h
+observes_all_nothing All s past then reads more h = tt
 
 -- of what is kept
-told_at : (s : Given) (past : Past) (reads : List OverlappedRead) (o : OverlapsHeard) (a : Access) (n : ℕ) (over : Bool) → Hears s past reads o → n ≡ length past → TellsOver s past a over →
+reported_at : (s : Given) (past : Past) (reads : List OverlappedRead) (o : OverlapsObserved) (a : Access) (n : ℕ) (over : Bool) → Observes s past reads o → n ≡ length past → ReportsOver s past a over →
     cond over (ended_of o.setup n a (get_or o.begun a.reader None)) [] ≡ overlapped_with s past (Some a)
-told_at s past reads o a n over h number tells =
+reported_at s past reads o a n over h number reports =
     (λ i. cond over (ended_of (h.setup i) (number i) a (get_or o.begun a.reader None)) []) ∙ elim (cases_lt a.reader 16) [
-      | inl below ↦ ap (λ b. cond over (ended_of s (length past) a b) []) (h.begun a.reader below) ∙ told_by s past a over tells
+      | inl below ↦ ap (λ b. cond over (ended_of s (length past) a b) []) (h.begun a.reader below) ∙ reported_by s past a over reports
       | inr out ↦
-          let no : over ≡ false = tells.stray (λ is. let few = few-processes s h.good in let reader : a.reader < s.processes = is.reader in absurd (omega (arith, out, few, reader))) in
-          ap (λ c. cond c (ended_of s (length past) a (get_or o.begun a.reader None)) []) no ∙ ap (λ c. cond c (ended_of s (length past) a (read_begun a.reader past)) []) (sym no) ∙ told_by s past a over tells
+          let no : over ≡ false = reports.stray (λ is. let few = few-processes s h.good in let reader : a.reader < s.processes = is.reader in absurd (omega (arith, out, few, reader))) in
+          ap (λ c. cond c (ended_of s (length past) a (get_or o.begun a.reader None)) []) no ∙ ap (λ c. cond c (ended_of s (length past) a (read_begun a.reader past)) []) (sym no) ∙ reported_by s past a over reports
     ]
 
-pub told_ended : (s : Given) (past : Past) (reads : List OverlappedRead) (o : OverlapsHeard) (a : Access) (n : ℕ) (over : Bool) (ended : List OverlappedRead) → Hears s past reads o → n ≡ length past → TellsOver s past a over →
+pub reported_ended : (s : Given) (past : Past) (reads : List OverlappedRead) (o : OverlapsObserved) (a : Access) (n : ℕ) (over : Bool) (ended : List OverlappedRead) → Observes s past reads o → n ≡ length past → ReportsOver s past a over →
     (checked o.setup ≡ Ok tt → ended ≡ cond over (ended_of o.setup n a (get_or o.begun a.reader None)) []) → ended ≡ overlapped_with s past (Some a)
-told_ended s past reads o a n over ended h number tells is = is (subst (λ (t : Given). checked t ≡ Ok tt) (sym h.setup) h.good) ∙ told_at s past reads o a n over h number tells
+reported_ended s past reads o a n over ended h number reports is = is (subst (λ (t : Given). checked t ≡ Ok tt) (sym h.setup) h.good) ∙ reported_at s past reads o a n over h number reports
 
 -- A watch that goes along.
 
 -- where reads are shown, it tells which access ends an overlapped read
-pub watches_on : (mode : Mode) (s : Given) (past : Past) (e : Entry) (a : Access) (over : Bool) (old new : WatchState) → e.access ≡ Some a → new.setup ≡ old.setup → (HasHeard old past → HasHeard new (e ∷ past)) →
-    (HasHeard old past → IsThere old.setup a → begins_read (moves_of a past) ≡ true → over ≡ ends_overlapped (moves_of a past) a.how) → ((IsThere old.setup a → ⊥) → over ≡ false) →
-    Watches mode s past (Some old) → TellsEnd mode s past (Some a) over × Watches mode s (e ∷ past) (Some new)
-watches_on Hidden s past e a over old new is setup heard there stray watches = absurd watches
-watches_on Shown s past e a over old new is setup heard there stray watches = (
+pub monitors_on : (mode : Mode) (s : Given) (past : Past) (e : Entry) (a : Access) (over : Bool) (old new : MonitorState) → e.access ≡ Some a → new.setup ≡ old.setup → (HasObserved old past → HasObserved new (e ∷ past)) →
+    (HasObserved old past → IsThere old.setup a → begins_read (moves_of a past) ≡ true → over ≡ ends_overlapped (moves_of a past) a.how) → ((IsThere old.setup a → ⊥) → over ≡ false) →
+    Monitors mode s past (Some old) → ReportsEnd mode s past (Some a) over × Monitors mode s (e ∷ past) (Some new)
+monitors_on Hidden s past e a over old new is setup observed there stray monitors = absurd monitors
+monitors_on Shown s past e a over old new is setup observed there stray monitors = (
   record {
-    there = subst (λ (t : Given). IsThere t a → begins_read (moves_of a past) ≡ true → over ≡ ends_overlapped (moves_of a past) a.how) watches.0 (there watches.1);
-    stray = subst (λ (t : Given). (IsThere t a → ⊥) → over ≡ false) watches.0 stray;
+    there = subst (λ (t : Given). IsThere t a → begins_read (moves_of a past) ≡ true → over ≡ ends_overlapped (moves_of a past) a.how) monitors.0 (there monitors.1);
+    stray = subst (λ (t : Given). (IsThere t a → ⊥) → over ≡ false) monitors.0 stray;
   },
-  (setup ∙ watches.0, heard watches.1),
+  (setup ∙ monitors.0, observed monitors.1),
 )
-watches_on All s past e a over old new is setup heard there stray watches = absurd watches
+monitors_on All s past e a over old new is setup observed there stray monitors = absurd monitors
 
 -- an entry without an access tells nothing
-pub watches_still : (mode : Mode) (s : Given) (past : Past) (e : Entry) (over : Bool) (watch : WatchState) → e.access ≡ None → Watches mode s past (Some watch) → TellsEnd mode s past None over × Watches mode s (e ∷ past) (Some watch)
-watches_still Hidden s past e over watch none watches = absurd watches
-watches_still Shown s past e over watch none watches = (tt, (watches.0, heard_none watch past e none watches.1))
-watches_still All s past e over watch none watches = absurd watches
+pub monitors_still : (mode : Mode) (s : Given) (past : Past) (e : Entry) (over : Bool) (monitor : MonitorState) → e.access ≡ None → Monitors mode s past (Some monitor) → ReportsEnd mode s past None over × Monitors mode s (e ∷ past) (Some monitor)
+monitors_still Hidden s past e over monitor none monitors = absurd monitors
+monitors_still Shown s past e over monitor none monitors = (tt, (monitors.0, observed_none monitor past e none monitors.1))
+monitors_still All s past e over monitor none monitors = absurd monitors
 
 -- where reads are hidden, there is none
-pub watches_nothing : (mode : Mode) (s : Given) (past : Past) (e : Entry) (access : Option Access) (over : Bool) → Watches mode s past None → TellsEnd mode s past access over × Watches mode s (e ∷ past) None
-watches_nothing Hidden s past e access over watches = (tt, tt)
-watches_nothing Shown s past e access over watches = absurd watches
-watches_nothing All s past e access over watches = (tt, tt)
+pub monitors_nothing : (mode : Mode) (s : Given) (past : Past) (e : Entry) (access : Option Access) (over : Bool) → Monitors mode s past None → ReportsEnd mode s past access over × Monitors mode s (e ∷ past) None
+monitors_nothing Hidden s past e access over monitors = (tt, tt)
+monitors_nothing Shown s past e access over monitors = absurd monitors
+monitors_nothing All s past e access over monitors = (tt, tt)
 
 -- where no reads are shown, it is not asked
-pub watches_hidden : (mode : Mode) (s : Given) (past : Past) (reads : List OverlappedRead) (e : Entry) (access : Option Access) (overlaps : Option OverlapsHeard) (watch : Option WatchState) → is_some overlaps ≡ false → Overhears mode s past reads overlaps → Watches mode s past watch →
-    TellsEnd mode s past access false × Watches mode s (e ∷ past) watch
-watches_hidden Hidden s past reads e access None None hidden waits watches = (tt, tt)
-watches_hidden Hidden s past reads e access None (Some watch) hidden waits watches = absurd watches
-watches_hidden Shown s past reads e access None watch hidden waits watches = absurd waits
-watches_hidden All s past reads e access None None hidden waits watches = (tt, tt)
-watches_hidden All s past reads e access None (Some watch) hidden waits watches = absurd watches
-watches_hidden mode s past reads e access (Some overlaps) watch hidden waits watches = absurd (true≢false hidden)
+pub monitors_hidden : (mode : Mode) (s : Given) (past : Past) (reads : List OverlappedRead) (e : Entry) (access : Option Access) (overlaps : Option OverlapsObserved) (monitor : Option MonitorState) → is_some overlaps ≡ false → ObservesAll mode s past reads overlaps → Monitors mode s past monitor →
+    ReportsEnd mode s past access false × Monitors mode s (e ∷ past) monitor
+monitors_hidden Hidden s past reads e access None None hidden waits monitors = (tt, tt)
+monitors_hidden Hidden s past reads e access None (Some monitor) hidden waits monitors = absurd monitors
+monitors_hidden Shown s past reads e access None monitor hidden waits monitors = absurd waits
+monitors_hidden All s past reads e access None None hidden waits monitors = (tt, tt)
+monitors_hidden All s past reads e access None (Some monitor) hidden waits monitors = absurd monitors
+monitors_hidden mode s past reads e access (Some overlaps) monitor hidden waits monitors = absurd (true≢false hidden)

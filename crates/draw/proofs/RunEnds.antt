@@ -5,7 +5,7 @@ use Rattle.scenario.proofs.files.EngineEnds.{read_to_end}
 use Rattle.scenario.specs.files.{Fault, LineFault, ReadsInput, ◌>>=◌}
 use Rattle.scenario.specs.files.Engines.{Ran, Streams}
 use Rattle.scenario.specs.files.declared.faults.Fault.TheVariants.{Line, Memory, Read, Write}
-use Rattle.scenario.proofs.CutTexts.{scenario_tells_at_limit}
+use Rattle.scenario.proofs.CutTexts.{scenario_reports_at_limit}
 use Rattle.scenario.specs.{Script, scenario_of}
 use Rattle.scenario_run.specs.{ended, replay_text, replayed}
 use Rattle.picture.specs.{Form}
@@ -35,7 +35,7 @@ failures_by (Err Read) m n good bad = bad
 failures_by (Err (Line f)) m n good bad = bad
 
 -- a fault of a line
-pub drew_line : (options : PictureOptions) (form : Form) (result : Result (Unit {0}) Fault) (fault : LineFault) (old new : Streams) → IsErrAnd result (λ told. told ≡ Line fault) → Ran replay_text result old new → DrewRun options form result old new
+pub drew_line : (options : PictureOptions) (form : Form) (result : Result (Unit {0}) Fault) (fault : LineFault) (old new : Streams) → IsErrAnd result (λ reported. reported ≡ Line fault) → Ran replay_text result old new → DrewRun options form result old new
 drew_line options form (Ok done) fault old new is ran = absurd is
 drew_line options form (Err (Line f)) fault old new is ran = ran
 drew_line options form (Err Read) fault old new is ran = ran
@@ -45,15 +45,15 @@ drew_line options form (Err Memory) fault old new is ran = tt
 -- what is read and is a scenario is the whole input
 all_read : (input bytes : List ℕ) (new : Option (List ℕ)) (said : Script) → ReadsInput (Some input) new bytes → scenario_of bytes ≡ Ok said → bytes ≡ input
 all_read input bytes None said read good = absurd read.front
-all_read input bytes (Some left) said read good =
-    let none : left ≡ [] = input_ended scenario_of input bytes (Some left) said scenario_tells_at_limit read good in
+all_read input bytes (Some remaining) said read good =
+    let none : remaining ≡ [] = input_ended scenario_of input bytes (Some remaining) said scenario_reports_at_limit read good in
     sym (read.front ∙ ap (λ ys. bytes ++ ys) none ∙ append-nil bytes)
 
 -- what holds of what was read, of the whole input
-script_told : (old new : Option (List ℕ)) (bytes : List ℕ) (said : Script) (P : List ℕ → Script → Type 0) → ReadsInput old new bytes → scenario_of bytes ≡ Ok said → P bytes said →
+script_reported : (old new : Option (List ℕ)) (bytes : List ℕ) (said : Script) (P : List ℕ → Script → Type 0) → ReadsInput old new bytes → scenario_of bytes ≡ Ok said → P bytes said →
     IfSome old (λ input. (said : Script) × (scenario_of input ≡ Ok said) × (replay_text input ≡ Ok (replayed said)) × P input said)
-script_told None new bytes said P read good holds = tt
-script_told (Some input) new bytes said P read good holds =
+script_reported None new bytes said P read good holds = tt
+script_reported (Some input) new bytes said P read good holds =
     let whole : bytes ≡ input = all_read input bytes new said read good in
     let is : scenario_of input ≡ Ok said = ap scenario_of (sym whole) ∙ good in
     (said, is, ap (λ r. r >>= λ s. Ok (replayed s)) is, subst (λ file. P file said) whole holds)
@@ -62,8 +62,8 @@ script_told (Some input) new bytes said P read good holds =
 pub drew_all : {A : Type 0} (options : PictureOptions) (form : Form) (result : Result A Fault) (bytes : List ℕ) (said : Script) (old new : Streams) → ReadsInput old.to_come new.to_come bytes → scenario_of bytes ≡ Ok said →
     OnOk result (DrawsAll options form bytes said old.taken new.taken) → IfErr result IsWriteFault → new.write_failures ≡ old.write_failures + failed_write result → DrewRun options form (ended result) old new
 drew_all options form (Ok answer) bytes said old new read good draws fault failures = (
-  script_told old.to_come new.to_come bytes said (λ file said. DrawsAll options form file said old.taken new.taken) read good draws,
-  read_to_end scenario_of replayed scenario_tells_at_limit old.to_come new.to_come bytes said read good,
+  script_reported old.to_come new.to_come bytes said (λ file said. DrawsAll options form file said old.taken new.taken) read good draws,
+  read_to_end scenario_of replayed scenario_reports_at_limit old.to_come new.to_come bytes said read good,
 )
 drew_all options form (Err Write) bytes said old new read good draws fault failures = omega (arith, failures)
 drew_all options form (Err Memory) bytes said old new read good draws fault failures = tt

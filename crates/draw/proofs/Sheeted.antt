@@ -17,7 +17,7 @@ use Rattle.draw.proofs.RecordGiving.{entries_of_record}
 module _ (view : AccessView) (form : Form) (s : Setup) where
   -- what a drawing of entries recalls
   pub recalled : (past : Past) (d : RecordDrawing) (old new : Option (List ℕ)) → IsDrawn view form s past d old new → RecordRecalls view s (entry_parts past) d
-  recalled past d old new drawn = record { drawing = drawn.drawn.recalls; watches = drawn.watches }
+  recalled past d old new drawn = record { drawing = drawn.drawn.recalls; monitors = drawn.monitors }
 
   -- one entry more
   pub drawn_entry : (past : Past) (e : Entry) (d d' : RecordDrawing) (old mid new : Option (List ℕ)) → IsDrawn view form s past d old mid → DrawsEntry d d' mid new e → d'.drawing.source ≡ d.drawing.source → IsDrawn view form s (e ∷ past) d' old new
@@ -25,7 +25,7 @@ module _ (view : AccessView) (form : Form) (s : Setup) where
       let on = draws view s (entry_parts past) (recalled past d old mid drawn) in
       record {
         source = source ∙ drawn.source;
-        watches = on.1;
+        monitors = on.1;
         mid = drawn.mid;
         heads = drawn.heads;
         drawn = drawn_more view s [] (kept_at_first (plan_of form view.window s)) drawn.mid (entry_parts past) (PartEntry e) d.drawing d'.drawing mid new on.0 source drawn.drawn;
@@ -35,7 +35,7 @@ module _ (view : AccessView) (form : Form) (s : Setup) where
   pub drawn_first : (d : RecordDrawing) (old new : Option (List ℕ)) → d.drawing.source ≡ source_of s → RecordRecalls view s [] d → kept d.drawing.canvas ≡ kept_at_first (plan_of form view.window s) → Heads view.reads form s old new → IsDrawn view form s [] d old new
   drawn_first d old new source recalls page heads = record {
     source = source;
-    watches = recalls.watches;
+    monitors = recalls.monitors;
     mid = new;
     heads = heads;
     drawn = subst (λ (k : Kept). HasDrawn view s [] k new [] d.drawing new) page (drawn_none view s [] d.drawing new recalls.drawing);
@@ -46,15 +46,15 @@ module _ (view : AccessView) (form : Form) (s : Setup) where
   drawn_as_many past d old new drawn = drawn.drawn.recalls.entries ∙ ap length (entries_of_record past)
 
   -- all
-  pub drawn_end : (past : Past) (d : RecordDrawing) (told : List ℕ) (old mid new : Option (List ℕ)) (height : ℕ) → IsDrawn view form s past d old mid →
-      DrawsLast d.drawing.canvas mid new (source_of s + 1) d.drawing.entries told (SaysEnd d.drawing.entries d.drawing.store.taken 0) height → EndsAt view form s past told height old new
-  drawn_end past d told old mid new height drawn rest = record {
+  pub drawn_end : (past : Past) (d : RecordDrawing) (reported : List ℕ) (old mid new : Option (List ℕ)) (height : ℕ) → IsDrawn view form s past d old mid →
+      DrawsLast d.drawing.canvas mid new (source_of s + 1) d.drawing.entries reported (SaysEnd d.drawing.entries d.drawing.store.taken 0) height → EndsAt view form s past reported height old new
+  drawn_end past d reported old mid new height drawn rest = record {
     mid = drawn.mid;
     heads = drawn.heads;
-    bands = draws_bands (plan_of form view.window s) (kept d.drawing.canvas) drawn.mid mid new (given_all view s (source_of s) (entry_parts past)) (record_end view s (source_of s) past told) height
+    bands = draws_bands (plan_of form view.window s) (kept d.drawing.canvas) drawn.mid mid new (given_all view s (source_of s) (entry_parts past)) (record_end view s (source_of s) past reported) height
         (subst (λ l. DrawsOn (kept_at_first (plan_of form view.window s)) (kept d.drawing.canvas) drawn.mid mid l) {x = given_last view s d.drawing.source drawn.drawn.more (entry_parts past)} (λ i. given_last view s (drawn.source i) (sym long i) (entry_parts past)) drawn.drawn.draws)
-        (subst (λ gives. DrawsRest (kept d.drawing.canvas) mid new gives height) {x = end_given view.reads (source_of s + 1) d.drawing.entries (reads_since s (entry_parts past)) told (SaysEnd d.drawing.entries d.drawing.store.taken 0)}
-        (λ i. end_given view.reads (source_of s + 1) (entries i) (reads_since s (entry_parts past)) told (SaysEnd (entries i) (taken i) 0))
+        (subst (λ gives. DrawsRest (kept d.drawing.canvas) mid new gives height) {x = end_given view.reads (source_of s + 1) d.drawing.entries (reads_since s (entry_parts past)) reported (SaysEnd d.drawing.entries d.drawing.store.taken 0)}
+        (λ i. end_given view.reads (source_of s + 1) (entries i) (reads_since s (entry_parts past)) reported (SaysEnd (entries i) (taken i) 0))
         (rest view.reads s (entries_among (entry_parts past)) (reads_since s (entry_parts past)) drawn.drawn.recalls.waits));
   }
     where

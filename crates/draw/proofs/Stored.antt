@@ -131,23 +131,23 @@ module _ (asked : PictureOptions) (form : Form) (s : Setup) where
       }
 
   -- the end, by the view of the entries that are shown
-  ended : (view : AccessView) (past : Past) (told : List ℕ) (d : RecordDrawing) (shows : Mode) (opening : List ℕ) (height : ℕ) (first mid new : Option (List ℕ)) → record_view asked (length past) ≡ view → IsDrawn view form s past d first mid → shows ≡ view.reads → HasOpening d.drawing opening →
-      DrawsLast d.drawing.canvas mid new (source_of s + 1) d.drawing.entries told (SaysEnd d.drawing.entries d.drawing.store.taken 0) height → EndsAsked asked form s past told shows opening height first new
-  ended view past told d shows opening height first mid new is drawn same opens last = record {
+  ended : (view : AccessView) (past : Past) (reported : List ℕ) (d : RecordDrawing) (shows : Mode) (opening : List ℕ) (height : ℕ) (first mid new : Option (List ℕ)) → record_view asked (length past) ≡ view → IsDrawn view form s past d first mid → shows ≡ view.reads → HasOpening d.drawing opening →
+      DrawsLast d.drawing.canvas mid new (source_of s + 1) d.drawing.entries reported (SaysEnd d.drawing.entries d.drawing.store.taken 0) height → EndsAsked asked form s past reported shows opening height first new
+  ended view past reported d shows opening height first mid new is drawn same opens last = record {
     shows_it = same ∙ sym (ap (λ (v : AccessView). v.reads) is);
     opens = opens view s (entry_parts past) drawn.drawn.recalls
         ∙ (λ i. store_words (store_before (sym is i).window s (entries_of_record past i)));
-    ends = subst (λ (v : AccessView). EndsAt v form s past told height first new) (sym is) (drawn_end view form s past d told first mid new height drawn last);
+    ends = subst (λ (v : AccessView). EndsAt v form s past reported height first new) (sym is) (drawn_end view form s past d reported first mid new height drawn last);
   }
 
   -- that of a picture that is short
-  pub stored_end : (past : Past) (stored : List Entry) (told : List ℕ) (d : RecordDrawing) (shows : Mode) (opening : List ℕ) (height : ℕ) (first now mid new : Option (List ℕ)) → AreStored asked past stored first now → IsDrawn (short_view asked) form s (reverse stored) d now mid → shows ≡ modes.All → HasOpening d.drawing opening →
-      DrawsLast d.drawing.canvas mid new (source_of s + 1) d.drawing.entries told (SaysEnd d.drawing.entries d.drawing.store.taken 0) height → EndsAsked asked form s past told shows opening height first new
-  stored_end past stored told d shows opening height first now mid new are drawn same opens last =
-      ended (short_view asked) past told d shows opening height first mid new (few_view asked (length past) are.few) (stored_drawn (short_view asked) past stored d first now mid are drawn) same opens last
+  pub stored_end : (past : Past) (stored : List Entry) (reported : List ℕ) (d : RecordDrawing) (shows : Mode) (opening : List ℕ) (height : ℕ) (first now mid new : Option (List ℕ)) → AreStored asked past stored first now → IsDrawn (short_view asked) form s (reverse stored) d now mid → shows ≡ modes.All → HasOpening d.drawing opening →
+      DrawsLast d.drawing.canvas mid new (source_of s + 1) d.drawing.entries reported (SaysEnd d.drawing.entries d.drawing.store.taken 0) height → EndsAsked asked form s past reported shows opening height first new
+  stored_end past stored reported d shows opening height first now mid new are drawn same opens last =
+      ended (short_view asked) past reported d shows opening height first mid new (few_view asked (length past) are.few) (stored_drawn (short_view asked) past stored d first now mid are drawn) same opens last
 
   -- and of another one
-  pub shown_end : (past : Past) (told : List ℕ) (d : RecordDrawing) (shows : Mode) (opening : List ℕ) (height : ℕ) (first mid new : Option (List ℕ)) → AreDrawn asked form s past d first mid → shows ≡ (long_view asked).reads → HasOpening d.drawing opening →
-      DrawsLast d.drawing.canvas mid new (source_of s + 1) d.drawing.entries told (SaysEnd d.drawing.entries d.drawing.store.taken 0) height → EndsAsked asked form s past told shows opening height first new
-  shown_end past told d shows opening height first mid new shown same opens last =
-      ended (long_view asked) past told d shows opening height first mid new (decided_view asked (length past) shown.decided) shown.drawn same opens last
+  pub shown_end : (past : Past) (reported : List ℕ) (d : RecordDrawing) (shows : Mode) (opening : List ℕ) (height : ℕ) (first mid new : Option (List ℕ)) → AreDrawn asked form s past d first mid → shows ≡ (long_view asked).reads → HasOpening d.drawing opening →
+      DrawsLast d.drawing.canvas mid new (source_of s + 1) d.drawing.entries reported (SaysEnd d.drawing.entries d.drawing.store.taken 0) height → EndsAsked asked form s past reported shows opening height first new
+  shown_end past reported d shows opening height first mid new shown same opens last =
+      ended (long_view asked) past reported d shows opening height first mid new (decided_view asked (length past) shown.decided) shown.drawn same opens last

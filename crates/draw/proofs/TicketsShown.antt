@@ -9,7 +9,7 @@ use Rattle.model.specs.declared.marks.Mark.TheVariants as mark
 use Rattle.model.specs.declared.stages.Stage.TheVariants as stages
 use Rattle.model.specs.Parts.{Part, Lowers, Refuses, Waits, AsksImage, WritesCommit, Clears, first_marks, last_marks, stage_of}
 use Rattle.model.proofs.Width.{IsGood}
-use Rattle.scenario_run.specs.laws.{call, doing, ticket_after, ticket_told}
+use Rattle.scenario_run.specs.laws.{call, doing, ticket_after, ticket_reported}
 use Rattle.scenario_run.proofs.laws.AtPlaces.{IsOfLock, any-closing, any-placed, own-induction}
 use Rattle.scenario_run.proofs.laws.Doings as doings
 use Rattle.scenario_run.proofs.laws.Frame.{Happens, a_call, a_withdrawal, a_failure, a_restart, a_step, a_closing}
@@ -26,28 +26,28 @@ shown_after was mark.Down = 0
 shown_after was _ = was
 
 -- after a mark of a process
-abbrev pub shown_told : ℕ → ℕ → ℕ × Mark → ℕ
-shown_told p was said = cond (said.0 == p) (shown_after was said.1) was
+abbrev pub shown_reported : ℕ → ℕ → ℕ × Mark → ℕ
+shown_reported p was said = cond (said.0 == p) (shown_after was said.1) was
 
 -- and by the entries of a past
 abbrev pub ticket_shown : ℕ → Past → ℕ
 ticket_shown p [] = 0
 ticket_shown p (e ∷ past) = cond (e.process == p) (fold shown_after (ticket_shown p past) e.marks) (ticket_shown p past)
 
-entry_shown : (p q was : ℕ) (marks : List Mark) → fold (shown_told p) was (map (λ mark. (q, mark)) marks) ≡ cond (q == p) (fold shown_after was marks) was
+entry_shown : (p q was : ℕ) (marks : List Mark) → fold (shown_reported p) was (map (λ mark. (q, mark)) marks) ≡ cond (q == p) (fold shown_after was marks) was
 entry_shown p q was marks = go (q == p) refl was marks
   where
-    go : (b : Bool) → (q == p) ≡ b → (was : ℕ) (marks : List Mark) → fold (shown_told p) was (map (λ mark. (q, mark)) marks) ≡ cond b (fold shown_after was marks) was
+    go : (b : Bool) → (q == p) ≡ b → (was : ℕ) (marks : List Mark) → fold (shown_reported p) was (map (λ mark. (q, mark)) marks) ≡ cond b (fold shown_after was marks) was
     go true e was [] = refl
     go false e was [] = refl
-    go true e was (mark ∷ marks) = ap (λ b. fold (shown_told p) (cond b (shown_after was mark) was) (map (λ mark. (q, mark)) marks)) e ∙ go true e (shown_after was mark) marks
-    go false e was (mark ∷ marks) = ap (λ b. fold (shown_told p) (cond b (shown_after was mark) was) (map (λ mark. (q, mark)) marks)) e ∙ go false e was marks
+    go true e was (mark ∷ marks) = ap (λ b. fold (shown_reported p) (cond b (shown_after was mark) was) (map (λ mark. (q, mark)) marks)) e ∙ go true e (shown_after was mark) marks
+    go false e was (mark ∷ marks) = ap (λ b. fold (shown_reported p) (cond b (shown_after was mark) was) (map (λ mark. (q, mark)) marks)) e ∙ go false e was marks
 
-pub record_shown : (p : ℕ) (past : Past) → fold (shown_told p) 0 (marks_in past) ≡ ticket_shown p past
+pub record_shown : (p : ℕ) (past : Past) → fold (shown_reported p) 0 (marks_in past) ≡ ticket_shown p past
 record_shown p [] = refl
 record_shown p (e ∷ past) =
-    fold-append (shown_told p) 0 (marks_in past) (map (λ mark. (e.process, mark)) e.marks)
-    ∙ ap (λ was. fold (shown_told p) was (map (λ mark. (e.process, mark)) e.marks)) (record_shown p past)
+    fold-append (shown_reported p) 0 (marks_in past) (map (λ mark. (e.process, mark)) e.marks)
+    ∙ ap (λ was. fold (shown_reported p) was (map (λ mark. (e.process, mark)) e.marks)) (record_shown p past)
     ∙ entry_shown p e.process (ticket_shown p past) e.marks
 
 -- Marks come in their turn.
@@ -70,7 +70,7 @@ is_bound mark.Restarted = true
 is_bound _ = false
 
 of_bound : IsOfLock is_bound
-of_bound = record { taken = λ k r. refl; left = refl; settled = λ v. refl; down = refl; withdrawn = refl }
+of_bound = record { taken = λ k r. refl; remaining = refl; settled = λ v. refl; down = refl; withdrawn = refl }
 
 -- the others come at any stage
 unbound : (st : Stage) (ms : List Mark) → list_any is_bound ms ≡ false → Follow st ms
@@ -134,45 +134,45 @@ entry-follow s past p e (a_step command number at a flick i o is made m k) st = 
 
 -- The ticket that is shown, at each stage.
 
-abbrev pub ShownAt : Stage → (shown told : ℕ) → Type 0
-ShownAt stages.Idle shown told = shown ≡ 0
-ShownAt stages.Doorway shown told = shown ≡ 0
-ShownAt stages.Waiting shown told = shown ≡ told
-ShownAt stages.Inside shown told = shown ≡ told
-ShownAt stages.Leaving shown told = Unit {0}
-ShownAt stages.Settling shown told = Unit {0}
-ShownAt stages.Down shown told = shown ≡ 0
+abbrev pub ShownAt : Stage → (shown reported : ℕ) → Type 0
+ShownAt stages.Idle shown reported = shown ≡ 0
+ShownAt stages.Doorway shown reported = shown ≡ 0
+ShownAt stages.Waiting shown reported = shown ≡ reported
+ShownAt stages.Inside shown reported = shown ≡ reported
+ShownAt stages.Leaving shown reported = Unit {0}
+ShownAt stages.Settling shown reported = Unit {0}
+ShownAt stages.Down shown reported = shown ≡ 0
 
-left-shows : (st : Stage) (shown told : ℕ) → ShownAt (stage_after st mark.Left) shown told
-left-shows stages.Idle shown told = tt
-left-shows st shown told = tt
+remaining-shows : (st : Stage) (shown reported : ℕ) → ShownAt (stage_after st mark.Left) shown reported
+remaining-shows stages.Idle shown reported = tt
+remaining-shows st shown reported = tt
 
-mark-shows : (st : Stage) (m : Mark) (shown told : ℕ) → Fits st m → ShownAt st shown told → ShownAt (stage_after st m) (shown_after shown m) (ticket_after told m)
-mark-shows st (mark.Called command) shown told f h = subst (λ x. ShownAt x shown told) f h
-mark-shows st (mark.Waiting t) shown told f h = refl
-mark-shows st mark.Entered shown told f h = subst (λ x. ShownAt x shown told) f h
-mark-shows st (mark.Taken k r) shown told f h = h
-mark-shows st mark.Left shown told f h = left-shows st 0 told
-mark-shows st (mark.Answered a) shown told f h = refl
-mark-shows st mark.Failed shown told f h = tt
-mark-shows st (mark.Settled v) shown told f h = h
-mark-shows st mark.Down shown told f h = refl
-mark-shows st mark.Withdrew shown told f h = tt
-mark-shows st mark.Restarted shown told f h = subst (λ x. ShownAt x shown told) f h
+mark-shows : (st : Stage) (m : Mark) (shown reported : ℕ) → Fits st m → ShownAt st shown reported → ShownAt (stage_after st m) (shown_after shown m) (ticket_after reported m)
+mark-shows st (mark.Called command) shown reported f h = subst (λ x. ShownAt x shown reported) f h
+mark-shows st (mark.Waiting t) shown reported f h = refl
+mark-shows st mark.Entered shown reported f h = subst (λ x. ShownAt x shown reported) f h
+mark-shows st (mark.Taken k r) shown reported f h = h
+mark-shows st mark.Left shown reported f h = remaining-shows st 0 reported
+mark-shows st (mark.Answered a) shown reported f h = refl
+mark-shows st mark.Failed shown reported f h = tt
+mark-shows st (mark.Settled v) shown reported f h = h
+mark-shows st mark.Down shown reported f h = refl
+mark-shows st mark.Withdrew shown reported f h = tt
+mark-shows st mark.Restarted shown reported f h = subst (λ x. ShownAt x shown reported) f h
 
-marks-show : (st : Stage) (ms : List Mark) (shown told : ℕ) → Follow st ms → ShownAt st shown told → ShownAt (fold stage_after st ms) (fold shown_after shown ms) (fold ticket_after told ms)
-marks-show st [] shown told f h = h
-marks-show st (m ∷ ms) shown told f h = marks-show (stage_after st m) ms (shown_after shown m) (ticket_after told m) f.1 (mark-shows st m shown told f.0 h)
+marks-show : (st : Stage) (ms : List Mark) (shown reported : ℕ) → Follow st ms → ShownAt st shown reported → ShownAt (fold stage_after st ms) (fold shown_after shown ms) (fold ticket_after reported ms)
+marks-show st [] shown reported f h = h
+marks-show st (m ∷ ms) shown reported f h = marks-show (stage_after st m) ms (shown_after shown m) (ticket_after reported m) f.1 (mark-shows st m shown reported f.0 h)
 
 -- in every record
 abbrev Shows : Past → ℕ → Type 0
-Shows past p = ShownAt (stage p past) (ticket_shown p past) (ticket_told p past)
+Shows past p = ShownAt (stage p past) (ticket_shown p past) (ticket_reported p past)
 
 pub shows : (s : Setup) → IsGood s → (events : List Event) (p : ℕ) → Shows (past_of s events) p
 shows s g = own-induction s Shows (λ p. refl) others mine
   where
-    by : (b : Bool) (past : Past) (e : Entry) (p : ℕ) → (e.process == p) ≡ b → ShownAt (cond b (fold stage_after (stage p past) e.marks) (stage p past)) (cond b (fold shown_after (ticket_shown p past) e.marks) (ticket_shown p past)) (cond b (fold ticket_after (ticket_told p past) e.marks) (ticket_told p past)) → Shows (e ∷ past) p
-    by b past e p is h = subst (λ b. ShownAt (cond b (fold stage_after (stage p past) e.marks) (stage p past)) (cond b (fold shown_after (ticket_shown p past) e.marks) (ticket_shown p past)) (cond b (fold ticket_after (ticket_told p past) e.marks) (ticket_told p past))) (sym is) h
+    by : (b : Bool) (past : Past) (e : Entry) (p : ℕ) → (e.process == p) ≡ b → ShownAt (cond b (fold stage_after (stage p past) e.marks) (stage p past)) (cond b (fold shown_after (ticket_shown p past) e.marks) (ticket_shown p past)) (cond b (fold ticket_after (ticket_reported p past) e.marks) (ticket_reported p past)) → Shows (e ∷ past) p
+    by b past e p is h = subst (λ b. ShownAt (cond b (fold stage_after (stage p past) e.marks) (stage p past)) (cond b (fold shown_after (ticket_shown p past) e.marks) (ticket_shown p past)) (cond b (fold ticket_after (ticket_reported p past) e.marks) (ticket_reported p past))) (sym is) h
 
     others : (past : Past) (e : Entry) (p : ℕ) → e.process ≢ p → Shows past p → Shows (e ∷ past) p
     others past e p apart h = by false past e p (ne_eqb e.process p apart) h
@@ -181,5 +181,5 @@ shows s g = own-induction s Shows (λ p. refl) others mine
     mine events event e is h =
         let past : Past = past_of s events in
         by true past e e.process (eq-eqb e.process e.process refl)
-        (marks-show (stage e.process past) e.marks (ticket_shown e.process past) (ticket_told e.process past)
+        (marks-show (stage e.process past) e.marks (ticket_shown e.process past) (ticket_reported e.process past)
         (entry-follow s past e.process e (accepted s g events event e is).happens (stage-is s g events e.process)) h)

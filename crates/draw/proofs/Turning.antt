@@ -6,42 +6,42 @@ use Rattle.model.specs.declared.events.Event.TheVariants.{Step}
 use Rattle.model.proofs.Width.{is_good}
 use Rattle.judge.specs.safe_monitor.{entry_by}
 use Rattle.picture.specs.declared.reads.Reads.{Reads as Mode}
-use Rattle.scenario_run.specs.{Happening, Happens, IsQuiet, Lacks, Looks, PassQuietly, Stepped, StepsOn, TellsOf, Tires, Told, Tries, counted, entry_made, newest_words, past_after, tried}
+use Rattle.scenario_run.specs.{Happening, Happens, IsQuiet, Lacks, Looks, PassQuietly, UnmarkedStep, StepsOn, ReportsOf, Tires, TurnReport, Tries, counted, entry_made, newest_words, past_after, tried}
 use Rattle.scenario_run.specs.Writing.{Counts}
-use Rattle.scenario_run.specs.declared.told.Told.TheVariants as told
-use Rattle.scenario_run.proofs.Counting.{counts_heard, counts_passed, counts_stepped}
-use Rattle.draw.specs.{Drawing, DrawsPart, DrawsTold, HasDrawn, HasDrawnRun, Kept, Part, PartEntry, PartLine, Recalls, RunDrawing, SaysRefusal, SaysStore, SaysTired, TellsEnd, TellsReads, AccessView, entries_among, kept, observes, part_of_event, part_told, parts_at, parts_of, tally}
+use Rattle.scenario_run.specs.declared.reports.TurnReport.TheVariants as reported
+use Rattle.scenario_run.proofs.Counting.{counts_observed, counts_passed, counts_stepped}
+use Rattle.draw.specs.{Drawing, DrawsPart, DrawsReported, HasDrawn, HasDrawnRun, Kept, Part, PartEntry, PartLine, Recalls, RunDrawing, SaysRefusal, SaysStore, SaysTired, ReportsEnd, ReportsReads, AccessView, entries_among, kept, observes, part_of_event, part_reported, parts_at, parts_of, tally}
 use Rattle.draw.proofs.Drawings.{drawn_more, drawn_none, drawn_quiet, recalls_passed}
-use Rattle.draw.proofs.OverlapsTold.{made_tells, stepped_tells}
-use Rattle.draw.proofs.RunTold.{entries_of_run}
+use Rattle.draw.proofs.OverlapsReported.{made_reports, stepped_reports}
+use Rattle.draw.proofs.RunReported.{entries_of_run}
 
 -- a turn tells the part that happens
-pub part_is : (s : Setup) (before : List Happening) (this : Happening) (answer : Told) → Happens s before this answer → parts_of s (this ∷ before) ≡ part_told answer ∷ parts_of s before
-part_is s before this answer h = ap (λ l. l ++ parts_of s before) (by this answer h.tells)
+pub part_is : (s : Setup) (before : List Happening) (this : Happening) (answer : TurnReport) → Happens s before this answer → parts_of s (this ∷ before) ≡ part_reported answer ∷ parts_of s before
+part_is s before this answer h = ap (λ l. l ++ parts_of s before) (by this answer h.reports)
   where
     past : Past
     past = past_after s before
 
-    by : (this : Happening) (answer : Told) → TellsOf s past this answer → parts_at s past this ≡ part_told answer ∷ []
-    by (Tries event) (told.Accepted made) tells = ap (λ (o : Option Entry). part_of_event (process_of event) (refused s past event) o) tells.1
-    by (Tries event) (told.Refused p refusal) tells =
-        ap (λ (o : Option Refusal). part_of_event (process_of event) o (elim o as (λ _. Option Entry) [ Some r ↦ None | None ↦ added s past event ])) tells.1
-        ∙ ap (λ (q : ℕ). PartLine (SaysRefusal q refusal) ∷ []) (sym tells.0)
-    by (Lacks p) (told.Refused q refusal) tells = λ i. PartLine (SaysRefusal (sym tells.0 i) (sym tells.1 i)) ∷ []
-    by (Tires p) (told.Tired q) tells = λ i. PartLine (SaysTired (sym tells i)) ∷ []
-    by Looks (told.Shown store) tells = λ i. PartLine (SaysStore (newest_words (sym tells i))) ∷ []
-    by this answer tells = absurd tells
+    by : (this : Happening) (answer : TurnReport) → ReportsOf s past this answer → parts_at s past this ≡ part_reported answer ∷ []
+    by (Tries event) (reported.Accepted made) reports = ap (λ (o : Option Entry). part_of_event (process_of event) (refused s past event) o) reports.1
+    by (Tries event) (reported.Refused p refusal) reports =
+        ap (λ (o : Option Refusal). part_of_event (process_of event) o (elim o as (λ _. Option Entry) [ Some r ↦ None | None ↦ added s past event ])) reports.1
+        ∙ ap (λ (q : ℕ). PartLine (SaysRefusal q refusal) ∷ []) (sym reports.0)
+    by (Lacks p) (reported.Refused q refusal) reports = λ i. PartLine (SaysRefusal (sym reports.0 i) (sym reports.1 i)) ∷ []
+    by (Tires p) (reported.Tired q) reports = λ i. PartLine (SaysTired (sym reports i)) ∷ []
+    by Looks (reported.Shown store) reports = λ i. PartLine (SaysStore (newest_words (sym reports i))) ∷ []
+    by this answer reports = absurd reports
 
 -- it tells whether an overlapped read ends
-pub tells_reads : (mode : Mode) (s : Setup) (before : List Happening) (this : Happening) (answer : Told) → Happens s before this answer → TellsReads mode s (entries_among (parts_of s before)) answer
-tells_reads mode s before this answer h = subst (λ (past : Past). TellsReads mode s past answer) (sym (entries_of_run s before)) (by this answer h.tells)
+pub reports_reads : (mode : Mode) (s : Setup) (before : List Happening) (this : Happening) (answer : TurnReport) → Happens s before this answer → ReportsReads mode s (entries_among (parts_of s before)) answer
+reports_reads mode s before this answer h = subst (λ (past : Past). ReportsReads mode s past answer) (sym (entries_of_run s before)) (by this answer h.reports)
   where
-    by : (this : Happening) (answer : Told) → TellsOf s (past_after s before) this answer → TellsReads mode s (past_after s before) answer
-    by (Tries event) (told.Accepted made) tells = made_tells mode s (is_good s h.good) (tried before) event (entry_made made) made.overlapped tells.1 tells.2
-    by this (told.Accepted made) tells = absurd tells
-    by this (told.Refused p refusal) tells = tt
-    by this (told.Tired p) tells = tt
-    by this (told.Shown store) tells = tt
+    by : (this : Happening) (answer : TurnReport) → ReportsOf s (past_after s before) this answer → ReportsReads mode s (past_after s before) answer
+    by (Tries event) (reported.Accepted made) reports = made_reports mode s (is_good s h.good) (tried before) event (entry_made made) made.overlapped reports.1 reports.2
+    by this (reported.Accepted made) reports = absurd reports
+    by this (reported.Refused p refusal) reports = tt
+    by this (reported.Tired p) reports = tt
+    by this (reported.Shown store) reports = tt
 
 -- From here on.
 pub run_none : (view : AccessView) (s : Setup) (now : List Happening) (run : RunDrawing) (taken : Option (List ℕ)) → Counts s now (tally run) → Recalls view s (parts_of s now) run.drawing →
@@ -50,28 +50,28 @@ run_none view s now run taken counts recalls = record { counts = counts; drawn =
 
 module _ (view : AccessView) (s : Setup) (start : List Part) (had : Kept) (old : Option (List ℕ)) where
   -- what a turn tells
-  pub told_drawn : (before : List Happening) (this : Happening) (answer : Told) (run run' : RunDrawing) (mid new : Option (List ℕ)) → Happens s before this answer → DrawsTold run run' answer mid new →
+  pub reported_drawn : (before : List Happening) (this : Happening) (answer : TurnReport) (run run' : RunDrawing) (mid new : Option (List ℕ)) → Happens s before this answer → DrawsReported run run' answer mid new →
       tally run' ≡ counted answer (tally run) → run'.drawing.source ≡ run.drawing.source → HasDrawnRun view s start had old before run mid → HasDrawnRun view s start had old (this ∷ before) run' new
-  told_drawn before this answer run run' mid new h drew count source d = record {
-    counts = counts_heard s before this answer (tally run) (tally run') h count d.counts;
+  reported_drawn before this answer run run' mid new h drew count source d = record {
+    counts = counts_observed s before this answer (tally run) (tally run') h count d.counts;
     drawn = subst (λ (parts : List Part). HasDrawn view s start had old parts run'.drawing new) (sym (part_is s before this answer h))
-        (drawn_more view s start had old (parts_of s before) (part_told answer) run.drawing run'.drawing mid new (drew view s (parts_of s before) (tells_reads view.reads s before this answer h) d.drawn.recalls) source d.drawn);
+        (drawn_more view s start had old (parts_of s before) (part_reported answer) run.drawing run'.drawing mid new (drew view s (parts_of s before) (reports_reads view.reads s before this answer h) d.drawn.recalls) source d.drawn);
   }
 
   -- a Step without a mark, with its access
-  pub step_drawn : (before : List Happening) (made : Stepped) (run : RunDrawing) (d' : Drawing) (mid new : Option (List ℕ)) → StepsOn s before made → d'.source ≡ run.drawing.source → d'.entries ≡ run.drawing.entries + 1 →
-      ((view : AccessView) (s : Setup) (parts : List Part) → TellsEnd view.reads s (entries_among parts) (Some made.access) made.overlapped → Recalls view s parts run.drawing →
+  pub step_drawn : (before : List Happening) (made : UnmarkedStep) (run : RunDrawing) (d' : Drawing) (mid new : Option (List ℕ)) → StepsOn s before made → d'.source ≡ run.drawing.source → d'.entries ≡ run.drawing.entries + 1 →
+      ((view : AccessView) (s : Setup) (parts : List Part) → ReportsEnd view.reads s (entries_among parts) (Some made.access) made.overlapped → Recalls view s parts run.drawing →
       DrawsPart view s parts (PartEntry (entry_by made.process (Some made.access) [])) run.drawing d' mid new) →
       HasDrawnRun view s start had old before run mid → HasDrawnRun view s start had old (Tries (Step made.process made.flick) ∷ before) (record run { drawing = d' }) new
   step_drawn before made run d' mid new on source entries drew d =
       let event : Event = Step made.process made.flick in
       let past : Past = past_after s before in
       let parts : List Part = parts_of s before in
-      let tells = subst (λ (past : Past). TellsEnd view.reads s past (Some made.access) made.overlapped) (sym (entries_of_run s before)) (stepped_tells view.reads s before made on) in
+      let reports = subst (λ (past : Past). ReportsEnd view.reads s past (Some made.access) made.overlapped) (sym (entries_of_run s before)) (stepped_reports view.reads s before made on) in
       record {
         counts = subst (λ (n : ℕ). Counts s (Tries event ∷ before) (record { events = n; taken = 0; refused = run.refused })) (sym entries) (counts_stepped s before made (tally run) on d.counts);
         drawn = subst (λ (l : List Part). HasDrawn view s start had old l d' new) (sym (ap (λ (o : Option Entry). part_of_event (process_of event) (refused s past event) o ++ parts) on.adds))
-            (drawn_more view s start had old parts (PartEntry (entry_by made.process (Some made.access) [])) run.drawing d' mid new (drew view s parts tells d.drawn.recalls) source d.drawn);
+            (drawn_more view s start had old parts (PartEntry (entry_by made.process (Some made.access) [])) run.drawing d' mid new (drew view s parts reports d.drawn.recalls) source d.drawn);
       }
 
   -- events without a mark, where no access is observed

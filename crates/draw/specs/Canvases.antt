@@ -3,14 +3,14 @@ use Rattle.std.specs.Prelude.{◌≡◌, ℕ, true, List, [], ◌++◌, Option}
 use Rattle.std.specs.Io.KnownBytes.{Appends}
 use Rattle.model.specs.plain_store.{Setup, opening_store}
 use Rattle.model.specs.{Mark, Past}
-use Rattle.picture.specs.{Form, Item, SeenWindowed, Window, WindowPlan, bands_told, full_told, heights_told, held, judged_with, seen_windowed, windowed}
+use Rattle.picture.specs.{Form, Item, SeenWindowed, Window, WindowPlan, bands_reported, full_reported, heights_reported, held, judged_with, seen_windowed, windowed}
 use Rattle.picture.specs.picture_layout.{OverlappedRead}
 use Rattle.picture.specs.{ShownVerdict}
 use Rattle.picture.specs.declared.reads.Reads.{Reads as Mode}
 use Rattle.picture.specs.declared.subjects.Subject.TheVariants.{Run, Trace}
 use Rattle.picture.specs.markup.{EndsAll, is_at_rest, lines_in, tags_of}
 use Rattle.draw.specs.Items.{Gives, Says, end_given, given, lines_given, marks_after, says_marks, texts_shown, waiting}
-use Rattle.draw.specs.Overlaps.{Overhears}
+use Rattle.draw.specs.Overlaps.{ObservesAll}
 use Rattle.draw.specs.StoreChanges.{words_by}
 use Rattle.draw.specs.TakenStores.{IsAfterMarks}
 use Rattle.draw.specs.declared.canvas.Canvas.{Canvas}
@@ -59,7 +59,7 @@ pub record Fills (old new : SeenWindowed) (markup : List ℕ) (gives : List Give
   pub items : List Item
   pub are : given items ≡ gives
   pub goes_on : (plan : WindowPlan) (before : List Item) → old ≡ windowed plan before →
-      (new ≡ windowed plan (items ++ before)) × (full_told plan (items ++ before) ≡ full_told plan before ++ markup)
+      (new ≡ windowed plan (items ++ before)) × (full_reported plan (items ++ before) ≡ full_reported plan before ++ markup)
 
 -- Markup was written, where some lines were held back before, and some are now. Only the lines in the window are drawn.
 pub record DrawsOn (had has : Kept) (old new : Option (List ℕ)) (gives : List Gives) : Type 0 where
@@ -77,20 +77,20 @@ pub record DrawsRest (had : Kept) (old new : Option (List ℕ)) (gives : List Gi
   pub items : List Item
   pub are : given items ≡ gives
   pub ends : (plan : WindowPlan) (before : List Item) → had.page ≡ windowed plan before →
-      (bands_told plan (items ++ before) ≡ full_told plan before ++ markup) × (height ≡ heights_told plan (items ++ before))
+      (bands_reported plan (items ++ before) ≡ full_reported plan before ++ markup) × (height ≡ heights_reported plan (items ++ before))
 
 -- all bands were written, whose heights come to so much
 pub record DrawsBands (plan : WindowPlan) (old new : Option (List ℕ)) (gives : List Gives) (height : ℕ) : Type 0 where
   pub items : List Item
   pub are : given items ≡ gives
-  pub draws : Draws old new (bands_told plan items) (texts_shown plan.window gives)
-  pub heights : height ≡ heights_told plan items
+  pub draws : Draws old new (bands_reported plan items) (texts_shown plan.window gives)
+  pub heights : height ≡ heights_reported plan items
 
 -- lines made by one line of the list were drawn, and before them the reads that waited; none waits behind a line
 abbrev pub DrawsLines : Canvas → Canvas → Option (List ℕ) → Option (List ℕ) → (source at : ℕ) → List Says → Type 0
 DrawsLines had has old new source at lines =
-    (mode : Mode) (s : Setup) (past : Past) (reads : List OverlappedRead) → Overhears mode s past reads had.overlaps →
-    DrawsOn (kept had) (kept has) old new (lines_given mode source at reads lines) × Overhears mode s past (waiting lines reads) has.overlaps
+    (mode : Mode) (s : Setup) (past : Past) (reads : List OverlappedRead) → ObservesAll mode s past reads had.overlaps →
+    DrawsOn (kept had) (kept has) old new (lines_given mode source at reads lines) × ObservesAll mode s past (waiting lines reads) has.overlaps
 
 -- so were the lines of a process's marks that come after other marks, and the store is the one after them
 abbrev pub DrawsMarks : Canvas → Canvas → TakenStore → TakenStore → Option (List ℕ) → Option (List ℕ) → (source at : ℕ) → ℕ → List Mark → Type 0
@@ -99,11 +99,11 @@ DrawsMarks had has store stores old new source at p marks =
 
 -- All up to the end of the picture was drawn, except for the verdict, if there is one.
 abbrev pub DrawsUpToVerdict : Canvas → Canvas → Option (List ℕ) → Option (List ℕ) → (source at : ℕ) → List ℕ → Says → Option ShownVerdict → Type 0
-DrawsUpToVerdict had has old new source at told last verdict =
-    (mode : Mode) (s : Setup) (past : Past) (reads : List OverlappedRead) → Overhears mode s past reads had.overlaps →
-    (gives : List Gives) × DrawsOn (kept had) (kept has) old new gives × (gives ++ given (judged_with at verdict []) ≡ end_given mode source at reads told last)
+DrawsUpToVerdict had has old new source at reported last verdict =
+    (mode : Mode) (s : Setup) (past : Past) (reads : List OverlappedRead) → ObservesAll mode s past reads had.overlaps →
+    (gives : List Gives) × DrawsOn (kept had) (kept has) old new gives × (gives ++ given (judged_with at verdict []) ≡ end_given mode source at reads reported last)
 
 -- The end of the picture was drawn, and all that was held back.
 abbrev pub DrawsLast : Canvas → Option (List ℕ) → Option (List ℕ) → (source at : ℕ) → List ℕ → Says → ℕ → Type 0
-DrawsLast had old new source at told last height =
-    (mode : Mode) (s : Setup) (past : Past) (reads : List OverlappedRead) → Overhears mode s past reads had.overlaps → DrawsRest (kept had) old new (end_given mode source at reads told last) height
+DrawsLast had old new source at reported last height =
+    (mode : Mode) (s : Setup) (past : Past) (reads : List OverlappedRead) → ObservesAll mode s past reads had.overlaps → DrawsRest (kept had) old new (end_given mode source at reads reported last) height

@@ -3,7 +3,7 @@ use Rattle.std.specs.Prelude.{◌≡◌, ℕ, suc, List, [], ◌∷◌, flat_map
 use Rattle.model.specs.plain_store.{Reply, Setup, checked}
 use Rattle.model.specs.{Event, Mark, Taken, history, past_of}
 use Rattle.model.specs.declared.marks.Mark.TheVariants as mark
-use Rattle.picture.specs.picture_layout.{Saying, marks_in, marks_said}
+use Rattle.picture.specs.picture_layout.{LineContent, marks_in, marks_said}
 
 -- a knot of the chain: whose command was taken, at which place, and with which reply
 pub record Knot : Type 0 where
@@ -21,8 +21,8 @@ abbrev pub knots : List (ℕ × Mark) → List Knot
 knots = flat_map knot_of
 
 -- the knots of all lines, in their order
-abbrev pub knots_told : List Saying → List Knot
-knots_told lines = knots (flat_map marks_said lines)
+abbrev pub knots_reported : List LineContent → List Knot
+knots_reported lines = knots (flat_map marks_said lines)
 
 -- commands taken as knots, where so many were taken before
 abbrev pub numbered : ℕ → List Taken → List Knot
@@ -31,5 +31,5 @@ numbered k (t ∷ taken) = record { process = t.process; place = k; reply = t.re
 
 -- Where lines say the marks of a record, whatever else they say between them, the k-th knot is the k-th command of the history, from 0: its process, k, and its reply.
 abbrev pub ChainIsTheHistory : Type 0
-ChainIsTheHistory = (s : Setup) → checked s ≡ Ok tt → (events : List Event) (lines : List Saying) → flat_map marks_said lines ≡ marks_in (past_of s events) →
-    knots_told lines ≡ numbered 0 (history s (past_of s events))
+ChainIsTheHistory = (s : Setup) → checked s ≡ Ok tt → (events : List Event) (lines : List LineContent) → flat_map marks_said lines ≡ marks_in (past_of s events) →
+    knots_reported lines ≡ numbered 0 (history s (past_of s events))

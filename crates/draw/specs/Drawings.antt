@@ -4,10 +4,10 @@ use Rattle.model.specs.plain_store.{Setup}
 use Rattle.picture.specs.declared.reads.Reads.{Reads as Mode}
 use Rattle.picture.specs.declared.reads.Reads.TheVariants.{All}
 use Rattle.model.specs.{Past}
-use Rattle.record_accesses.specs.{HasWatched, WatchState, WaveLimit}
+use Rattle.record_accesses.specs.{HasMonitored, MonitorState, WaveLimit}
 use Rattle.draw.specs.Canvases.{DrawsOn, Kept, kept}
 use Rattle.draw.specs.Items.{Part, entries_among, given_last, given_of, marks_back, reads_since}
-use Rattle.draw.specs.Overlaps.{Overhears}
+use Rattle.draw.specs.Overlaps.{ObservesAll}
 use Rattle.draw.specs.StoreChanges.{store_words}
 use Rattle.draw.specs.StoresBefore.{IsStoreBefore, store_before}
 use Rattle.draw.specs.TakenStores.{IsAfterMarks}
@@ -15,18 +15,18 @@ use Rattle.draw.specs.declared.drawing.Drawing.{Drawing}
 use Rattle.draw.specs.declared.views.AccessView.{AccessView}
 
 -- the accesses of these entries were observed, if all accesses are shown
-abbrev pub WatchesAccesses : Mode → WaveLimit → Setup → Past → Option WatchState → Type 0
-WatchesAccesses All limit s past (Some watch) = HasWatched watch s limit past
-WatchesAccesses All limit s past None = ⊥
-WatchesAccesses _ limit s past (Some watch) = ⊥
-WatchesAccesses _ limit s past None = Unit {0}
+abbrev pub MonitorsAccesses : Mode → WaveLimit → Setup → Past → Option MonitorState → Type 0
+MonitorsAccesses All limit s past (Some monitor) = HasMonitored monitor s limit past
+MonitorsAccesses All limit s past None = ⊥
+MonitorsAccesses _ limit s past (Some monitor) = ⊥
+MonitorsAccesses _ limit s past None = Unit {0}
 
 -- A drawing comes after these parts: it counts their entries, its store is the one after their marks, the overlapped reads that wait are those since the last line, it has observed the accesses of the entries, if it shows all, and it keeps the store before its window.
 pub record Recalls (view : AccessView) (s : Setup) (parts : List Part) (d : Drawing) : Type 0 where
   pub entries : d.entries ≡ length (entries_among parts)
   pub store : IsAfterMarks s (marks_back (entries_among parts)) d.store
-  pub waits : Overhears view.reads s (entries_among parts) (reads_since s parts) d.canvas.overlaps
-  pub accesses : WatchesAccesses view.reads view.limit s (entries_among parts) d.accesses
+  pub waits : ObservesAll view.reads s (entries_among parts) (reads_since s parts) d.canvas.overlaps
+  pub accesses : MonitorsAccesses view.reads view.limit s (entries_among parts) d.accesses
   pub before : IsStoreBefore view.window s (entries_among parts) d.before
 
 -- These are the words of the store before the window, whatever parts were drawn.

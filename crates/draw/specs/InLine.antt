@@ -3,12 +3,12 @@ use Rattle.std.specs.Prelude.{◌≡◌, ◌⊎◌, ◌<◌, ℕ, List, ◌∷�
 use Rattle.model.specs.plain_store.{Setup, checked}
 use Rattle.model.specs.{Entry, Event, Stage, entry_of, has, is_entered, past_of}
 use Rattle.model.specs.declared.stages.Stage.TheVariants.{Inside, Leaving, Settling}
-use Rattle.picture.specs.{Item, sayings, state_after}
-use Rattle.picture.specs.picture_layout.{Saying, State, at_first, before_in, marks_in, marks_said, queue_of, stage_among, state_told}
+use Rattle.picture.specs.{Item, line_contents, state_after}
+use Rattle.picture.specs.picture_layout.{LineContent, State, at_first, before_in, marks_in, marks_said, queue_of, stage_among, state_reported}
 
 -- what these lines have told of a run of so many processes
-abbrev pub state_of_lines : ℕ → List Saying → State
-state_of_lines processes = fold state_told (at_first processes)
+abbrev pub state_of_lines : ℕ → List LineContent → State
+state_of_lines processes = fold state_reported (at_first processes)
 
 -- a process with a ticket that waits no more: it leaves, since it gave up, or its memory unit clears up, since it failed
 abbrev pub WaitsNoMore : Stage → Type 0
@@ -21,15 +21,15 @@ IsFirstInLine state p = (q : ℕ) → Contains (before_in p (queue_of state)) q 
 -- Where lines say the marks of a record up to an entry with which a process gets inside, that process is first in line.
 abbrev pub WhoEntersIsFirst : Type 0
 WhoEntersIsFirst = (s : Setup) → checked s ≡ Ok tt → (events : List Event) (event : Event) (e : Entry) → entry_of s (past_of s events) event ≡ Some e → IsTrue (has is_entered e) →
-    (lines : List Saying) → flat_map marks_said lines ≡ marks_in (e ∷ past_of s events) → IsFirstInLine (state_of_lines s.processes lines) e.process
+    (lines : List LineContent) → flat_map marks_said lines ≡ marks_in (e ∷ past_of s events) → IsFirstInLine (state_of_lines s.processes lines) e.process
 
 -- Where lines say the marks of a record, each process that is inside by the stages that they tell is first in line.
 abbrev pub WhoIsInsideIsFirst : Type 0
-WhoIsInsideIsFirst = (s : Setup) → checked s ≡ Ok tt → (events : List Event) (lines : List Saying) → flat_map marks_said lines ≡ marks_in (past_of s events) →
+WhoIsInsideIsFirst = (s : Setup) → checked s ≡ Ok tt → (events : List Event) (lines : List LineContent) → flat_map marks_said lines ≡ marks_in (past_of s events) →
     (p : ℕ) → p < s.processes → stage_among (state_of_lines s.processes lines).stages p ≡ Inside → IsFirstInLine (state_of_lines s.processes lines) p
 
 -- So it is first in the line from which a picture draws its bars and what stands in them, once such lines are among its items.
 abbrev pub WhoIsInsideIsDrawnFirst : Type 0
-WhoIsInsideIsDrawnFirst = (s : Setup) → checked s ≡ Ok tt → (events : List Event) (items : List Item) → flat_map marks_said (sayings items) ≡ marks_in (past_of s events) →
+WhoIsInsideIsDrawnFirst = (s : Setup) → checked s ≡ Ok tt → (events : List Event) (items : List Item) → flat_map marks_said (line_contents items) ≡ marks_in (past_of s events) →
     (p : ℕ) → p < s.processes → stage_among (state_after (at_first s.processes) items).stages p ≡ Inside →
     IsFirstInLine (state_after (at_first s.processes) items) p

@@ -2,12 +2,12 @@
 use Rattle.std.specs.Prelude.{ℕ, zero, suc, Bool, List, [], ◌∷◌, ◌++◌, flat_map, length, map, string_bytes, Option, None, Some, option_map}
 use Rattle.model.specs.plain_store.{Setup}
 use Rattle.model.specs.{Entry, Mark, Past, Refusal}
-use Rattle.picture.specs.{Accesses, Item, Judges, Reads, SeenVerdict, Tells, Window, lines_if, seen_verdict, shows_after, shows_end, shows_entry, verdict_titles}
-use Rattle.picture.specs.picture_layout.{GivenAccess, OverlappedRead, Saying, given_access, like, lock_ended_text, lock_marked_text}
+use Rattle.picture.specs.{Accesses, Item, Judges, Reads, SeenVerdict, Reports, Window, lines_if, seen_verdict, shows_after, shows_end, shows_entry, verdict_titles}
+use Rattle.picture.specs.picture_layout.{GivenAccess, OverlappedRead, LineContent, given_access, like, lock_ended_text, lock_marked_text}
 use Rattle.picture.specs.picture_layout.trace.{LockMark}
 use Rattle.picture.specs.shown_verdict.{report_lines, verdict_of}
 use Rattle.picture.specs.picture_layout.run_lines.{ended_text, marked_text, refused_text, shown_text, tired_text}
-use Rattle.picture.specs.picture_layout.declared.told.Saying.TheVariants.{Marked, Refused, Tired, Shown, Ended, LockMarked, LockEnded}
+use Rattle.picture.specs.picture_layout.declared.line_contents.LineContent.TheVariants.{Marked, Refused, Tired, Shown, Ended, LockMarked, LockEnded}
 use Rattle.picture.specs.declared.reads.Reads.{Reads as Mode}
 use Rattle.draw.specs.Overlaps.{overlapped_by, shown_of}
 use Rattle.draw.specs.StoreChanges.{Changed, changed}
@@ -33,7 +33,7 @@ pub data Gives : Type 0 where
   GivesAccess : GivenAccess → Gives  -- the part of an access that an entry makes
   GivesVerdict : ℕ → SeenVerdict → Gives  -- how many events were accepted before it, and the verdict of a judge, with the last line
 
-abbrev pub says_of : Saying → Says
+abbrev pub says_of : LineContent → Says
 says_of (Marked p mark change) = SaysMark p mark (option_map changed change)
 says_of (Refused p refusal) = SaysRefusal p refusal
 says_of (Tired p) = SaysTired p
@@ -45,7 +45,7 @@ says_of (LockEnded entries) = SaysLockEnd entries
 -- the items that a picture is told, of which the newest stands first; they stand in their order
 abbrev pub given : List Item → List Gives
 given [] = []
-given (Tells line ∷ before) = given before ++ GivesLine line.source line.at (says_of line.saying) ∷ []
+given (Reports line ∷ before) = given before ++ GivesLine line.source line.at (says_of line.line_content) ∷ []
 given (Reads read ∷ before) = given before ++ GivesRead read ∷ []
 given (Accesses access ∷ before) = given before ++ GivesAccess (given_access access) ∷ []
 given (Judges at verdict ∷ before) = given before ++ GivesVerdict at (seen_verdict verdict) ∷ []
@@ -118,8 +118,8 @@ lines_given mode source at reads (line ∷ lines) = map GivesRead (shown_of mode
 -- The end of a picture with this last line. If a judge has reported, it is the verdict, which has the lines of the report and the last line; otherwise it is the last line alone. The reads that wait come first, as far as they are shown.
 abbrev pub end_given : Mode → ℕ → ℕ → List OverlappedRead → List ℕ → Says → List Gives
 end_given mode source at reads [] last = lines_given mode source at reads (last ∷ [])
-end_given mode source at reads (byte ∷ told) last =
-    map GivesRead (shown_of mode reads) ++ GivesVerdict at (verdict_of source (report_lines (byte ∷ told)) (says_text at last)) ∷ []
+end_given mode source at reads (byte ∷ reported) last =
+    map GivesRead (shown_of mode reads) ++ GivesVerdict at (verdict_of source (report_lines (byte ∷ reported)) (says_text at last)) ∷ []
 
 -- Accesses.
 

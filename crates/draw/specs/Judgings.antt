@@ -4,13 +4,13 @@ use Rattle.model.specs.plain_store.{Setup}
 use Rattle.scenario.specs.files.declared.faults.FaultKind.TheVariants.{NotFirst}
 use Rattle.model.specs.{Entry}
 use Rattle.judge.specs.record_file.{Progress, record_of}
-use Rattle.judge.specs.{Telling, good_in, numbers_of}
-use Rattle.judge.specs.Trials.{Stands as HearerStands}
+use Rattle.judge.specs.{Reporting, good_in, numbers_of}
+use Rattle.judge.specs.Trials.{Stands as ObserverStands}
 use Rattle.draw.specs.Sheets.{Stands}
-use Rattle.draw.specs.declared.records.sheet.Sheet.{Sheet}
+use Rattle.draw.specs.declared.records.sheet.RecordPicture.{RecordPicture}
 
 -- what is drawn ends with the first entry that breaks a law
-pub record HasStopped (Keeps : Setup → List Entry → Type 0) (t : Sheet) (before : Option Progress) (entries : List Entry) (first now : Option (List ℕ)) : Type 0 where
+pub record HasStopped (Keeps : Setup → List Entry → Type 0) (t : RecordPicture) (before : Option Progress) (entries : List Entry) (first now : Option (List ℕ)) : Type 0 where
   pub last : Progress
   pub read : before ≡ Some last
   pub ended : last.ended ≡ true
@@ -25,7 +25,7 @@ pub record HasStopped (Keeps : Setup → List Entry → Type 0) (t : Sheet) (bef
   pub breaks : Keeps drawn.head.setup (front ++ entry ∷ []) → ⊥
 
 -- all entries so far are drawn, or those up to the first that breaks a law
-abbrev pub IsShown : {H : Type 0} → (Setup → List Entry → Type 0) → (H → Bool) → Bool → Option H → Sheet → Option Progress → List Entry → Option (List ℕ) → Option (List ℕ) → Type 0
+abbrev pub IsShown : {H : Type 0} → (Setup → List Entry → Type 0) → (H → Bool) → Bool → Option H → RecordPicture → Option Progress → List Entry → Option (List ℕ) → Option (List ℕ) → Type 0
 IsShown Keeps finds_good true j t before entries first now = (good_in finds_good j ≡ true) × Stands t before (reverse entries) first now
 IsShown Keeps finds_good false j t before entries first now = HasStopped Keeps t before entries first now
 
@@ -35,16 +35,16 @@ SaysAll None entries numbers taken text = record_of text ≡ Err (record { line 
 SaysAll (Some p) entries numbers taken text = (record_of text ≡ Ok (record { setup = p.head.setup; entries = entries })) × (numbers ≡ numbers_of text)
 
 -- all lines were read and heard, and their entries are drawn as far as they are shown
-pub record HasRead {H : Type 0} (HasHeard : H → Setup → List Entry → List ℕ → Type 0) (Keeps : Setup → List Entry → Type 0) (finds_good : H → Bool) (to_come : Option (List ℕ)) (taken : ℕ) (reader : Option Progress) (j : Option H) (t : Sheet) (first now : Option (List ℕ)) : Type 0 where
+pub record HasRead {H : Type 0} (HasObserved : H → Setup → List Entry → List ℕ → Type 0) (Keeps : Setup → List Entry → Type 0) (finds_good : H → Bool) (to_come : Option (List ℕ)) (taken : ℕ) (reader : Option Progress) (j : Option H) (t : RecordPicture) (first now : Option (List ℕ)) : Type 0 where
   pub before : Option Progress
   pub entries : List Entry
   pub numbers : List ℕ
   pub says : IfSome to_come (SaysAll before entries numbers taken)
-  pub stands : HearerStands HasHeard reader j before entries numbers
+  pub stands : ObserverStands HasObserved reader j before entries numbers
   pub shows : Bool
   pub shown : IsShown Keeps finds_good shows j t before entries first now
 
 -- what is told of entries, unless no line was read
-abbrev pub TellsOfLines : (Setup → List Entry → List ℕ → List ℕ → ℕ → Type 0) → Option Telling → Option Progress → List Entry → List ℕ → Type 0
-TellsOfLines Tells None before entries numbers = before ≡ None
-TellsOfLines Tells (Some t) before entries numbers = (p : Progress) × (before ≡ Some p) × Tells p.head.setup entries numbers t.text.items t.status
+abbrev pub ReportsOfLines : (Setup → List Entry → List ℕ → List ℕ → ℕ → Type 0) → Option Reporting → Option Progress → List Entry → List ℕ → Type 0
+ReportsOfLines Reports None before entries numbers = before ≡ None
+ReportsOfLines Reports (Some t) before entries numbers = (p : Progress) × (before ≡ Some p) × Reports p.head.setup entries numbers t.text.items t.status

@@ -4,14 +4,14 @@ use Rattle.model.specs.safe_bit.{Move}
 use Rattle.model.specs.safe_bit.declared.Move.TheVariants.{BeginRead, EndRead}
 use Rattle.model.specs.{Access, Entry, Past, begins_read, moves_of, same_bit, width}
 use Rattle.model.specs.plain_store.{Setup, checked}
-use Rattle.judge.specs.safe_monitor.{HasHeard, WatchState, ends_overlapped}
+use Rattle.judge.specs.safe_monitor.{HasObserved, MonitorState, ends_overlapped}
 use Rattle.judge.specs.safe_monitor.laws.{IsThere}
 use Rattle.picture.specs.{held_in_64}
 use Rattle.picture.specs.picture_layout.{OverlappedRead}
 use Rattle.picture.specs.declared.reads.Reads.{Reads as Mode}
 use Rattle.picture.specs.declared.reads.Reads.TheVariants.{All, Hidden, Shown}
 use Rattle.draw.specs.declared.overlaps.BegunRead.{BegunRead}
-use Rattle.draw.specs.declared.overlaps.OverlapsHeard.{OverlapsHeard}
+use Rattle.draw.specs.declared.overlaps.OverlapsObserved.{OverlapsObserved}
 
 -- a read begins
 abbrev pub is_begin : Move → Bool
@@ -77,25 +77,25 @@ shown_of Shown reads = first_three reads
 shown_of All reads = []
 
 -- whether an access ends an overlapped read is told, if its bit is there and a read of it has begun
-pub record TellsOver (s : Setup) (past : Past) (a : Access) (over : Bool) : Type 0 where
+pub record ReportsOver (s : Setup) (past : Past) (a : Access) (over : Bool) : Type 0 where
   pub there : IsThere s a → begins_read (moves_of a past) ≡ true → over ≡ ends_overlapped (moves_of a past) a.how
   pub stray : (IsThere s a → ⊥) → over ≡ false
 
 -- so it is told of an entry by its access, if reads are shown
-abbrev pub TellsEnd : Mode → Setup → Past → Option Access → Bool → Type 0
-TellsEnd Hidden s past access over = Unit {0}
-TellsEnd Shown s past access over = IfSome access (λ a. TellsOver s past a over)
-TellsEnd All s past access over = Unit {0}
+abbrev pub ReportsEnd : Mode → Setup → Past → Option Access → Bool → Type 0
+ReportsEnd Hidden s past access over = Unit {0}
+ReportsEnd Shown s past access over = IfSome access (λ a. ReportsOver s past a over)
+ReportsEnd All s past access over = Unit {0}
 
 -- a watch has heard these entries, if reads are shown
-abbrev pub Watches : Mode → Setup → Past → Option WatchState → Type 0
-Watches Hidden s past None = Unit {0}
-Watches Shown s past (Some watch) = (watch.setup ≡ s) × HasHeard watch past
-Watches All s past None = Unit {0}
-Watches _ s past watch = ⊥
+abbrev pub Monitors : Mode → Setup → Past → Option MonitorState → Type 0
+Monitors Hidden s past None = Unit {0}
+Monitors Shown s past (Some monitor) = (monitor.setup ≡ s) × HasObserved monitor past
+Monitors All s past None = Unit {0}
+Monitors _ s past monitor = ⊥
 
 -- it has heard these entries, and keeps the reads that have ended since the last line, as far as they are shown
-pub record Hears (s : Setup) (past : Past) (reads : List OverlappedRead) (overlaps : OverlapsHeard) : Type 0 where
+pub record Observes (s : Setup) (past : Past) (reads : List OverlappedRead) (overlaps : OverlapsObserved) : Type 0 where
   pub good : checked s ≡ Ok tt
   pub setup : overlaps.setup ≡ s
   pub begun : (p : ℕ) → p < 16 → get_or overlaps.begun p None ≡ read_begun p past
@@ -103,8 +103,8 @@ pub record Hears (s : Setup) (past : Past) (reads : List OverlappedRead) (overla
   pub ended : overlaps.ended.items ≡ first_three reads
 
 -- the same, if reads are shown; else nothing is heard
-abbrev pub Overhears : Mode → Setup → Past → List OverlappedRead → Option OverlapsHeard → Type 0
-Overhears Hidden s past reads None = Unit {0}
-Overhears Shown s past reads (Some overlaps) = Hears s past reads overlaps
-Overhears All s past reads None = Unit {0}
-Overhears _ s past reads _ = ⊥
+abbrev pub ObservesAll : Mode → Setup → Past → List OverlappedRead → Option OverlapsObserved → Type 0
+ObservesAll Hidden s past reads None = Unit {0}
+ObservesAll Shown s past reads (Some overlaps) = Observes s past reads overlaps
+ObservesAll All s past reads None = Unit {0}
+ObservesAll _ s past reads _ = ⊥

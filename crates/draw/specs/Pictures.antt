@@ -1,7 +1,7 @@
 -- What a run's picture is told, and what is written of it.
 use Rattle.std.specs.Prelude.{ℕ, List, [], ◌∷◌, ◌++◌, flat_map}
 use Rattle.scenario.specs.{Script}
-use Rattle.picture.specs.{Accesses, Form, Item, Judges, Reads, Tells, Window, bands_told, page_back, page_front, picture_back, picture_front, seen_verdict, verdict_titles}
+use Rattle.picture.specs.{Accesses, Form, Item, Judges, Reads, Reports, Window, bands_reported, page_back, page_front, picture_back, picture_front, seen_verdict, verdict_titles}
 use Rattle.picture.specs.picture_layout.run_lines.{with_end}
 use Rattle.picture.specs.picture_layout.{text_of}
 use Rattle.picture.specs.declared.page.Form.TheVariants as form
@@ -13,12 +13,12 @@ use Rattle.draw.specs.StoresBefore.{store_before}
 use Rattle.scenario_run.specs.{happenings, past_after}
 
 -- the lines among items, of which the newest stands first; they stand in their order
-abbrev pub lines_told : List Item → List (List ℕ)
-lines_told [] = []
-lines_told (Tells line ∷ before) = lines_told before ++ text_of line ∷ []
-lines_told (Reads read ∷ before) = lines_told before
-lines_told (Accesses access ∷ before) = lines_told before
-lines_told (Judges at verdict ∷ before) = lines_told before ++ verdict_titles (seen_verdict verdict)
+abbrev pub lines_reported : List Item → List (List ℕ)
+lines_reported [] = []
+lines_reported (Reports line ∷ before) = lines_reported before ++ text_of line ∷ []
+lines_reported (Reads read ∷ before) = lines_reported before
+lines_reported (Accesses access ∷ before) = lines_reported before
+lines_reported (Judges at verdict ∷ before) = lines_reported before ++ verdict_titles (seen_verdict verdict)
 
 -- the words of the store of a run before a window
 abbrev pub opening_of : Window → Script → List ℕ
@@ -27,11 +27,11 @@ opening_of w said = store_words (store_before w said.setup (past_after said.setu
 -- a page, which lists the lines of its file, and one picture whose bands' heights come to so much; either shows the items in its window, and the page's slider begins with the store before it
 abbrev pub picture_of : PictureOptions → Form → List ℕ → Script → ℕ → List Item → List ℕ
 picture_of options form.Page file said height items =
-    (page_front subject.Run said.setup file options.reads ++ bands_told (plan_of form.Page options.window said.setup) items)
+    (page_front subject.Run said.setup file options.reads ++ bands_reported (plan_of form.Page options.window said.setup) items)
     ++ page_back (opening_of options.window said)
 picture_of options (form.Picture top) file said height items =
     (picture_front subject.Run said.setup height options.reads
-    ++ bands_told (plan_of (form.Picture top) options.window said.setup) items)
+    ++ bands_reported (plan_of (form.Picture top) options.window said.setup) items)
     ++ picture_back height options.reads
 
 -- lines, each with its end

@@ -15,8 +15,8 @@ entry_parts = map PartEntry
 
 -- the last line, and the verdict of a judge, if it tells one
 abbrev pub record_end : AccessView → Setup → ℕ → Past → List ℕ → List Gives
-record_end view s source past told =
-    end_given view.reads (source + 1) (length past) (reads_since s (entry_parts past)) told (SaysEnd (length past) (taken_by (marks_back past)) 0)
+record_end view s source past reported =
+    end_given view.reads (source + 1) (length past) (reads_since s (entry_parts past)) reported (SaysEnd (length past) (taken_by (marks_back past)) 0)
 
 -- the line of the page's list that stands for all entries: it is behind the headings and the opening pairs
 abbrev pub source_of : Setup → ℕ
@@ -24,8 +24,8 @@ source_of s = length (head_words s) + 1
 
 -- what a whole record gives, and a judge who tells this of it
 abbrev pub record_gives : AccessView → Said → List ℕ → List Gives
-record_gives view said told = given_all view said.setup (source_of said.setup) (entry_parts (reverse said.entries)) ++ record_end view said.setup (source_of said.setup) (reverse said.entries) told
+record_gives view said reported = given_all view said.setup (source_of said.setup) (entry_parts (reverse said.entries)) ++ record_end view said.setup (source_of said.setup) (reverse said.entries) reported
 
 -- the lines of a record, without their ends: one for each mark of its entries, in their order, those of a judge, and a last one
 abbrev pub record_lines : Said → List ℕ → List (List ℕ)
-record_lines said told = parts_texts (entry_parts (reverse said.entries)) ++ (map judged_text (report_lines told) ++ ended_text (length (reverse said.entries)) (taken_by (marks_back (reverse said.entries))) 0 ∷ [])
+record_lines said reported = parts_texts (entry_parts (reverse said.entries)) ++ (map judged_text (report_lines reported) ++ ended_text (length (reverse said.entries)) (taken_by (marks_back (reverse said.entries))) 0 ∷ [])

@@ -8,20 +8,20 @@ use Rattle.scenario.specs.files.{Fault}
 use Rattle.scenario.specs.files.declared.faults.Fault.TheVariants as fault
 use Rattle.scenario.specs.{Line, Script, scenario_of}
 use Rattle.picture.specs.markup.{lines_in, opens_in}
-use Rattle.picture.specs.{Form, Item, all_entries, heights_told, sayings}
+use Rattle.picture.specs.{Form, Item, all_entries, heights_reported, line_contents}
 use Rattle.picture.specs.picture_layout.{marks_in, marks_said}
 use Rattle.picture.specs.declared.page.Form.TheVariants as form
 use Rattle.picture.specs.declared.reads.PictureOptions.{PictureOptions}
 use Rattle.picture.specs.declared.reads.Reads.{Reads as Mode}
-use Rattle.scenario_run.specs.{CourseState, Follows, Happening, Run, Summary, Told, entry_made, happenings, newest_words, past_after, replay_text, replayed, run_after}
-use Rattle.scenario_run.specs.declared.told.Told.TheVariants as told
+use Rattle.scenario_run.specs.{ScenarioRunState, Follows, Happening, Run, Summary, TurnReport, entry_made, happenings, newest_words, past_after, replay_text, replayed, run_after}
+use Rattle.scenario_run.specs.declared.reports.TurnReport.TheVariants as reported
 use Rattle.scenario_run.specs.Writing.{Counts}
 use Rattle.draw.specs.Canvases.{DrawsBands, Kept, Writes, kept, plan_of}
 use Rattle.draw.specs.Drawings.{DrawsPart, HasDrawn, Recalls}
 use Rattle.draw.specs.Items.{Part, PartEntry, PartLine, SaysRefusal, SaysStore, SaysTired, entries_among, given, texts_shown}
-use Rattle.draw.specs.Overlaps.{TellsEnd}
-use Rattle.draw.specs.Around.{EndsPage}
-use Rattle.draw.specs.Pictures.{ended_lines, lines_told, opening_of, picture_of}
+use Rattle.draw.specs.Overlaps.{ReportsEnd}
+use Rattle.draw.specs.PictureForm.{EndsPage}
+use Rattle.draw.specs.Pictures.{ended_lines, lines_reported, opening_of, picture_of}
 use Rattle.draw.specs.RunItems.{parts_of, run_given}
 use Rattle.draw.specs.Views.{full_view}
 use Rattle.draw.specs.declared.runs.drawing.RunDrawing.{RunDrawing}
@@ -31,13 +31,13 @@ use Rattle.draw.specs.declared.views.AccessView.{AccessView}
 pub record IsRunPicture (options : PictureOptions) (form : Form) (file : List ℕ) (said : Script) (markup : List ℕ) : Type 0 where
   pub items : List Item
   pub are : given items ≡ run_given (full_view options) said
-  pub lines : ended_lines (lines_told items) ≡ replayed said
-  pub marks : flat_map marks_said (sayings items) ≡ marks_in (past_after said.setup (happenings said))
+  pub lines : ended_lines (lines_reported items) ≡ replayed said
+  pub marks : flat_map marks_said (line_contents items) ≡ marks_in (past_after said.setup (happenings said))
   pub first : List Item
   pub same_items : given first ≡ run_given (full_view options) said
-  pub same_lines : ended_lines (lines_told first) ≡ replayed said
-  pub same_marks : flat_map marks_said (sayings first) ≡ marks_in (past_after said.setup (happenings said))
-  pub is : markup ≡ picture_of options form file said (heights_told (plan_of form options.window said.setup) first) items
+  pub same_lines : ended_lines (lines_reported first) ≡ replayed said
+  pub same_marks : flat_map marks_said (line_contents first) ≡ marks_in (past_after said.setup (happenings said))
+  pub is : markup ≡ picture_of options form file said (heights_reported (plan_of form options.window said.setup) first) items
 
 -- A whole picture was written: it is the picture of a window of the run of a file, and nothing else; its tags fit, and no element is open at its end; and the titles of its marks, read back, are the lines of the run in the window. If the window is all entries, these are all lines of the run.
 pub record DrawsAll (options : PictureOptions) (form : Form) (file : List ℕ) (said : Script) (old new : Option (List ℕ)) : Type 0 where
@@ -71,21 +71,21 @@ abbrev pub tally : RunDrawing → Summary
 tally run = record { events = run.drawing.entries; taken = 0; refused = run.refused }
 
 -- the part that a turn tells
-abbrev pub part_told : Told → Part
-part_told (told.Accepted made) = PartEntry (entry_made made)
-part_told (told.Refused p refusal) = PartLine (SaysRefusal p refusal)
-part_told (told.Tired p) = PartLine (SaysTired p)
-part_told (told.Shown store) = PartLine (SaysStore (newest_words store))
+abbrev pub part_reported : TurnReport → Part
+part_reported (reported.Accepted made) = PartEntry (entry_made made)
+part_reported (reported.Refused p refusal) = PartLine (SaysRefusal p refusal)
+part_reported (reported.Tired p) = PartLine (SaysTired p)
+part_reported (reported.Shown store) = PartLine (SaysStore (newest_words store))
 
 -- a turn that tells an accepted event tells whether it ends an overlapped read, if reads are shown
-abbrev pub TellsReads : Mode → Setup → Past → Told → Type 0
-TellsReads mode s past (told.Accepted made) = TellsEnd mode s past made.access made.overlapped
-TellsReads mode s past answer = Unit {0}
+abbrev pub ReportsReads : Mode → Setup → Past → TurnReport → Type 0
+ReportsReads mode s past (reported.Accepted made) = ReportsEnd mode s past made.access made.overlapped
+ReportsReads mode s past answer = Unit {0}
 
 -- the part that a turn tells was drawn, whatever parts came before it
-abbrev pub DrawsTold : RunDrawing → RunDrawing → Told → Option (List ℕ) → Option (List ℕ) → Type 0
-DrawsTold had has answer old new =
-    (view : AccessView) (s : Setup) (parts : List Part) → TellsReads view.reads s (entries_among parts) answer → Recalls view s parts had.drawing → DrawsPart view s parts (part_told answer) had.drawing has.drawing old new
+abbrev pub DrawsReported : RunDrawing → RunDrawing → TurnReport → Option (List ℕ) → Option (List ℕ) → Type 0
+DrawsReported had has answer old new =
+    (view : AccessView) (s : Setup) (parts : List Part) → ReportsReads view.reads s (entries_among parts) answer → Recalls view s parts had.drawing → DrawsPart view s parts (part_reported answer) had.drawing has.drawing old new
 
 -- All that has happened in a run since `start` was counted and drawn.
 pub record HasDrawnRun (view : AccessView) (s : Setup) (start : List Part) (had : Kept) (old : Option (List ℕ)) (now : List Happening) (run : RunDrawing) (new : Option (List ℕ)) : Type 0 where
@@ -98,13 +98,13 @@ GoesOnDrawing s before after drawing drawings taken then =
     (view : AccessView) (start : List Part) (had : Kept) (old : Option (List ℕ)) → HasDrawnRun view s start had old before drawing taken → HasDrawnRun view s start had old after drawings then
 
 -- from one run to another: the cursor, and what was drawn
-pub record Advances (view : AccessView) (s : Setup) (before after : Run) (course : CourseState) (drawing drawings : RunDrawing) (old new : Option (List ℕ)) : Type 0 where
-  pub follows : Follows course after
-  pub setup : course.world.setup ≡ s
+pub record Advances (view : AccessView) (s : Setup) (before after : Run) (scenario_run : ScenarioRunState) (drawing drawings : RunDrawing) (old new : Option (List ℕ)) : Type 0 where
+  pub follows : Follows scenario_run after
+  pub setup : scenario_run.world.setup ≡ s
   pub drawn : HasDrawnRun view s (parts_of s before.happened) (kept drawing.drawing.canvas) old after.happened drawings new
 
 -- a line of a scenario has made all its turns, whatever has happened before
-abbrev pub DrawsLine : Line → CourseState → CourseState → RunDrawing → RunDrawing → Option (List ℕ) → Option (List ℕ) → Type 0
+abbrev pub DrawsLine : Line → ScenarioRunState → ScenarioRunState → RunDrawing → RunDrawing → Option (List ℕ) → Option (List ℕ) → Type 0
 DrawsLine line old new drawing drawings taken then =
     (view : AccessView) (run : Run) → Follows old run → Counts old.world.setup run.happened (tally drawing) → Recalls view old.world.setup (parts_of old.world.setup run.happened) drawing.drawing →
     Advances view old.world.setup run (run_after old.world.setup line run) new drawing drawings taken then

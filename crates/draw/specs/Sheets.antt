@@ -9,7 +9,7 @@ use Rattle.model.specs.{Entry, Past}
 use Rattle.judge.specs.record_file.{Progress, Said, cleared, entry_in, head_words, record_of}
 use Rattle.judge.specs.record_file.scenario.{printed_line}
 use Rattle.judge.specs.{IsOfRecord}
-use Rattle.picture.specs.{Form, Item, all_entries, bands_told, heights_told, page_back, page_front, page_names, picture_back, picture_front, sayings}
+use Rattle.picture.specs.{Form, Item, all_entries, bands_reported, heights_reported, page_back, page_front, page_names, picture_back, picture_front, line_contents}
 use Rattle.picture.specs.picture_layout.{marks_in, marks_said}
 use Rattle.picture.specs.declared.page.Form.TheVariants as form
 use Rattle.picture.specs.declared.reads.PictureOptions.{PictureOptions}
@@ -17,7 +17,7 @@ use Rattle.picture.specs.declared.reads.Reads.{Reads as Mode}
 use Rattle.picture.specs.markup.{lines_in, opens_in}
 use Rattle.picture.specs.declared.subjects.Subject.TheVariants as subject
 use Rattle.draw.specs.Drawings.{HasDrawn}
-use Rattle.draw.specs.Overlaps.{Watches}
+use Rattle.draw.specs.Overlaps.{Monitors}
 use Rattle.draw.specs.RecordItems.{entry_parts, record_end, record_gives, record_lines, source_of}
 use Rattle.draw.specs.Canvases.{DrawsBands, Writes, kept_at_first, plan_of}
 use Rattle.draw.specs.Items.{entries_among, given, given_all, texts_shown}
@@ -26,7 +26,7 @@ use Rattle.draw.specs.StoresBefore.{store_before}
 use Rattle.draw.specs.Views.{IsDecided, long_view, most_stored, record_view}
 use Rattle.draw.specs.declared.records.drawing.RecordDrawing.{RecordDrawing}
 use Rattle.draw.specs.declared.records.sheet.DrawnEntry.{DrawnEntry}
-use Rattle.draw.specs.declared.records.sheet.Sheet.{Sheet}
+use Rattle.draw.specs.declared.records.sheet.RecordPicture.{RecordPicture}
 use Rattle.draw.specs.declared.records.stored.RecordEntries.{RecordEntries}
 use Rattle.draw.specs.declared.views.AccessView.{AccessView}
 
@@ -37,27 +37,27 @@ listed s = flat_map printed_line (head_words s) ++ codes "(entries)\n"
 -- A record's picture, as bytes: the items in its window, between a front and a back. The slider of a page begins with the store before the window.
 abbrev pub picture_of : AccessView → Form → Setup → Past → List Item → List ℕ
 picture_of view form.Page s past items =
-    (page_front subject.Record s (listed s) view.reads ++ bands_told (plan_of form.Page view.window s) items)
+    (page_front subject.Record s (listed s) view.reads ++ bands_reported (plan_of form.Page view.window s) items)
     ++ page_back (store_words (store_before view.window s past))
 picture_of view (form.Picture top) s past items =
-    (picture_front subject.Record s (heights_told (plan_of (form.Picture top) view.window s) items) view.reads
-    ++ bands_told (plan_of (form.Picture top) view.window s) items)
-    ++ picture_back (heights_told (plan_of (form.Picture top) view.window s) items) view.reads
+    (picture_front subject.Record s (heights_reported (plan_of (form.Picture top) view.window s) items) view.reads
+    ++ bands_reported (plan_of (form.Picture top) view.window s) items)
+    ++ picture_back (heights_reported (plan_of (form.Picture top) view.window s) items) view.reads
 
 -- Markup is the picture of a window of a record of which a judge tells this, or nothing, if there is none; and nothing else: that of items which are what the record gives, one by one. So all items say its marks.
-pub record IsRecordPicture (view : AccessView) (form : Form) (said : Said) (told markup : List ℕ) : Type 0 where
+pub record IsRecordPicture (view : AccessView) (form : Form) (said : Said) (reported markup : List ℕ) : Type 0 where
   pub items : List Item
-  pub are : given items ≡ record_gives view said told
-  pub marks : flat_map marks_said (sayings items) ≡ marks_in (reverse said.entries)
+  pub are : given items ≡ record_gives view said reported
+  pub marks : flat_map marks_said (line_contents items) ≡ marks_in (reverse said.entries)
   pub is : markup ≡ picture_of view form said.setup (reverse said.entries) items
 
 -- A whole picture was written: it is that of a window of a record of which a judge tells this, and nothing else; its tags fit, and no element is open at its end; and the titles of its marks, read back, are the lines in the window. If the window is all entries, these are the marks of the record, in their order, what the judge tells, line by line, and a last line.
-pub record DrawsSaid (view : AccessView) (form : Form) (said : Said) (told : List ℕ) (old new : Option (List ℕ)) : Type 0 where
+pub record DrawsSaid (view : AccessView) (form : Form) (said : Said) (reported : List ℕ) (old new : Option (List ℕ)) : Type 0 where
   pub markup : List ℕ
-  pub picture : IsRecordPicture view form said told markup
+  pub picture : IsRecordPicture view form said reported markup
   pub elements : opens_in markup (Some []) ≡ Some []
-  pub read_back : lines_in markup ≡ texts_shown view.window (record_gives view said told)
-  pub all_read_back : view.window ≡ all_entries → lines_in markup ≡ record_lines said told
+  pub read_back : lines_in markup ≡ texts_shown view.window (record_gives view said reported)
+  pub all_read_back : view.window ≡ all_entries → lines_in markup ≡ record_lines said reported
   pub writes : Writes old new markup
 
 -- What it shows is decided by what is asked for and by the number of entries that are shown.
@@ -74,16 +74,16 @@ pub data Shows (Keeps : List Entry → Type 0) (entries shown : List Entry) : Ty
   UpTo : (before : List Entry) (e : Entry) (later : List Entry) → shown ≡ before ++ e ∷ [] → entries ≡ shown ++ later → Keeps before → (Keeps shown → ⊥) → Shows Keeps entries shown
 
 -- this holds of what is shown of a record, and of what a judge tells of the whole record, whose entries stand in the lines with these numbers
-pub record IsJudged (Keeps : Setup → List Entry → Type 0) (Tells : Setup → List Entry → List ℕ → List ℕ → ℕ → Type 0) (status : ℕ) (P : Said → List ℕ → Type 0) (s : Setup) (entries : List Entry) (numbers : List ℕ) : Type 0 where
-  pub told : List ℕ
-  pub tells : Tells s entries numbers told status
+pub record IsJudged (Keeps : Setup → List Entry → Type 0) (Reports : Setup → List Entry → List ℕ → List ℕ → ℕ → Type 0) (status : ℕ) (P : Said → List ℕ → Type 0) (s : Setup) (entries : List Entry) (numbers : List ℕ) : Type 0 where
+  pub reported : List ℕ
+  pub reports : Reports s entries numbers reported status
   pub shown : List Entry
   pub shows : Shows (Keeps s) entries shown
-  pub is : P (record { setup = s; entries = shown }) told
+  pub is : P (record { setup = s; entries = shown }) reported
 
 -- The picture of the record that a text says, up to the first entry that breaks a law, and of what a judge tells of that record.
 abbrev pub DrawsJudged : (Setup → List Entry → Type 0) → (Setup → List Entry → List ℕ → List ℕ → ℕ → Type 0) → PictureOptions → Form → ℕ → List ℕ → Option (List ℕ) → Option (List ℕ) → Type 0
-DrawsJudged Keeps Tells asked form status text old new = IsOfRecord (IsJudged Keeps Tells status (λ said told. DrawsAsked asked form said told old new)) text
+DrawsJudged Keeps Reports asked form status text old new = IsOfRecord (IsJudged Keeps Reports status (λ said reported. DrawsAsked asked form said reported old new)) text
 
 -- what a page has before its bands was written; one picture has it later, once its height is known
 pub record HeadsPage (reads : Mode) (s : Setup) (old new : Option (List ℕ)) : Type 0 where
@@ -100,7 +100,7 @@ Heads reads (form.Picture top) s old new = new ≡ old
 -- these entries of a record with this setup are drawn, but for what is held back
 pub record IsDrawn (view : AccessView) (form : Form) (s : Setup) (past : Past) (d : RecordDrawing) (old new : Option (List ℕ)) : Type 0 where
   pub source : d.drawing.source ≡ source_of s
-  pub watches : Watches view.reads s (entries_among (entry_parts past)) d.watch.watch
+  pub monitors : Monitors view.reads s (entries_among (entry_parts past)) d.monitor.monitor
   pub mid : Option (List ℕ)
   pub heads : Heads view.reads form s old mid
   pub drawn : HasDrawn view s [] (kept_at_first (plan_of form view.window s)) mid (entry_parts past) d.drawing new
@@ -134,13 +134,13 @@ abbrev pub DrawsAt : PictureOptions → Form → RecordEntries → Option Progre
 DrawsAt asked form e before past old new = AreReadBy e.drawing e.stored.items asked form before past old new
 
 -- this was read, these entries were said, the newest first, each was taken, and they were drawn
-pub record Stands (t : Sheet) (before : Option Progress) (past : Past) (old new : Option (List ℕ)) : Type 0 where
+pub record Stands (t : RecordPicture) (before : Option Progress) (past : Past) (old new : Option (List ℕ)) : Type 0 where
   pub reader : t.reader ≡ before
   pub clear : cleared before ≡ before
   pub draws : DrawsAt t.options t.form t.entries before past old new
 
 -- what a line says was read, and drawn if it is an entry
-pub record GoesOn (line : Result (Option Progress) FaultKind) (t : Sheet) (past : Past) (old new : Option (List ℕ)) : Type 0 where
+pub record GoesOn (line : Result (Option Progress) FaultKind) (t : RecordPicture) (past : Past) (old new : Option (List ℕ)) : Type 0 where
   pub now : Option Progress
   pub says : line ≡ Ok now
   pub stands : Stands t (cleared now) (entry_in now ++ past) old new
@@ -161,21 +161,21 @@ abbrev pub entries_of : RecordEntries → ℕ
 entries_of e = count_by e.drawing e.stored.items
 
 -- all bands of these entries and of what a judge tells were written, and a page's front before them
-pub record EndsAt (view : AccessView) (form : Form) (s : Setup) (past : Past) (told : List ℕ) (height : ℕ) (old new : Option (List ℕ)) : Type 0 where
+pub record EndsAt (view : AccessView) (form : Form) (s : Setup) (past : Past) (reported : List ℕ) (height : ℕ) (old new : Option (List ℕ)) : Type 0 where
   pub mid : Option (List ℕ)
   pub heads : Heads view.reads form s old mid
-  pub bands : DrawsBands (plan_of form view.window s) mid new (given_all view s (source_of s) (entry_parts past) ++ record_end view s (source_of s) past told) height
+  pub bands : DrawsBands (plan_of form view.window s) mid new (given_all view s (source_of s) (entry_parts past) ++ record_end view s (source_of s) past reported) height
 
 -- the same of what is shown by what is asked for, with the words of the store before the window
-pub record EndsAsked (asked : PictureOptions) (form : Form) (s : Setup) (past : Past) (told : List ℕ) (shows : Mode) (opening : List ℕ) (height : ℕ) (old new : Option (List ℕ)) : Type 0 where
+pub record EndsAsked (asked : PictureOptions) (form : Form) (s : Setup) (past : Past) (reported : List ℕ) (shows : Mode) (opening : List ℕ) (height : ℕ) (old new : Option (List ℕ)) : Type 0 where
   pub shows_it : shows ≡ (record_view asked (length past)).reads
   pub opens : opening ≡ store_words (store_before (record_view asked (length past)).window s past)
-  pub ends : EndsAt (record_view asked (length past)) form s past told height old new
+  pub ends : EndsAt (record_view asked (length past)) form s past reported height old new
 
 -- the same of a record
-pub record DrawsBandsOf (asked : PictureOptions) (form : Form) (drawn : DrawnEntry) (old new : Option (List ℕ)) (said : Said) (told : List ℕ) : Type 0 where
+pub record DrawsBandsOf (asked : PictureOptions) (form : Form) (drawn : DrawnEntry) (old new : Option (List ℕ)) (said : Said) (reported : List ℕ) : Type 0 where
   pub setup : drawn.setup ≡ said.setup
-  pub ends : EndsAsked asked form said.setup (reverse said.entries) told drawn.shows drawn.opening.items drawn.height old new
+  pub ends : EndsAsked asked form said.setup (reverse said.entries) reported drawn.shows drawn.opening.items drawn.height old new
 
 -- of the record that a text says, of which no judge tells
 abbrev pub DrawsAllBands : PictureOptions → Form → DrawnEntry → Option (List ℕ) → Option (List ℕ) → List ℕ → Type 0
@@ -206,7 +206,7 @@ DrewRecord asked form = DrewAs (λ done. DrawsRecord asked form) form
 
 -- The same of a record that is judged, with the status that the judge answers.
 abbrev pub DrewJudged : (Setup → List Entry → Type 0) → (Setup → List Entry → List ℕ → List ℕ → ℕ → Type 0) → PictureOptions → Form → Result ℕ Fault → Streams → Streams → Type 0
-DrewJudged Keeps Tells asked form = DrewAs (DrawsJudged Keeps Tells asked form) form
+DrewJudged Keeps Reports asked form = DrewAs (DrawsJudged Keeps Reports asked form) form
 
 -- where bytes are held, a write that fails wants memory
 abbrev pub without_write : Fault → Fault

@@ -4,26 +4,26 @@ ghost use Rattle.std.specs.Prelude.{◌≡◌, ◌+◌, ◌-◌, ◌^◌, ◌<�
 ghost use Rattle.model.specs.plain_store.{checked};
 ghost use Rattle.model.specs.plain_store.declared.setups.Setup.{Setup as Given};
 ghost use Rattle.model.specs.{Entry, Mark as Marked, Past};
-ghost use Rattle.record_accesses.specs.{HasWatched, WaveLimit as Limit, drops, entry_with, shown_access};
+ghost use Rattle.record_accesses.specs.{HasMonitored, WaveLimit as Limit, drops, entry_with, shown_access};
 ghost use Rattle.picture.specs.picture_layout.{given_access};
 ghost use Rattle.picture.specs.picture_layout.declared.reads.OverlappedRead.{OverlappedRead as Ended};
 ghost use Rattle.picture.specs.declared.reads.Reads.{Reads as Mode};
 ghost use Rattle.draw.specs.Canvases.{DrawsLast, DrawsLines, DrawsMarks, DrawsOn, DrawsUpToVerdict, kept, kept_at_first, plan_of, trace_plan};
 ghost use Rattle.draw.specs.Items.{GivesAccess, GivesRead, gives_access, says_of};
-ghost use Rattle.draw.specs.Overlaps.{Overhears, TellsEnd, overlapped_by, shown_of};
+ghost use Rattle.draw.specs.Overlaps.{ObservesAll, ReportsEnd, overlapped_by, shown_of};
 ghost use Rattle.draw.specs.TakenStores.{IsAfterMarks};
 ghost use Rattle.draw.specs.Writing.{IsWriteFault, failed_write};
 
-use crate::overlaps::{OverlapsHeard, take_ended};
+use crate::overlaps::{OverlapsObserved, take_ended};
 use crate::store_changes::words_by_pairs;
 use crate::taken_store::TakenStore;
 use crate::writing::{write_band, write_last};
 use picture::{
-    Form, OverlappedRead, Reads, RunLine, Saying, ShownAccess, ShownVerdict, Subject, Window,
+    Form, OverlappedRead, Reads, RunLine, LineContent, ShownAccess, ShownVerdict, Subject, Window,
     WindowedPage, verdict_of,
 };
 use model::{Access, Mark};
-use record_accesses::RecordAccessWatch;
+use record_accesses::RecordAccessMonitor;
 use record_accesses::plain_store::{NestedTypes, Setup};
 use scenario::{Fault, Sink};
 use std::alloc::{AllocError, Global};
@@ -34,7 +34,7 @@ pub struct Canvas {
     alloc: Global,
     page: WindowedPage,
     /// The overlapped reads, if they are shown.
-    overlaps: Option<OverlapsHeard>,
+    overlaps: Option<OverlapsObserved>,
 }
 
 impl Canvas {
@@ -54,9 +54,9 @@ impl Canvas {
         requires { checked setup.now ≡ Ok tt }
         ensures kept { IsAfterMarks setup.now [] store.now →
             IfOk result (λ canvas. kept canvas ≡ kept_at_first (plan_of form window setup.now)) }
-        ensures hears { IfOk result (λ canvas. Overhears reads setup.now [] [] canvas.overlaps) }
+        ensures observes { IfOk result (λ canvas. ObservesAll reads setup.now [] [] canvas.overlaps) }
     {
-        let overlaps = OverlapsHeard::new(alloc, setup, reads)?;
+        let overlaps = OverlapsObserved::new(alloc, setup, reads)?;
         let opening = words_by_pairs(alloc, &store.store)?;
         let page = WindowedPage::new(
             alloc,
@@ -87,7 +87,7 @@ impl Canvas {
     ) -> Result<Canvas, AllocError>
         ensures kept { IfOk result
             (λ canvas. kept canvas ≡ kept_at_first (trace_plan form processes window)) }
-        ensures hears { IfOk result (λ canvas. canvas.overlaps ≡ None) }
+        ensures observes { IfOk result (λ canvas. canvas.overlaps ≡ None) }
     {
         let page = WindowedPage::new(alloc, form, Subject::Trace, processes, b"", window)?;
         Ok(Canvas {
@@ -112,20 +112,20 @@ impl Canvas {
     ///
     /// Returns [`AllocError`] if memory is lacking.
     #[inline(always)]
-    pub fn hear(
+    pub fn observe(
         &mut self,
         number: u64,
         access: Option<Access>,
         overlapped: bool,
     ) -> Result<(), AllocError>
         ensures kept { kept self.new ≡ kept self.old }
-        ensures hears { OnOk result ((mode : Mode) (s : Given) (past : Past) (reads : List Ended) (e : Entry) →
-            e.access ≡ access → Overhears mode s past reads self.old.overlaps → number ≡ length past →
-            TellsEnd mode s past access overlapped →
-            Overhears mode s (e ∷ past) (reads ++ overlapped_by s past e) self.new.overlaps) }
+        ensures observes { OnOk result ((mode : Mode) (s : Given) (past : Past) (reads : List Ended) (e : Entry) →
+            e.access ≡ access → ObservesAll mode s past reads self.old.overlaps → number ≡ length past →
+            ReportsEnd mode s past access overlapped →
+            ObservesAll mode s (e ∷ past) (reads ++ overlapped_by s past e) self.new.overlaps) }
     {
         match &mut self.overlaps {
-            Some(overlaps) => overlaps.hear(number, access, overlapped),
+            Some(overlaps) => overlaps.observe(number, access, overlapped),
             None => Ok(()),
         }
     }
@@ -175,18 +175,18 @@ impl Canvas {
     {
         let _nested: NestedTypes = None;
         let change = store.mark(process, mark)?;
-        let saying = Saying::Marked {
+        let line_content = LineContent::Marked {
             process,
             mark: *mark,
             change,
         };
-        self.draw(RunLine { source, at, saying }, output)
+        self.draw(RunLine { source, at, line_content }, output)
     }
 
     /// Draws the overlapped reads that have ended since the last line and then a line, and writes each band that is full.
     pub fn draw<W: Sink>(&mut self, line: RunLine, output: &mut W) -> Result<(), Fault>
         requires { W.failures output.old < 2 ^ 64 - 1 }
-        ensures ok { OnOk result (DrawsLines self.old self.new (W.taken output.old) (W.taken output.new) line.source line.at (says_of line.saying ∷ [])) }
+        ensures ok { OnOk result (DrawsLines self.old self.new (W.taken output.old) (W.taken output.new) line.source line.at (says_of line.line_content ∷ [])) }
         ensures fault { IfErr result IsWriteFault }
         ensures failures { W.failures output.new ≡ W.failures output.old + failed_write result }
     {
@@ -198,7 +198,7 @@ impl Canvas {
     /// Draws the overlapped reads that have ended since the last line. A read is not a line.
     fn draw_reads<W: Sink>(&mut self, output: &mut W) -> Result<(), Fault>
         requires { W.failures output.old < 2 ^ 64 - 1 }
-        ensures ok { OnOk result ((mode : Mode) (s : Given) (past : Past) (reads : List Ended) → Overhears mode s past reads self.old.overlaps → DrawsOn (kept self.old) (kept self.new) (W.taken output.old) (W.taken output.new) (map GivesRead (shown_of mode reads)) × Overhears mode s past [] self.new.overlaps) }
+        ensures ok { OnOk result ((mode : Mode) (s : Given) (past : Past) (reads : List Ended) → ObservesAll mode s past reads self.old.overlaps → DrawsOn (kept self.old) (kept self.new) (W.taken output.old) (W.taken output.new) (map GivesRead (shown_of mode reads)) × ObservesAll mode s past [] self.new.overlaps) }
         ensures fault { IfErr result IsWriteFault }
         ensures failures { W.failures output.new ≡ W.failures output.old + failed_write result }
     {
@@ -247,9 +247,9 @@ impl Canvas {
     ///
     /// Returns [`Fault::Write`] if a call of the sink fails, and [`Fault::Memory`] if memory is lacking.
     #[inline(never)]
-    pub(crate) fn draw_watched<W: Sink>(
+    pub(crate) fn draw_monitored<W: Sink>(
         &mut self,
-        watch: &mut RecordAccessWatch,
+        monitor: &mut RecordAccessMonitor,
         number: u64,
         process: u8,
         access: &Option<Access>,
@@ -258,62 +258,62 @@ impl Canvas {
     ) -> Result<(), Fault>
         requires { W.failures output.old < 2 ^ 64 - 1 }
         ensures drawn { OnOk result ((s : Given) (limit : Limit) (past : Past) (marks : List Marked) →
-            HasWatched watch.old s limit past → number ≡ length past → drops marks ≡ drops_read →
+            HasMonitored monitor.old s limit past → number ≡ length past → drops marks ≡ drops_read →
             DrawsOn (kept self.old) (kept self.new) (W.taken output.old) (W.taken output.new)
             (gives_access (shown_access s limit past (entry_with process access.now marks)))
-            × HasWatched watch.new s limit (entry_with process access.now marks ∷ past)) }
+            × HasMonitored monitor.new s limit (entry_with process access.now marks ∷ past)) }
         ensures overlaps { self.new.overlaps ≡ self.old.overlaps }
         ensures fault { IfErr result IsWriteFault }
         ensures failures { W.failures output.new ≡ W.failures output.old + failed_write result }
     {
         let alloc = self.alloc;
-        match watch.observe_access(alloc, number, process, access, drops_read)? {
+        match monitor.observe_access(alloc, number, process, access, drops_read)? {
             None => Ok(()),
             Some(shown) => self.draw_access(shown, output),
         }
     }
 
     /// Draws the end of the picture, writes what is held back, and returns the heights of all bands, with 16 more for each. If
-    /// `told` has lines of a judge, the picture ends with the verdict that has them and `line`, and otherwise with `line` alone.
+    /// `reported` has lines of a judge, the picture ends with the verdict that has them and `line`, and otherwise with `line` alone.
     /// The end is shown if no entry comes after the window.
     ///
     /// # Errors
     ///
     /// Returns [`Fault::Write`] if a call of the sink fails, and [`Fault::Memory`] if memory is lacking.
-    pub fn end<W: Sink>(&mut self, line: RunLine, told: &[u8], output: &mut W) -> Result<u64, Fault>
+    pub fn end<W: Sink>(&mut self, line: RunLine, reported: &[u8], output: &mut W) -> Result<u64, Fault>
         requires { W.failures output.old < 2 ^ 64 - 1 }
         ensures ok { IfOk result (λ height. DrawsLast self.old (W.taken output.old) (W.taken output.new)
-            line.source line.at told.now (says_of line.saying) height) }
+            line.source line.at reported.now (says_of line.line_content) height) }
         ensures fault { IfErr result IsWriteFault }
         ensures failures { W.failures output.new ≡ W.failures output.old + failed_write result }
     {
         let at = line.at;
-        let verdict = self.draw_up_to_verdict(line, told, output)?;
+        let verdict = self.draw_up_to_verdict(line, reported, output)?;
         let (full, last) = self.page.end(verdict, at)?;
         write_last(&full, &last, output)?;
         Ok(self.page.height())
     }
 
-    /// Draws all up to the end of the picture, and returns the verdict with which it ends, if `told` has lines of a judge.
+    /// Draws all up to the end of the picture, and returns the verdict with which it ends, if `reported` has lines of a judge.
     fn draw_up_to_verdict<W: Sink>(
         &mut self,
         line: RunLine,
-        told: &[u8],
+        reported: &[u8],
         output: &mut W,
     ) -> Result<Option<ShownVerdict>, Fault>
         requires { W.failures output.old < 2 ^ 64 - 1 }
         ensures drawn { IfOk result (λ verdict. DrawsUpToVerdict self.old self.new
-            (W.taken output.old) (W.taken output.new) line.source line.at told.now (says_of line.saying) verdict) }
+            (W.taken output.old) (W.taken output.new) line.source line.at reported.now (says_of line.line_content) verdict) }
         ensures fault { IfErr result IsWriteFault }
         ensures failures { W.failures output.new ≡ W.failures output.old + failed_write result }
     {
-        if told.is_empty() {
+        if reported.is_empty() {
             self.draw(line, output)?;
             return Ok(None);
         }
         self.draw_reads(output)?;
         let last = line.text(self.alloc)?;
-        let verdict = verdict_of(self.alloc, line.source, told, last.as_slice())?;
+        let verdict = verdict_of(self.alloc, line.source, reported, last.as_slice())?;
         Ok(Some(verdict))
     }
 }

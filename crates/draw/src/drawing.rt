@@ -6,9 +6,9 @@ ghost use Rattle.model.specs.{Entry, Mark as Marked, Past};
 ghost use Rattle.record_accesses.specs.{drops, entry_with};
 ghost use Rattle.judge.specs.safe_monitor.{entry_by};
 ghost use Rattle.draw.specs.Canvases.{DrawsLast, DrawsLines, DrawsOn, kept, kept_at_first, plan_of};
-ghost use Rattle.draw.specs.Drawings.{DrawsPart, HasOpening, Recalls, WatchesAccesses, observes as is_observing};
+ghost use Rattle.draw.specs.Drawings.{DrawsPart, HasOpening, Recalls, MonitorsAccesses, observes as is_observing};
 ghost use Rattle.draw.specs.Items.{Part, PartEntry, PartLine, entries_among, given_access_of, says_of};
-ghost use Rattle.draw.specs.Overlaps.{TellsEnd};
+ghost use Rattle.draw.specs.Overlaps.{ReportsEnd};
 ghost use Rattle.draw.specs.Writing.{IsWriteFault, failed_write};
 ghost use Rattle.draw.specs.declared.views.AccessView.{AccessView as Seen};
 
@@ -16,10 +16,10 @@ use crate::canvas::Canvas;
 use crate::store_before::StoreBefore;
 use crate::taken_store::TakenStore;
 use crate::views::AccessView;
-use picture::{Form, Reads, RunLine, Saying};
+use picture::{Form, Reads, RunLine, LineContent};
 use model::{Access, Mark};
 use record_accesses::plain_store::{NestedTypes, Setup};
-use record_accesses::{RecordAccessWatch, drops_open_read};
+use record_accesses::{RecordAccessMonitor, drops_open_read};
 use scenario::{Fault, Sink};
 use std::alloc::{AllocError, Global};
 
@@ -29,7 +29,7 @@ pub(crate) struct Drawing {
     alloc: Global,
     canvas: Canvas,
     /// The observer of accesses, if all accesses are shown.
-    accesses: Option<RecordAccessWatch>,
+    accesses: Option<RecordAccessMonitor>,
     pub store: TakenStore,
     before: StoreBefore,
     /// The number of entries.
@@ -70,7 +70,7 @@ impl Drawing {
     {
         let store = TakenStore::new(alloc, setup)?;
         let canvas = Canvas::new(alloc, setup, &store, form, view.reads, view.window)?;
-        let accesses = watch_of(alloc, setup, view)?;
+        let accesses = monitor_of(alloc, setup, view)?;
         let before = StoreBefore::new(alloc, view.window.from);
         Ok(Drawing {
             alloc,
@@ -117,7 +117,7 @@ impl Drawing {
         requires room { self.old.entries < 2 ^ 64 - 1 }
         ensures drawn { OnOk result ((view : Seen) (s : Given) (parts : List Part) →
             (e : Entry) → e.process ≡ process → e.access ≡ access → e.marks ≡ marks.now →
-            TellsEnd view.reads s (entries_among parts) access overlapped →
+            ReportsEnd view.reads s (entries_among parts) access overlapped →
             Recalls view s parts self.old → DrawsPart view s parts (PartEntry e) self.old self.new
             (W.taken output.old) (W.taken output.new)) }
         ensures source { self.new.source ≡ self.old.source }
@@ -128,7 +128,7 @@ impl Drawing {
         let _nested: NestedTypes = None;
         let at = self.entries;
         self.before.keep(self.alloc, at, &self.store)?;
-        self.canvas.hear(at, access, overlapped)?;
+        self.canvas.observe(at, access, overlapped)?;
         self.draw_access(process, &access, drops_open_read(marks), output)?;
         self.canvas
             .draw_marks(&mut self.store, self.source, at, process, marks, output)?;
@@ -153,7 +153,7 @@ impl Drawing {
         requires writes { W.failures output.old < 2 ^ 64 - 1 }
         requires room { self.old.entries < 2 ^ 64 - 1 }
         ensures drawn { OnOk result ((view : Seen) (s : Given) (parts : List Part) →
-            TellsEnd view.reads s (entries_among parts) (Some access) overlapped →
+            ReportsEnd view.reads s (entries_among parts) (Some access) overlapped →
             Recalls view s parts self.old →
             DrawsPart view s parts (PartEntry (entry_by process (Some access) [])) self.old self.new
             (W.taken output.old) (W.taken output.new)) }
@@ -163,7 +163,7 @@ impl Drawing {
         ensures failures { W.failures output.new ≡ W.failures output.old + failed_write result }
     {
         let access = Some(access);
-        self.canvas.hear(self.entries, access, overlapped)?;
+        self.canvas.observe(self.entries, access, overlapped)?;
         self.draw_access(process, &access, false, output)?;
         self.entries += 1;
         Ok(())
@@ -182,11 +182,11 @@ impl Drawing {
         requires { W.failures output.old < 2 ^ 64 - 1 }
         ensures drawn { OnOk result ((view : Seen) (s : Given) (past : Past) (marks : List Marked) →
             self.old.entries ≡ length past → drops marks ≡ drops_read →
-            WatchesAccesses view.reads view.limit s past self.old.accesses →
+            MonitorsAccesses view.reads view.limit s past self.old.accesses →
             DrawsOn (kept self.old.canvas) (kept self.new.canvas)
             (W.taken output.old) (W.taken output.new)
             (given_access_of view.reads view.limit s past (entry_with process access.now marks))
-            × WatchesAccesses view.reads view.limit s
+            × MonitorsAccesses view.reads view.limit s
             (entry_with process access.now marks ∷ past) self.new.accesses) }
         ensures overlaps { self.new.canvas.overlaps ≡ self.old.canvas.overlaps }
         ensures store { self.new.store ≡ self.old.store }
@@ -199,9 +199,9 @@ impl Drawing {
         let number = self.entries;
         match &mut self.accesses {
             None => Ok(()),
-            Some(watch) => self
+            Some(monitor) => self
                 .canvas
-                .draw_watched(watch, number, process, access, drops_read, output),
+                .draw_monitored(monitor, number, process, access, drops_read, output),
         }
     }
 
@@ -219,12 +219,12 @@ impl Drawing {
     /// # Errors
     ///
     /// Returns [`Fault::Write`] if a call of the sink fails, and [`Fault::Memory`] if memory is lacking.
-    pub fn draw_line<W: Sink>(&mut self, saying: Saying, output: &mut W) -> Result<(), Fault>
+    pub fn draw_line<W: Sink>(&mut self, line_content: LineContent, output: &mut W) -> Result<(), Fault>
         requires { W.failures output.old < 2 ^ 64 - 1 }
         ensures drawn { OnOk result (DrawsLines self.old.canvas self.new.canvas
-            (W.taken output.old) (W.taken output.new) self.old.source self.old.entries (says_of saying ∷ [])) }
+            (W.taken output.old) (W.taken output.new) self.old.source self.old.entries (says_of line_content ∷ [])) }
         ensures part { OnOk result ((view : Seen) (s : Given) (parts : List Part) → Recalls view s parts self.old →
-            DrawsPart view s parts (PartLine (says_of saying)) self.old self.new
+            DrawsPart view s parts (PartLine (says_of line_content)) self.old self.new
             (W.taken output.old) (W.taken output.new)) }
         ensures store { self.new.store ≡ self.old.store }
         ensures entries { self.new.entries ≡ self.old.entries }
@@ -232,11 +232,11 @@ impl Drawing {
         ensures fault { IfErr result IsWriteFault }
         ensures failures { W.failures output.new ≡ W.failures output.old + failed_write result }
     {
-        let line = self.line(saying);
+        let line = self.line(line_content);
         self.canvas.draw(line, output)
     }
 
-    /// Draws the last line, or the verdict with it if `told` has lines of a judge, writes what is held back, and returns the
+    /// Draws the last line, or the verdict with it if `reported` has lines of a judge, writes what is held back, and returns the
     /// heights of the bands.
     ///
     /// # Errors
@@ -244,18 +244,18 @@ impl Drawing {
     /// Returns [`Fault::Write`] if a call of the sink fails, and [`Fault::Memory`] if memory is lacking.
     pub fn end<W: Sink>(
         &mut self,
-        saying: Saying,
-        told: &[u8],
+        line_content: LineContent,
+        reported: &[u8],
         output: &mut W,
     ) -> Result<u64, Fault>
         requires { W.failures output.old < 2 ^ 64 - 1 }
         ensures drawn { IfOk result (DrawsLast self.old.canvas
-            (W.taken output.old) (W.taken output.new) self.old.source self.old.entries told.now (says_of saying)) }
+            (W.taken output.old) (W.taken output.new) self.old.source self.old.entries reported.now (says_of line_content)) }
         ensures fault { IfErr result IsWriteFault }
         ensures failures { W.failures output.new ≡ W.failures output.old + failed_write result }
     {
-        let line = self.line(saying);
-        self.canvas.end(line, told, output)
+        let line = self.line(line_content);
+        self.canvas.end(line, reported, output)
     }
 
     /// Returns the words of the store before the window, once all entries are drawn.
@@ -270,28 +270,28 @@ impl Drawing {
     }
 
     /// Returns the next line.
-    fn line(&self, saying: Saying) -> RunLine
-        ensures { result ≡ record { source = self.now.source; at = self.now.entries; saying = saying } }
+    fn line(&self, line_content: LineContent) -> RunLine
+        ensures { result ≡ record { source = self.now.source; at = self.now.entries; line_content = line_content } }
     {
         RunLine {
             source: self.source,
             at: self.entries,
-            saying,
+            line_content,
         }
     }
 }
 
 /// Returns an observer of accesses before the first entry, if all accesses are shown.
-fn watch_of(
+fn monitor_of(
     alloc: Global,
     setup: &Setup,
     view: AccessView,
-) -> Result<Option<RecordAccessWatch>, AllocError>
+) -> Result<Option<RecordAccessMonitor>, AllocError>
     requires { checked setup.now ≡ Ok tt }
-    ensures { IfOk result (WatchesAccesses view.reads view.limit setup.now []) }
+    ensures { IfOk result (MonitorsAccesses view.reads view.limit setup.now []) }
 {
     match view.reads {
-        Reads::All => Ok(Some(RecordAccessWatch::new(alloc, setup, view.limit)?)),
+        Reads::All => Ok(Some(RecordAccessMonitor::new(alloc, setup, view.limit)?)),
         Reads::Hidden | Reads::Shown => Ok(None),
     }
 }

@@ -11,8 +11,8 @@
 //! most 400 entries of a record shows all accesses.
 //!
 //! ```rust
-//! Engine::Draw => exit_status(draw(alloc, options, input, output, onlooker)),
-//! Engine::DrawSvg => exit_status(draw_svg(alloc, options, input, output, onlooker)),
+//! Engine::Draw => exit_status(draw(alloc, options, input, output, progress_observer)),
+//! Engine::DrawSvg => exit_status(draw_svg(alloc, options, input, output, progress_observer)),
 //! ```
 #![tactic(auto)]
 
@@ -20,7 +20,7 @@ mod canvas;
 mod drawing;
 mod laws_of_pictures;
 mod overlaps;
-mod read_watch;
+mod read_monitor;
 mod records;
 mod runs;
 mod store_before;
@@ -38,7 +38,7 @@ pub use picture::{PictureOptions, Reads, Window};
 pub use records::engines::{
     JudgedBy, draw_judged_record, draw_judged_record_svg, draw_record, draw_record_svg,
 };
-pub use records::held::{Held, held_fault};
+pub use records::held::{StoredBands, held_fault};
 pub use runs::engines::{draw, draw_svg};
 pub use scenario::progress;
 pub use views::{is_short, waves_of_few};

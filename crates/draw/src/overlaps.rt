@@ -7,7 +7,7 @@ ghost use Rattle.model.specs.plain_store.declared.setups.Setup.{Setup as Given};
 ghost use Rattle.model.specs.{Entry, Past, width};
 ghost use Rattle.picture.specs.picture_layout.declared.reads.OverlappedRead.{OverlappedRead as Ended};
 ghost use Rattle.picture.specs.declared.reads.Reads.{Reads as Mode};
-ghost use Rattle.draw.specs.Overlaps.{Hears, Overhears, TellsOver, ended_of, first_three, overlapped_by, read_begun, read_ended, shown_of};
+ghost use Rattle.draw.specs.Overlaps.{Observes, ObservesAll, ReportsOver, ended_of, first_three, overlapped_by, read_begun, read_ended, shown_of};
 
 use picture::{OverlappedRead, Reads};
 use model::{Access, Field, Move};
@@ -26,7 +26,7 @@ pub(crate) struct BegunRead {
 
 /// The reads that have begun, and the overlapped reads that have ended since the last line.
 #[derive(Drop)]
-pub(crate) struct OverlapsHeard {
+pub(crate) struct OverlapsObserved {
     setup: Setup,
     /// The last read of each process that has begun.
     begun: [Option<BegunRead>; 16],
@@ -34,7 +34,7 @@ pub(crate) struct OverlapsHeard {
     ended: Vec<OverlappedRead>,
 }
 
-impl OverlapsHeard {
+impl OverlapsObserved {
     /// Creates a list without reads, if overlapped reads are shown.
     ///
     /// # Errors
@@ -44,14 +44,14 @@ impl OverlapsHeard {
         alloc: Global,
         setup: &Setup,
         reads: Reads,
-    ) -> Result<Option<OverlapsHeard>, AllocError>
+    ) -> Result<Option<OverlapsObserved>, AllocError>
         requires { checked setup.now ≡ Ok tt }
-        ensures { IfOk result (Overhears reads setup.now [] []) }
+        ensures { IfOk result (ObservesAll reads setup.now [] []) }
     {
         let _nested: NestedTypes = None;
         match reads {
             Reads::Hidden | Reads::All => Ok(None),
-            Reads::Shown => Ok(Some(OverlapsHeard {
+            Reads::Shown => Ok(Some(OverlapsObserved {
                 setup: *setup,
                 begun: [None; 16],
                 ended: Vec::new(alloc),
@@ -66,16 +66,16 @@ impl OverlapsHeard {
     ///
     /// Returns [`AllocError`] if memory is lacking.
     #[inline(never)]
-    pub fn hear(
+    pub fn observe(
         &mut self,
         number: u64,
         access: Option<Access>,
         overlapped: bool,
     ) -> Result<(), AllocError>
         ensures { OnOk result ((s : Given) (past : Past) (reads : List Ended) (e : Entry) →
-            e.access ≡ access → Hears s past reads self.old → number ≡ length past →
-            IfSome access (λ a. TellsOver s past a overlapped) →
-            Hears s (e ∷ past) (reads ++ overlapped_by s past e) self.new) }
+            e.access ≡ access → Observes s past reads self.old → number ≡ length past →
+            IfSome access (λ a. ReportsOver s past a overlapped) →
+            Observes s (e ∷ past) (reads ++ overlapped_by s past e) self.new) }
     {
         let Some(access) = access else {
             return Ok(());
@@ -87,8 +87,8 @@ impl OverlapsHeard {
     fn keep(&mut self, number: u64, access: Access, overlapped: bool) -> Result<(), AllocError>
         ensures setup { self.new.setup ≡ self.old.setup }
         ensures room { OnOk result (length self.old.begun ≡ 16 → length self.new.begun ≡ 16) }
-        ensures begun { OnOk result ((s : Given) (past : Past) (reads : List Ended) (e : Entry) (p : ℕ) → e.access ≡ Some access → number ≡ length past → Hears s past reads self.old → p < 16 → get_or self.new.begun p None ≡ read_begun p (e ∷ past)) }
-        ensures ended { OnOk result ((s : Given) (past : Past) (reads : List Ended) (e : Entry) → e.access ≡ Some access → number ≡ length past → Hears s past reads self.old → TellsOver s past access overlapped → self.new.ended.items ≡ first_three (reads ++ overlapped_by s past e)) }
+        ensures begun { OnOk result ((s : Given) (past : Past) (reads : List Ended) (e : Entry) (p : ℕ) → e.access ≡ Some access → number ≡ length past → Observes s past reads self.old → p < 16 → get_or self.new.begun p None ≡ read_begun p (e ∷ past)) }
+        ensures ended { OnOk result ((s : Given) (past : Past) (reads : List Ended) (e : Entry) → e.access ≡ Some access → number ≡ length past → Observes s past reads self.old → ReportsOver s past access overlapped → self.new.ended.items ≡ first_three (reads ++ overlapped_by s past e)) }
     {
         match access.how {
             Move::BeginRead => {
@@ -182,9 +182,9 @@ impl OverlapsHeard {
 }
 
 /// Removes the overlapped reads since the last line and returns them.
-pub(crate) fn take_ended(alloc: Global, overlaps: &mut Option<OverlapsHeard>) -> Vec<OverlappedRead>
-    ensures reads { (mode : Mode) (s : Given) (past : Past) (reads : List Ended) → Overhears mode s past reads overlaps.old → result.items ≡ shown_of mode reads }
-    ensures none { (mode : Mode) (s : Given) (past : Past) (reads : List Ended) → Overhears mode s past reads overlaps.old → Overhears mode s past [] overlaps.new }
+pub(crate) fn take_ended(alloc: Global, overlaps: &mut Option<OverlapsObserved>) -> Vec<OverlappedRead>
+    ensures reads { (mode : Mode) (s : Given) (past : Past) (reads : List Ended) → ObservesAll mode s past reads overlaps.old → result.items ≡ shown_of mode reads }
+    ensures none { (mode : Mode) (s : Given) (past : Past) (reads : List Ended) → ObservesAll mode s past reads overlaps.old → ObservesAll mode s past [] overlaps.new }
 {
     match overlaps {
         Some(overlaps) => std::mem::replace(&mut overlaps.ended, Vec::new(alloc)),

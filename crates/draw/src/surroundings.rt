@@ -1,7 +1,7 @@
 //! The markup before and after the bands of one picture, and after those of a page.
 ghost use Rattle.std.specs.Prelude.{◌≡◌, ◌+◌, ◌-◌, ◌^◌, ◌<◌, IfErr, IfOk, OnOk};
 ghost use Rattle.picture.specs.{picture_back, picture_front, picture_names};
-ghost use Rattle.draw.specs.Around.{EndsPage, IsAround};
+ghost use Rattle.draw.specs.PictureForm.{EndsPage, IsAround};
 ghost use Rattle.draw.specs.Writing.{IsWriteFault, failed_write};
 
 use crate::writing::write_markup;

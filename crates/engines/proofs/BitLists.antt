@@ -11,5 +11,5 @@ bits_text_step bit lines k here within is =
     ap (cell_text_from bit) (drop_in lines k here within is)
 
 -- a text and that of the lines from an index on, one line later
-pub bits_text_more : (told : List ℕ) (bit : Cell) (lines : List BitLine) (k : ℕ) (here : BitLine) → k < length lines → here ≡ get_or lines k here → (told ++ bit_line_text bit here) ++ cell_text_from (bit_after bit here) (drop (k + 1) lines) ≡ told ++ cell_text_from bit (drop k lines)
-bits_text_more told bit lines k here within is = append_assoc told _ _ ∙ ap (λ more. told ++ more) (sym (bits_text_step bit lines k here within is))
+pub bits_text_more : (reported : List ℕ) (bit : Cell) (lines : List BitLine) (k : ℕ) (here : BitLine) → k < length lines → here ≡ get_or lines k here → (reported ++ bit_line_text bit here) ++ cell_text_from (bit_after bit here) (drop (k + 1) lines) ≡ reported ++ cell_text_from bit (drop k lines)
+bits_text_more reported bit lines k here within is = append_assoc reported _ _ ∙ ap (λ more. reported ++ more) (sym (bits_text_step bit lines k here within is))

@@ -8,7 +8,7 @@ use Rattle.scenario_run.specs.model.{Event, Refusal, is_event, past_of, refused,
 use Rattle.scenario_run.specs.model.declared.events.Event.TheVariants as event
 use Rattle.scenario.specs.{Line, Target, is_line, is_line_of}
 use Rattle.scenario.specs.declared.lines.Line.TheVariants as line
-use Rattle.scenario_run.specs.{Lacks, Run, Tires, accepted, after_pick_in, go_limit, goes, is_there, may_step, movers, next_step, past_in, pick_among, picked, run_after, runs, stepped, steps, tried, wanders, with_happening}
+use Rattle.scenario_run.specs.{Lacks, Run, Tires, accepted, after_pick_in, go_limit, goes, is_there, may_step, enabled, next_step, past_in, pick_among, picked, run_after, runs, stepped, steps, tried, wanders, with_happening}
 
 -- the events that a run has tried
 abbrev pub tries : Run → List Event
@@ -52,7 +52,7 @@ goes_few s p target (suc k) n run are = by (is_there target (stage p (past_in s 
 
 wanders_few : (s : Setup) (k n : ℕ) (run : Run) → AreFew n (tries run) → AreFew (n + k) (tries (wanders s k run))
 wanders_few s zero n run are = more n (n + 0) (tries run) (omega arith) are
-wanders_few s (suc k) n run are = by (movers s (past_in s run)) (λ ps. wanders_few s k (n + 1) (picked ps run) (one_more n (next_step (pick_among ps run) (after_pick_in run)) (tries run) refl are))
+wanders_few s (suc k) n run are = by (enabled s (past_in s run)) (λ ps. wanders_few s k (n + 1) (picked ps run) (one_more n (next_step (pick_among ps run) (after_pick_in run)) (tries run) refl are))
   where
     by : (ps : List ℕ) → ((qs : List ℕ) → AreFew (n + 1 + k) (tries (wanders s k (picked qs run)))) → AreFew (n + suc k) (tries (elim ps as (λ _. Run) [ [] ↦ run | p ∷ qs ↦ wanders s k (picked (p ∷ qs) run) ]))
     by [] rest = more n (n + suc k) (tries run) (omega arith) are

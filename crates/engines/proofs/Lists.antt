@@ -18,8 +18,8 @@ text_step setup run lines k here within is =
     ap (text_from setup run) (drop_in lines k here within is)
 
 -- a text and that of the lines from an index on, one line later
-pub text_more : (told : List ℕ) (setup : Setup) (run : Run) (lines : List Line) (k : ℕ) (here : Line) → k < length lines → here ≡ get_or lines k here → (told ++ line_text setup run here) ++ text_from setup (run_after setup run here) (drop (k + 1) lines) ≡ told ++ text_from setup run (drop k lines)
-text_more told setup run lines k here within is = append_assoc told _ _ ∙ ap (λ more. told ++ more) (sym (text_step setup run lines k here within is))
+pub text_more : (reported : List ℕ) (setup : Setup) (run : Run) (lines : List Line) (k : ℕ) (here : Line) → k < length lines → here ≡ get_or lines k here → (reported ++ line_text setup run here) ++ text_from setup (run_after setup run here) (drop (k + 1) lines) ≡ reported ++ text_from setup run (drop k lines)
+text_more reported setup run lines k here within is = append_assoc reported _ _ ∙ ap (λ more. reported ++ more) (sym (text_step setup run lines k here within is))
 
 -- the number of counts stays the number of processes
 pub counts_kept : (setup : Setup) (run : Run) (here : Line) → length (run_after setup run here).counts ≡ length run.counts

@@ -8,41 +8,41 @@ use Rattle.scenario_run.specs.model.declared.events.Event.TheVariants.{Step}
 use Rattle.scenario_run.specs.model.{Entry, Past}
 use Rattle.judge.specs.record_file.{entry_line, head_words, step_entry}
 use Rattle.scenario.specs.{Script, printed_line}
-use Rattle.scenario_run.specs.{Happening, Happens, Lacks, Looks, Stepped, StepsOn, TellsOf, Tires, Told, Tries, Writes, WritesPart, entry_made, happenings, past_after, run_record, told_unmarked, tried}
-use Rattle.engines.specs.{entries_text, entry_told, lines_more, recorded}
-use Rattle.scenario_run.specs.declared.told.Told.TheVariants as told
-use Rattle.scenario_run.proofs.Listeners.{run_past}
+use Rattle.scenario_run.specs.{Happening, Happens, Lacks, Looks, UnmarkedStep, StepsOn, ReportsOf, Tires, TurnReport, Tries, Writes, WritesPart, entry_made, happenings, past_after, run_record, reported_unmarked, tried}
+use Rattle.engines.specs.{entries_text, entry_reported, lines_more, recorded}
+use Rattle.scenario_run.specs.declared.reports.TurnReport.TheVariants as reported
+use Rattle.scenario_run.proofs.Observers.{run_past}
 use Rattle.scenario_run.proofs.Refusals.{past_kept}
 use Rattle.scenario_run.proofs.Written.{all_written, appends_both, front_after, front_longer, part_written}
 
 -- Turns.
 
 -- the line of a turn is that of the entry that it adds
-entry_is : (s : Setup) (before : List Happening) (this : Happening) (answer : Told) → TellsOf s (past_after s before) this answer → entries_text s (this ∷ before) ≡ entries_text s before ++ entry_told answer
-entry_is s before (Tries event) (told.Accepted made) tells =
-    ap (λ (o : Option Entry). flat_map entry_line (reverse (elim o as (λ _. Past) [ None ↦ past_after s before | Some e ↦ e ∷ past_after s before ]))) tells.1
+entry_is : (s : Setup) (before : List Happening) (this : Happening) (answer : TurnReport) → ReportsOf s (past_after s before) this answer → entries_text s (this ∷ before) ≡ entries_text s before ++ entry_reported answer
+entry_is s before (Tries event) (reported.Accepted made) reports =
+    ap (λ (o : Option Entry). flat_map entry_line (reverse (elim o as (λ _. Past) [ None ↦ past_after s before | Some e ↦ e ∷ past_after s before ]))) reports.1
     ∙ lines_more (entry_made made) (past_after s before)
-entry_is s before (Tries event) (told.Refused p r) tells = ap (λ (past : Past). flat_map entry_line (reverse past)) (past_kept s (tried before) event r tells.1) ∙ sym (append-nil (entries_text s before))
-entry_is s before (Lacks p) (told.Refused q r) tells = sym (append-nil (entries_text s before))
-entry_is s before (Tires p) (told.Tired q) tells = sym (append-nil (entries_text s before))
-entry_is s before Looks (told.Shown store) tells = sym (append-nil (entries_text s before))
-entry_is s before this answer tells = absurd tells
+entry_is s before (Tries event) (reported.Refused p r) reports = ap (λ (past : Past). flat_map entry_line (reverse past)) (past_kept s (tried before) event r reports.1) ∙ sym (append-nil (entries_text s before))
+entry_is s before (Lacks p) (reported.Refused q r) reports = sym (append-nil (entries_text s before))
+entry_is s before (Tires p) (reported.Tired q) reports = sym (append-nil (entries_text s before))
+entry_is s before Looks (reported.Shown store) reports = sym (append-nil (entries_text s before))
+entry_is s before this answer reports = absurd reports
 
 -- the line of a Step without a mark is that of its entry
-step_is : (s : Setup) (before : List Happening) (made : Stepped) → StepsOn s before made → entries_text s (Tries (Step made.process made.flick) ∷ before) ≡ entries_text s before ++ entry_line (step_entry made.process made.access)
-step_is s before made on = entry_is s before (Tries (Step made.process made.flick)) (told_unmarked made) (refl, on.adds, on.overlapped)
+step_is : (s : Setup) (before : List Happening) (made : UnmarkedStep) → StepsOn s before made → entries_text s (Tries (Step made.process made.flick) ∷ before) ≡ entries_text s before ++ entry_line (step_entry made.process made.access)
+step_is s before made on = entry_is s before (Tries (Step made.process made.flick)) (reported_unmarked made) (refl, on.adds, on.overlapped)
 
 -- the line of a turn was written
-pub entry_copied : (s : Setup) (before : List Happening) (this : Happening) (told : Told) (a b : Option (List ℕ)) → Happens s before this told → Appends a b (entry_told told) → Writes (entries_text s before) (entries_text s (this ∷ before)) a b
-entry_copied s before this told a b h wrote = record { text = entry_told told; is = entry_is s before this told h.tells; taken = wrote }
+pub entry_copied : (s : Setup) (before : List Happening) (this : Happening) (reported : TurnReport) (a b : Option (List ℕ)) → Happens s before this reported → Appends a b (entry_reported reported) → Writes (entries_text s before) (entries_text s (this ∷ before)) a b
+entry_copied s before this reported a b h wrote = record { text = entry_reported reported; is = entry_is s before this reported h.reports; taken = wrote }
 
-pub entry_cut : (s : Setup) (before : List Happening) (this : Happening) (told : Told) (a b : Option (List ℕ)) → Happens s before this told → WritesFront a b (entry_told told) → WritesPart (entries_text s before) (entries_text s (this ∷ before)) a b
-entry_cut s before this told a b h front = record { text = entry_told told; is = entry_is s before this told h.tells; front = front }
+pub entry_cut : (s : Setup) (before : List Happening) (this : Happening) (reported : TurnReport) (a b : Option (List ℕ)) → Happens s before this reported → WritesFront a b (entry_reported reported) → WritesPart (entries_text s before) (entries_text s (this ∷ before)) a b
+entry_cut s before this reported a b h front = record { text = entry_reported reported; is = entry_is s before this reported h.reports; front = front }
 
-pub step_copied : (s : Setup) (before : List Happening) (made : Stepped) (a b : Option (List ℕ)) → StepsOn s before made → Appends a b (entry_line (step_entry made.process made.access)) → Writes (entries_text s before) (entries_text s (Tries (Step made.process made.flick) ∷ before)) a b
+pub step_copied : (s : Setup) (before : List Happening) (made : UnmarkedStep) (a b : Option (List ℕ)) → StepsOn s before made → Appends a b (entry_line (step_entry made.process made.access)) → Writes (entries_text s before) (entries_text s (Tries (Step made.process made.flick) ∷ before)) a b
 step_copied s before made a b on wrote = record { text = entry_line (step_entry made.process made.access); is = step_is s before made on; taken = wrote }
 
-pub step_cut : (s : Setup) (before : List Happening) (made : Stepped) (a b : Option (List ℕ)) → StepsOn s before made → WritesFront a b (entry_line (step_entry made.process made.access)) → WritesPart (entries_text s before) (entries_text s (Tries (Step made.process made.flick) ∷ before)) a b
+pub step_cut : (s : Setup) (before : List Happening) (made : UnmarkedStep) (a b : Option (List ℕ)) → StepsOn s before made → WritesFront a b (entry_line (step_entry made.process made.access)) → WritesPart (entries_text s before) (entries_text s (Tries (Step made.process made.flick) ∷ before)) a b
 step_cut s before made a b on front = record { text = entry_line (step_entry made.process made.access); is = step_is s before made on; front = front }
 
 -- The whole text.

@@ -4,17 +4,17 @@ use Rattle.std.specs.Io.KnownBytes.{Appends}
 use Rattle.plain_store.specs.{Setup}
 use Rattle.scenario.specs.files.{WritesFront}
 use Rattle.scenario.specs.{Script}
-use Rattle.scenario_run.specs.{Happening, Happens, Summary, Told, end_line, happenings, replayed, summary_of, text_of, told_text}
+use Rattle.scenario_run.specs.{Happening, Happens, Summary, TurnReport, end_line, happenings, replayed, summary_of, text_of, reported_text}
 use Rattle.scenario_run.specs.Writing.{Counts, Writes, WritesPart}
-use Rattle.scenario_run.proofs.Counting.{text_heard}
+use Rattle.scenario_run.proofs.Counting.{text_observed}
 use Rattle.scenario_run.proofs.Written.{all_written, appends_both, front_after, front_longer, part_written}
 
 -- the text of a turn was written, or a prefix of it
-pub told_written : (s : Setup) (before : List Happening) (this : Happening) (told : Told) (had : Summary) (a b : Option (List ℕ)) → Happens s before this told → Appends a b (told_text had.events told) → Counts s before had → Writes (text_of s before) (text_of s (this ∷ before)) a b
-told_written s before this told had a b h wrote counts = record { text = told_text had.events told; is = text_heard s before this told had h counts; taken = wrote }
+pub reported_written : (s : Setup) (before : List Happening) (this : Happening) (reported : TurnReport) (had : Summary) (a b : Option (List ℕ)) → Happens s before this reported → Appends a b (reported_text had.events reported) → Counts s before had → Writes (text_of s before) (text_of s (this ∷ before)) a b
+reported_written s before this reported had a b h wrote counts = record { text = reported_text had.events reported; is = text_observed s before this reported had h counts; taken = wrote }
 
-pub told_cut : (s : Setup) (before : List Happening) (this : Happening) (told : Told) (had : Summary) (a b : Option (List ℕ)) → Happens s before this told → WritesFront a b (told_text had.events told) → Counts s before had → WritesPart (text_of s before) (text_of s (this ∷ before)) a b
-told_cut s before this told had a b h front counts = record { text = told_text had.events told; is = text_heard s before this told had h counts; front = front }
+pub reported_cut : (s : Setup) (before : List Happening) (this : Happening) (reported : TurnReport) (had : Summary) (a b : Option (List ℕ)) → Happens s before this reported → WritesFront a b (reported_text had.events reported) → Counts s before had → WritesPart (text_of s before) (text_of s (this ∷ before)) a b
+reported_cut s before this reported had a b h front counts = record { text = reported_text had.events reported; is = text_observed s before this reported had h counts; front = front }
 
 -- the counts before the first event
 pub counts_none : (s : Setup) (summary : Summary) → summary ≡ record { events = 0; taken = 0; refused = 0 } → Counts s [] summary

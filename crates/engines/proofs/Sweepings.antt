@@ -6,18 +6,18 @@ use Rattle.plain_store.specs.{Command, Setup}
 use Rattle.scenario_run.specs.model.{Event, Refusal, past_of, refused}
 use Rattle.scenario_run.specs.model.declared.events.Event.TheVariants.{Step}
 use Rattle.sweeper.specs.{Sweeper, SweepsOn, SweptBy}
-use Rattle.engines.specs.{SweepsRun, call_of, calls_in, event_told}
+use Rattle.engines.specs.{SweepsRun, call_of, calls_in, event_reported}
 use Rattle.engines.proofs.Listed.{listed_more, reverse-front}
-use Rattle.scenario_run.specs.declared.told.Accepted.{Accepted as Made}
-use Rattle.scenario_run.specs.declared.told.Told.TheVariants.{Accepted, Refused, Shown, Tired}
-use Rattle.scenario_run.specs.{Happening, Happens, PassWithin, Told, Tries, accepted, listed, tried}
+use Rattle.scenario_run.specs.declared.reports.Accepted.{Accepted as Made}
+use Rattle.scenario_run.specs.declared.reports.TurnReport.TheVariants.{Accepted, Refused, Shown, Tired}
+use Rattle.scenario_run.specs.{Happening, Happens, PassWithin, TurnReport, Tries, accepted, listed, tried}
 
 -- a turn adds its call, if it is one
-pub told_calls : (s : Setup) (before : List Happening) (this : Happening) (told : Told) (calls calls' : List (ℕ × Command)) → Happens s before this told →
-    calls' ≡ calls ++ calls_in (event_told told) → calls ≡ calls_in (listed s before) → calls' ≡ calls_in (listed s (this ∷ before))
-told_calls s before this told calls calls' h more are =
-    more ∙ ap (λ l. l ++ calls_in (event_told told)) are
-    ∙ sym (flat_map-append call_of (listed s before) (event_told told)) ∙ ap calls_in (listed_more s before this told h.tells)
+pub reported_calls : (s : Setup) (before : List Happening) (this : Happening) (reported : TurnReport) (calls calls' : List (ℕ × Command)) → Happens s before this reported →
+    calls' ≡ calls ++ calls_in (event_reported reported) → calls ≡ calls_in (listed s before) → calls' ≡ calls_in (listed s (this ∷ before))
+reported_calls s before this reported calls calls' h more are =
+    more ∙ ap (λ l. l ++ calls_in (event_reported reported)) are
+    ∙ sym (flat_map-append call_of (listed s before) (event_reported reported)) ∙ ap calls_in (listed_more s before this reported h.reports)
 
 -- a Step is not a call, whether it is made or refused
 pub calls_same : (s : Setup) (before : List Happening) (p : ℕ) (flick : Bool) → calls_in (listed s (Tries (Step p flick) ∷ before)) ≡ calls_in (listed s before)
@@ -50,14 +50,14 @@ swept_same s calls before this given sweeper same swept = record {
 }
 
 -- the event of a turn, if it has one
-pub told_event : (s : Setup) (before : List Happening) (this : Happening) (told : Told) (made : Made) → told ≡ Accepted made → Happens s before this told → listed s before ++ made.event ∷ [] ≡ listed s (this ∷ before)
-told_event s before this told made is h = subst (λ t. listed s before ++ event_told t ≡ listed s (this ∷ before)) is (listed_more s before this told h.tells)
+pub reported_event : (s : Setup) (before : List Happening) (this : Happening) (reported : TurnReport) (made : Made) → reported ≡ Accepted made → Happens s before this reported → listed s before ++ made.event ∷ [] ≡ listed s (this ∷ before)
+reported_event s before this reported made is h = subst (λ t. listed s before ++ event_reported t ≡ listed s (this ∷ before)) is (listed_more s before this reported h.reports)
 
-none_told : (told : Told) → ((made : Made) → told ≡ Accepted made → ⊥) → event_told told ≡ []
-none_told (Accepted made) none = absurd (none made refl)
-none_told (Refused p refusal) none = refl
-none_told (Tired p) none = refl
-none_told (Shown store) none = refl
+none_reported : (reported : TurnReport) → ((made : Made) → reported ≡ Accepted made → ⊥) → event_reported reported ≡ []
+none_reported (Accepted made) none = absurd (none made refl)
+none_reported (Refused p refusal) none = refl
+none_reported (Tired p) none = refl
+none_reported (Shown store) none = refl
 
-pub told_nothing : (s : Setup) (before : List Happening) (this : Happening) (told : Told) → ((made : Made) → told ≡ Accepted made → ⊥) → Happens s before this told → listed s before ++ [] ≡ listed s (this ∷ before)
-told_nothing s before this told none h = ap (λ l. listed s before ++ l) (sym (none_told told none)) ∙ listed_more s before this told h.tells
+pub reported_nothing : (s : Setup) (before : List Happening) (this : Happening) (reported : TurnReport) → ((made : Made) → reported ≡ Accepted made → ⊥) → Happens s before this reported → listed s before ++ [] ≡ listed s (this ∷ before)
+reported_nothing s before this reported none h = ap (λ l. listed s before ++ l) (sym (none_reported reported none)) ∙ listed_more s before this reported h.reports

@@ -26,12 +26,12 @@ abbrev pub IsRunVerdict : Script → Verdict Law → Type 0
 IsRunVerdict said = IsVerdict said.setup (run_record said)
 
 -- the status is that of the verdict on the record of a scenario's run, and the line of the verdict was written
-pub record TellsVerdict (said : Script) (status : ℕ) (old new : Option (List ℕ)) : Type 0 where
+pub record ReportsVerdict (said : Script) (status : ℕ) (old new : Option (List ℕ)) : Type 0 where
   pub verdict : Verdict Law
   pub is : IsRunVerdict said verdict
   pub answer : status ≡ status_of_verdict verdict
   pub line : Appends old new (verdict_line law_text (run_length said) verdict)
 
 -- this holds of the scenario of the whole input
-abbrev pub InputTellsVerdict : Option (List ℕ) → ℕ → Option (List ℕ) → Option (List ℕ) → Type 0
-InputTellsVerdict to_come status old new = IfSome to_come (λ input. (said : Script) × (scenario_of input ≡ Ok said) × TellsVerdict said status old new)
+abbrev pub InputReportsVerdict : Option (List ℕ) → ℕ → Option (List ℕ) → Option (List ℕ) → Type 0
+InputReportsVerdict to_come status old new = IfSome to_come (λ input. (said : Script) × (scenario_of input ≡ Ok said) × ReportsVerdict said status old new)

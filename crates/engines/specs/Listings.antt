@@ -3,15 +3,15 @@ use Rattle.std.specs.Prelude.{◌≡◌, List, [], ◌∷◌, reverse}
 use Rattle.std.specs.Global.{Vec}
 use Rattle.scenario_run.specs.model.{Entry, Event, past_of}
 use Rattle.scenario_run.specs.world.Shows.{Shows, WorldState}
-use Rattle.scenario_run.specs.{Told}
-use Rattle.scenario_run.specs.declared.told.Told.TheVariants as told
+use Rattle.scenario_run.specs.{TurnReport}
+use Rattle.scenario_run.specs.declared.reports.TurnReport.TheVariants as reported
 
 -- the event of a turn, if one was accepted
-abbrev pub event_told : Told → List Event
-event_told (told.Accepted made) = made.event ∷ []
-event_told (told.Refused p refusal) = []
-event_told (told.Tired p) = []
-event_told (told.Shown store) = []
+abbrev pub event_reported : TurnReport → List Event
+event_reported (reported.Accepted made) = made.event ∷ []
+event_reported (reported.Refused p refusal) = []
+event_reported (reported.Tired p) = []
+event_reported (reported.Shown store) = []
 
 -- the world shows these events, with the old setup, and the entries are the record of the events
 pub record Records (old new : WorldState) (events : List Event) (entries : List Entry) : Type 0 where

@@ -7,9 +7,9 @@ use Rattle.plain_store.specs.{Setup}
 use Rattle.judge.specs.record_file.{entry_line, record_text, step_entry}
 use Rattle.scenario.specs.files.{LineFault, text_by}
 use Rattle.scenario.specs.{Script, scenario_of}
-use Rattle.scenario_run.specs.{Happening, Lacks, Looks, Tires, Told, Tries, entry_made, past_after, run_record}
+use Rattle.scenario_run.specs.{Happening, Lacks, Looks, Tires, TurnReport, Tries, entry_made, past_after, run_record}
 use Rattle.scenario_run.specs.model.{Access, Entry, Past, entry_of}
-use Rattle.scenario_run.specs.declared.told.Told.TheVariants as told
+use Rattle.scenario_run.specs.declared.reports.TurnReport.TheVariants as reported
 
 -- the text of the record of a scenario's run: its setup, and a line for each entry
 abbrev pub recorded : Script → List ℕ
@@ -24,11 +24,11 @@ abbrev pub entries_text : Setup → List Happening → List ℕ
 entries_text s happened = flat_map entry_line (reverse (past_after s happened))
 
 -- the line of the entry of a turn, if it has one
-abbrev pub entry_told : Told → List ℕ
-entry_told (told.Accepted made) = entry_line (entry_made made)
-entry_told (told.Refused p refusal) = []
-entry_told (told.Tired p) = []
-entry_told (told.Shown store) = []
+abbrev pub entry_reported : TurnReport → List ℕ
+entry_reported (reported.Accepted made) = entry_line (entry_made made)
+entry_reported (reported.Refused p refusal) = []
+entry_reported (reported.Tired p) = []
+entry_reported (reported.Shown store) = []
 
 -- the line of the entry of a Step
 abbrev pub step_line : ℕ → Access → List ℕ

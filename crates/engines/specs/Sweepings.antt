@@ -63,12 +63,12 @@ abbrev pub status_of_swept : Swept → ℕ
 status_of_swept found = status_of_verdict (first_verdict found.first_bad)
 
 -- the status is that of the findings of a sweep over a scenario's run, and their lines were written
-pub record TellsSweep (said : Script) (status : ℕ) (old new : Option (List ℕ)) : Type 0 where
+pub record ReportsSweep (said : Script) (status : ℕ) (old new : Option (List ℕ)) : Type 0 where
   pub found : Swept
   pub is : IsRunSwept said found
   pub answer : status ≡ status_of_swept found
   pub lines : Appends old new (swept_lines found)
 
 -- this holds of the scenario of the whole input
-abbrev pub InputTellsSweep : Option (List ℕ) → ℕ → Option (List ℕ) → Option (List ℕ) → Type 0
-InputTellsSweep to_come status old new = IfSome to_come (λ input. (said : Script) × (scenario_of input ≡ Ok said) × TellsSweep said status old new)
+abbrev pub InputReportsSweep : Option (List ℕ) → ℕ → Option (List ℕ) → Option (List ℕ) → Type 0
+InputReportsSweep to_come status old new = IfSome to_come (λ input. (said : Script) × (scenario_of input ≡ Ok said) × ReportsSweep said status old new)

@@ -6,31 +6,31 @@ ghost use Rattle.scenario.specs.files.Engines.{Ran, streams};
 ghost use Rattle.engines.specs.Sinks.{Wrote, WroteFront};
 ghost use Rattle.scenario.specs.files.{ReadsFront};
 ghost use Rattle.scenario.specs.{script};
-ghost use Rattle.engines.specs.Audits.{InputTellsVerdict, IsRunVerdict, TellsVerdict, audit_text, audited, run_length};
+ghost use Rattle.engines.specs.Audits.{InputReportsVerdict, IsRunVerdict, ReportsVerdict, audit_text, audited, run_length};
 ghost use Rattle.scenario_run.specs.{ended};
 ghost use Rattle.scenario_run.specs.Writing.{IsWriteFault, failed_write};
 
 use crate::writing::write_line;
-use scenario_run::{Audit, Course, Overheard, Summary, Until};
+use scenario_run::{RunAudit, ScenarioRun, WithAudit, Summary, PlayLimit};
 use judge::{Audited, status_of, verdict_line};
 use scenario::{Fault, Scenario, Sink, Source, read_input, read_scenario};
 use std::alloc::{AllocError, Global};
-use sweeper::progress::Onlooker;
+use sweeper::progress::ProgressObserver;
 
 /// Reads a whole file, makes its run, while an auditor observes each entry, and then writes the verdict on its
 /// record, on one line. Returns the exit status. However it ends, it takes at most `INPUT_LIMIT` bytes from the
 /// start of the input.
-/// `onlooker` receives the progress; [`Nobody`] ignores it.
+/// `progress_observer` receives the progress; [`NoObserver`] ignores it.
 ///
 /// # Errors
 ///
 /// Returns the fault of a line, [`Fault::Read`], [`Fault::Memory`] or [`Fault::Write`]. Only after [`Fault::Memory`] or
 /// [`Fault::Write`] may the start of the text have been written.
-pub fn run_audit<R: Source, W: Sink, L: Onlooker>(
+pub fn run_audit<R: Source, W: Sink, L: ProgressObserver>(
     alloc: Global,
     input: &mut R,
     output: &mut W,
-    onlooker: &mut L,
+    progress_observer: &mut L,
 ) -> Result<u8, Fault>
     requires reads { R.failures input.old < 2 ^ 64 - 1 }
     requires writes { W.failures output.old < 2 ^ 64 - 1 }
@@ -38,53 +38,53 @@ pub fn run_audit<R: Source, W: Sink, L: Onlooker>(
         (streams ⟦<R as Source>⟧ ⟦<W as Sink>⟧ input.old output.old)
         (streams ⟦<R as Source>⟧ ⟦<W as Sink>⟧ input.new output.new) }
     ensures input { ReadsFront (R.to_come input.old) (R.to_come input.new) }
-    ensures verdict { IfOk result (λ status. InputTellsVerdict (R.to_come input.old) status
+    ensures verdict { IfOk result (λ status. InputReportsVerdict (R.to_come input.old) status
         (W.taken output.old) (W.taken output.new)) }
 {
     let file = read_input(alloc, input)?;
     let scenario = read_scenario(alloc, file.as_slice())?;
-    audit_scenario(alloc, &scenario, output, onlooker)
+    audit_scenario(alloc, &scenario, output, progress_observer)
 }
 
 /// Makes the run of a file's scenario, writes the verdict on its record, and returns the exit status.
-fn audit_scenario<W: Sink, L: Onlooker>(
+fn audit_scenario<W: Sink, L: ProgressObserver>(
     alloc: Global,
     scenario: &Scenario,
     output: &mut W,
-    onlooker: &mut L,
+    progress_observer: &mut L,
 ) -> Result<u8, Fault>
     requires { W.failures output.old < 2 ^ 64 - 1 }
     ensures ok { Wrote W.taken result output.old output.new (audited (script scenario.now)) }
     ensures front { WroteFront W.taken output.old output.new (audited (script scenario.now)) }
-    ensures verdict { IfOk result (λ status. TellsVerdict (script scenario.now) status
+    ensures verdict { IfOk result (λ status. ReportsVerdict (script scenario.now) status
         (W.taken output.old) (W.taken output.new)) }
     ensures fault { IfErr result IsWriteFault }
     ensures failures { W.failures output.new ≡ W.failures output.old + failed_write result }
 {
-    let audited = audit_run(alloc, scenario, onlooker)?;
+    let audited = audit_run(alloc, scenario, progress_observer)?;
     write_line(output, verdict_line(alloc, &audited))?;
     Ok(status_of(&audited.verdict))
 }
 
 /// Makes the run of a file's scenario, while an auditor observes each entry. Fails only if an allocation fails.
-fn audit_run<L: Onlooker>(
+fn audit_run<L: ProgressObserver>(
     alloc: Global,
     scenario: &Scenario,
-    onlooker: &mut L,
+    progress_observer: &mut L,
 ) -> Result<Audited, AllocError>
     ensures verdict { IfOk result (λ audited. IsRunVerdict (script scenario.now) audited.verdict) }
     ensures good { IfOk result (λ audited. audited.verdict ≡ Good) }
     ensures entries { IfOk result (λ audited. audited.entries ≡ run_length (script scenario.now)) }
 {
-    let mut course = Course::new(alloc, &scenario.setup)?;
-    let audit = Audit::new(alloc, &scenario.setup)?;
-    let listener = Summary::new();
-    let mut judged = Overheard { listener, audit };
-    let Ok(_) = course.play_all(scenario, Until::End, &mut judged, onlooker) else {
+    let mut scenario_run = ScenarioRun::new(alloc, &scenario.setup)?;
+    let audit = RunAudit::new(alloc, &scenario.setup)?;
+    let observer = Summary::new();
+    let mut judged = WithAudit { observer, audit };
+    let Ok(_) = scenario_run.play_all(scenario, PlayLimit::End, &mut judged, progress_observer) else {
         return Err(AllocError);
     };
     Ok(Audited {
         verdict: judged.audit.verdict(),
-        entries: judged.listener.events,
+        entries: judged.observer.events,
     })
 }

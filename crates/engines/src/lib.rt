@@ -5,7 +5,7 @@
 //! The crates `scenario_run`, `safe_monitor`, `auditor` and `sweeper` belong to it.
 //!
 //! ```rust
-//! replay(alloc, input, output, &mut Nobody)
+//! replay(alloc, input, output, &mut NoObserver)
 //! ```
 #![tactic(auto)]
 
@@ -30,7 +30,7 @@ pub use plain::run_plain;
 pub use recording::run_record;
 pub use replaying::replay;
 pub use sweeper::{
-    BadRun, Swept, fails_are_of_whom_stands, progress, steps_are_of_whom_moves, sweep,
+    BadRun, Swept, fails_are_of_unfailed, progress, steps_are_of_enabled, sweep,
     swept_runs_are_good,
 };
 pub use sweeping::{run_sweep, status_of_sweep};

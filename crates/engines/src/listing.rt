@@ -5,15 +5,15 @@ ghost use Rattle.scenario_run.specs.model.declared.Refusal.TheVariants.{Memory};
 ghost use Rattle.scenario_run.specs.model.{AreGiven, KeepsHeadlineThroughout, is_event, record_of as record_made};
 ghost use Rattle.judge.specs.record_file.{FitLines};
 ghost use Rattle.scenario.specs.{script};
-ghost use Rattle.engines.specs.Listings.{RecordsEvent, event_told};
+ghost use Rattle.engines.specs.Listings.{RecordsEvent, event_reported};
 ghost use Rattle.engines.specs.RecordedRuns.{IsReadAgain};
 ghost use Rattle.scenario_run.specs.{accepted_events, listed};
 
-use scenario_run::{Course, Entry, Event, Listener, Move, Record, Refusal, Stepped, Told, Until, World};
+use scenario_run::{ScenarioRun, Entry, Event, RunObserver, Move, Record, Refusal, UnmarkedStep, TurnReport, PlayLimit, World};
 use plain_store::{NestedTypes, Setup};
 use scenario::{Fault, Scenario};
 use std::alloc::{AllocError, Global};
-use sweeper::progress::Nobody;
+use sweeper::progress::NoObserver;
 
 /// Returns the accepted events of a scenario's run, in their order.
 ///
@@ -23,10 +23,10 @@ use sweeper::progress::Nobody;
 pub fn events_of(alloc: Global, scenario: &Scenario) -> Result<Vec<Event>, AllocError>
     ensures { IfOk result (λ events. events.items ≡ accepted_events (script scenario.now)) }
 {
-    let mut course = Course::new(alloc, &scenario.setup)?;
+    let mut scenario_run = ScenarioRun::new(alloc, &scenario.setup)?;
     let events = Vec::new(alloc);
-    let mut lister = Lister { events };
-    let Ok(_) = course.play_all(scenario, Until::End, &mut lister, &mut Nobody) else {
+    let mut lister = EventLister { events };
+    let Ok(_) = scenario_run.play_all(scenario, PlayLimit::End, &mut lister, &mut NoObserver) else {
         return Err(AllocError);
     };
     Ok(lister.events)
@@ -34,15 +34,15 @@ pub fn events_of(alloc: Global, scenario: &Scenario) -> Result<Vec<Event>, Alloc
 
 /// Lists the accepted events of a run as it observes them.
 #[derive(Drop)]
-struct Lister {
+struct EventLister {
     events: Vec<Event>,
 }
 
-impl Listener for Lister {
-    ghost hears_steps = { λ _. true };
+impl RunObserver for EventLister {
+    ghost observes_steps = { λ _. true };
 
     #[inline(always)]
-    fn hears_steps(&self) -> bool {
+    fn observes_steps(&self) -> bool {
         true
     }
 
@@ -52,15 +52,15 @@ impl Listener for Lister {
 
     ghost HasRoom = { λ lister more. ⊤ };
 
-    ghost Hears = { λ a s x y b. a.events.items ≡ listed s x → b.events.items ≡ listed s y };
+    ghost Observes = { λ a s x y b. a.events.items ≡ listed s x → b.events.items ≡ listed s y };
 
     ghost Stops = { λ a s x y fault b. ⊤ };
 
-    fn hear(&mut self, told: &Told) -> Result<(), Fault> {
-        Ok(list(told, &mut self.events)?)
+    fn observe(&mut self, reported: &TurnReport) -> Result<(), Fault> {
+        Ok(list(reported, &mut self.events)?)
     }
 
-    fn step(&mut self, made: Stepped) -> Result<(), Fault> {
+    fn step(&mut self, made: UnmarkedStep) -> Result<(), Fault> {
         Ok(add(Event::Step(made.process, made.flick), &mut self.events)?)
     }
 
@@ -68,11 +68,11 @@ impl Listener for Lister {
 
     ghost room_less = { λ a n k few room. tt };
 
-    ghost hears_nothing = { λ a s x are. are };
+    ghost observes_nothing = { λ a s x are. are };
 
-    ghost hears_on = { λ a b c s x y z p q are. q (p are) };
+    ghost observes_on = { λ a b c s x y z p q are. q (p are) };
 
-    ghost stops_unheard = { λ a s x. tt };
+    ghost stops_unobserved = { λ a s x. tt };
 
     ghost stops_before = { λ a b s x y more fault p. tt };
 
@@ -80,11 +80,11 @@ impl Listener for Lister {
 }
 
 /// Lists the event of this turn, if there is one.
-fn list(told: &Told, events: &mut Vec<Event>) -> Result<(), AllocError>
-    ensures { OnOk result (events.new.items ≡ events.old.items ++ event_told told.now) }
+fn list(reported: &TurnReport, events: &mut Vec<Event>) -> Result<(), AllocError>
+    ensures { OnOk result (events.new.items ≡ events.old.items ++ event_reported reported.now) }
 {
     let _nested: NestedTypes = None;
-    if let Told::Accepted(made) = told {
+    if let TurnReport::Accepted(made) = reported {
         return add(made.event, events);
     }
     Ok(())

@@ -8,30 +8,30 @@ ghost use Rattle.scenario.specs.files.{ReadsFront};
 ghost use Rattle.judge.specs.record_file.{RecordsAreReadAgain, RecordsFitLines, entry_line};
 ghost use Rattle.scenario.specs.{script};
 ghost use Rattle.engines.specs.RecordedRuns.{InputWritesRecord, RecordedRunsAreReadAgain};
-ghost use Rattle.engines.specs.Recordings.{entries_longer, entries_text, entry_told, recorded, recording_text, step_line};
-ghost use Rattle.scenario_run.specs.{IsWriteFault, Took, TookPart, ended, failed_write, part_before, part_on, part_unheard, took_none, took_on};
+ghost use Rattle.engines.specs.Recordings.{entries_longer, entries_text, entry_reported, recorded, recording_text, step_line};
+ghost use Rattle.scenario_run.specs.{IsWriteFault, Took, TookPart, ended, failed_write, part_before, part_on, part_unobserved, took_none, took_on};
 
-use scenario_run::{Course, Entry, Listener, Move, Stepped, Told, Until};
+use scenario_run::{ScenarioRun, Entry, RunObserver, Move, UnmarkedStep, TurnReport, PlayLimit};
 use judge::{StepLine, print_entry, print_setup};
 use scenario::{Fault, Scenario, Sink, Source, read_input, read_scenario, write_all};
 use std::alloc::{AllocError, Global};
-use sweeper::progress::Onlooker;
+use sweeper::progress::ProgressObserver;
 
 /// Reads a whole scenario file, and then writes the record of its run, as it is made: the setup, and a line for each
 /// entry. However it ends, it takes at most `INPUT_LIMIT` bytes from the start of the input. If `judge` reads the text
 /// that is written, it reads the setup and the record of the run. This holds for the record of any events, as long as each
 /// entry fits its line.
-/// `onlooker` receives the progress; [`Nobody`] ignores it.
+/// `progress_observer` receives the progress; [`NoObserver`] ignores it.
 ///
 /// # Errors
 ///
 /// Returns the fault of a line, [`Fault::Read`], [`Fault::Memory`] or [`Fault::Write`]. Only after [`Fault::Memory`] or
 /// [`Fault::Write`] may the start of the text have been written.
-pub fn run_record<R: Source, W: Sink, L: Onlooker>(
+pub fn run_record<R: Source, W: Sink, L: ProgressObserver>(
     alloc: Global,
     input: &mut R,
     output: &mut W,
-    onlooker: &mut L,
+    progress_observer: &mut L,
 ) -> Result<(), Fault>
     requires reads { R.failures input.old < 2 ^ 64 - 1 }
     requires writes { W.failures output.old < 2 ^ 64 - 1 }
@@ -47,15 +47,15 @@ pub fn run_record<R: Source, W: Sink, L: Onlooker>(
 {
     let file = read_input(alloc, input)?;
     let scenario = read_scenario(alloc, file.as_slice())?;
-    record_scenario(alloc, &scenario, output, onlooker)
+    record_scenario(alloc, &scenario, output, progress_observer)
 }
 
 /// Writes the record of the run of a file's scenario.
-fn record_scenario<W: Sink, L: Onlooker>(
+fn record_scenario<W: Sink, L: ProgressObserver>(
     alloc: Global,
     scenario: &Scenario,
     output: &mut W,
-    onlooker: &mut L,
+    progress_observer: &mut L,
 ) -> Result<(), Fault>
     requires { W.failures output.old < 2 ^ 64 - 1 }
     ensures ok { Wrote W.taken result output.old output.new (recorded (script scenario.now)) }
@@ -63,25 +63,25 @@ fn record_scenario<W: Sink, L: Onlooker>(
     ensures fault { IfErr result IsWriteFault }
     ensures failures { W.failures output.new ≡ W.failures output.old + failed_write result }
 {
-    let mut course = Course::new(alloc, &scenario.setup)?;
+    let mut scenario_run = ScenarioRun::new(alloc, &scenario.setup)?;
     write_bytes(output, print_setup(alloc, &scenario.setup))?;
-    let mut room = Room {
+    let mut room = RecordingState {
         events: 0,
         text: Vec::new(alloc),
         printed: StepLine::new(),
     };
-    let mut copier = Copier {
+    let mut copier = RecordWriter {
         alloc,
         room: &mut room,
         output,
     };
-    course.play_all(scenario, Until::End, &mut copier, onlooker)?;
+    scenario_run.play_all(scenario, PlayLimit::End, &mut copier, progress_observer)?;
     Ok(())
 }
 
 /// The state between two entries: the number of events, and room for a line.
 #[derive(Drop)]
-struct Room {
+struct RecordingState {
     events: u64,
     text: Vec<u8>,
     printed: StepLine,
@@ -89,17 +89,17 @@ struct Room {
 
 /// Writes the entries of a run as it observes them.
 #[derive(Drop)]
-struct Copier<'a, W: Sink> {
+struct RecordWriter<'a, W: Sink> {
     alloc: Global,
-    room: &'a mut Room,
+    room: &'a mut RecordingState,
     output: &'a mut W,
 }
 
-impl<'a, W: Sink> Listener for Copier<'a, W> {
-    ghost hears_steps = { λ _. true };
+impl<'a, W: Sink> RunObserver for RecordWriter<'a, W> {
+    ghost observes_steps = { λ _. true };
 
     #[inline(always)]
-    fn hears_steps(&self) -> bool {
+    fn observes_steps(&self) -> bool {
         true
     }
 
@@ -109,18 +109,18 @@ impl<'a, W: Sink> Listener for Copier<'a, W> {
 
     ghost HasRoom = { λ copier more. W.failures copier.output.now < 2 ^ 64 - 1 };
 
-    ghost Hears = { λ a s x y b. (b.output.ghost_name ≡ a.output.ghost_name) × Took ⊤ (entries_text s x) (entries_text s y) (W.taken a.output.now) (W.taken b.output.now) (W.failures a.output.now) (W.failures b.output.now) };
+    ghost Observes = { λ a s x y b. (b.output.ghost_name ≡ a.output.ghost_name) × Took ⊤ (entries_text s x) (entries_text s y) (W.taken a.output.now) (W.taken b.output.now) (W.failures a.output.now) (W.failures b.output.now) };
 
     ghost Stops = { λ a s x y fault b. (b.output.ghost_name ≡ a.output.ghost_name) × TookPart ⊤ (entries_text s x) (entries_text s y) (W.taken a.output.now) (W.taken b.output.now) (W.failures a.output.now) (W.failures b.output.now) fault };
 
-    fn hear(&mut self, told: &Told) -> Result<(), Fault> {
-        write_entry(self.alloc, told, &mut self.room.text, self.output)?;
-        self.room.events = self.room.events.saturating_add(accepted_by(told));
+    fn observe(&mut self, reported: &TurnReport) -> Result<(), Fault> {
+        write_entry(self.alloc, reported, &mut self.room.text, self.output)?;
+        self.room.events = self.room.events.saturating_add(accepted_by(reported));
         Ok(())
     }
 
     #[inline(always)]
-    fn step(&mut self, made: Stepped) -> Result<(), Fault> {
+    fn step(&mut self, made: UnmarkedStep) -> Result<(), Fault> {
         write_step(made, &mut self.room.printed, self.output)?;
         self.room.events = self.room.events.saturating_add(1);
         Ok(())
@@ -130,11 +130,11 @@ impl<'a, W: Sink> Listener for Copier<'a, W> {
 
     ghost room_less = { λ a n k few room. room };
 
-    ghost hears_nothing = { λ a s x. (refl, took_none ⊤ (entries_text s x) (W.taken a.output.now) (W.failures a.output.now)) };
+    ghost observes_nothing = { λ a s x. (refl, took_none ⊤ (entries_text s x) (W.taken a.output.now) (W.failures a.output.now)) };
 
-    ghost hears_on = { λ a b c s x y z p q. (q.0 ∙ p.0, took_on {P = ⊤} {Q = ⊤} (λ _. tt) p.1 q.1) };
+    ghost observes_on = { λ a b c s x y z p q. (q.0 ∙ p.0, took_on {P = ⊤} {Q = ⊤} (λ _. tt) p.1 q.1) };
 
-    ghost stops_unheard = { λ a s x. (refl, part_unheard ⊤ (entries_text s x) (W.taken a.output.now) (W.failures a.output.now)) };
+    ghost stops_unobserved = { λ a s x. (refl, part_unobserved ⊤ (entries_text s x) (W.taken a.output.now) (W.failures a.output.now)) };
 
     ghost stops_before = { λ a b s x y more fault p. (p.0, part_before (entries_longer s y more) p.1) };
 
@@ -143,7 +143,7 @@ impl<'a, W: Sink> Listener for Copier<'a, W> {
 
 /// Writes the line of the entry of a Step.
 #[inline]
-fn write_step<W: Sink>(made: Stepped, printed: &mut StepLine, output: &mut W) -> Result<(), Fault>
+fn write_step<W: Sink>(made: UnmarkedStep, printed: &mut StepLine, output: &mut W) -> Result<(), Fault>
     requires { W.failures output.old < 2 ^ 64 - 1 }
     ensures ok { Wrote W.taken result output.old output.new (step_line made.process made.access) }
     ensures front { WroteFront W.taken output.old output.new (step_line made.process made.access) }
@@ -155,29 +155,29 @@ fn write_step<W: Sink>(made: Stepped, printed: &mut StepLine, output: &mut W) ->
 }
 
 /// Returns the number of events that were accepted in this turn: one or none.
-fn accepted_by(told: &Told) -> u64 {
-    u64::from(matches!(told, Told::Accepted(_)))
+fn accepted_by(reported: &TurnReport) -> u64 {
+    u64::from(matches!(reported, TurnReport::Accepted(_)))
 }
 
 /// Writes the line of the entry of this turn, if there is one.
 fn write_entry<W: Sink>(
     alloc: Global,
-    told: &Told,
+    reported: &TurnReport,
     text: &mut Vec<u8>,
     output: &mut W,
 ) -> Result<(), Fault>
     requires { W.failures output.old < 2 ^ 64 - 1 }
-    ensures ok { Wrote W.taken result output.old output.new (entry_told told.now) }
-    ensures front { WroteFront W.taken output.old output.new (entry_told told.now) }
+    ensures ok { Wrote W.taken result output.old output.new (entry_reported reported.now) }
+    ensures front { WroteFront W.taken output.old output.new (entry_reported reported.now) }
     ensures fault { IfErr result IsWriteFault }
     ensures failures { W.failures output.new ≡ W.failures output.old + failed_write result }
 {
-    match told {
-        Told::Accepted(made) => {
+    match reported {
+        TurnReport::Accepted(made) => {
             let entry = made.entry(alloc);
             write_entry_line(alloc, &entry, text, output)
         }
-        Told::Refused { .. } | Told::Tired(_) | Told::Shown(_) => Ok(()),
+        TurnReport::Refused { .. } | TurnReport::Tired(_) | TurnReport::Shown(_) => Ok(()),
     }
 }
 

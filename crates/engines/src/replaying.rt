@@ -6,14 +6,14 @@ ghost use Rattle.scenario.specs.{script};
 ghost use Rattle.engines.specs.Replayings.{IsRunSummary};
 ghost use Rattle.engines.specs.Sinks.{Wrote, WroteFront};
 ghost use Rattle.scenario.specs.files.{ReadsFront};
-ghost use Rattle.scenario_run.specs.{CanCount, InputKeepsHeadline, IsSummaryOf, RunKeepsHeadline, Took, TookPart, can_count_less, ended, part_before, part_on, part_unheard, replay_text, replayed, text_longer, text_of, took_none, took_on};
+ghost use Rattle.scenario_run.specs.{CanCount, InputKeepsHeadline, IsSummaryOf, RunKeepsHeadline, Took, TookPart, can_count_less, ended, part_before, part_on, part_unobserved, replay_text, replayed, text_longer, text_of, took_none, took_on};
 ghost use Rattle.scenario_run.specs.Writing.{Counts, IsWriteFault, failed_write};
 
-use crate::writing::{tell, write_end};
-use scenario_run::{Course, Listener, Move, Stepped, Summary, Taken, Told, Until};
+use crate::writing::{write_turn, write_end};
+use scenario_run::{ScenarioRun, RunObserver, Move, UnmarkedStep, Summary, Taken, TurnReport, PlayLimit};
 use scenario::{Fault, Scenario, Sink, Source, read_input, read_scenario};
 use std::alloc::Global;
-use sweeper::progress::Onlooker;
+use sweeper::progress::ProgressObserver;
 
 /// Reads a whole file, and then writes the marks of its run, as they are made, and its three numbers. However it
 /// ends, it takes at most `INPUT_LIMIT` bytes from the start of the input.
@@ -21,17 +21,17 @@ use sweeper::progress::Onlooker;
 /// If all of it is written, the main theorem holds of each entry of the run. No two processes are inside the critical
 /// section together. No process overtakes one whose doorway ended before its own began. Every store reply is the
 /// sequential store's at its position in one history that keeps the order of calls that do not overlap.
-/// `onlooker` receives the progress; [`Nobody`] ignores it.
+/// `progress_observer` receives the progress; [`NoObserver`] ignores it.
 ///
 /// # Errors
 ///
 /// Returns the fault of a line, [`Fault::Read`], [`Fault::Memory`] or [`Fault::Write`]. Only after [`Fault::Memory`] or
 /// [`Fault::Write`] may the start of the text have been written.
-pub fn replay<R: Source, W: Sink, L: Onlooker>(
+pub fn replay<R: Source, W: Sink, L: ProgressObserver>(
     alloc: Global,
     input: &mut R,
     output: &mut W,
-    onlooker: &mut L,
+    progress_observer: &mut L,
 ) -> Result<Summary, Fault>
     requires reads { R.failures input.old < 2 ^ 64 - 1 }
     requires writes { W.failures output.old < 2 ^ 64 - 1 }
@@ -44,15 +44,15 @@ pub fn replay<R: Source, W: Sink, L: Onlooker>(
 {
     let file = read_input(alloc, input)?;
     let scenario = read_scenario(alloc, file.as_slice())?;
-    replay_scenario(alloc, &scenario, output, onlooker)
+    replay_scenario(alloc, &scenario, output, progress_observer)
 }
 
 /// Writes the marks of the run of a file's scenario, and its three numbers.
-fn replay_scenario<W: Sink, L: Onlooker>(
+fn replay_scenario<W: Sink, L: ProgressObserver>(
     alloc: Global,
     scenario: &Scenario,
     output: &mut W,
-    onlooker: &mut L,
+    progress_observer: &mut L,
 ) -> Result<Summary, Fault>
     requires { W.failures output.old < 2 ^ 64 - 1 }
     ensures ok { Wrote W.taken result output.old output.new (replayed (script scenario.now)) }
@@ -62,33 +62,33 @@ fn replay_scenario<W: Sink, L: Onlooker>(
     ensures fault { IfErr result IsWriteFault }
     ensures failures { W.failures output.new ≡ W.failures output.old + failed_write result }
 {
-    let mut course = Course::new(alloc, &scenario.setup)?;
+    let mut scenario_run = ScenarioRun::new(alloc, &scenario.setup)?;
     let summary = Summary::new();
-    let mut printer = Printer {
+    let mut printer = ReplayWriter {
         alloc,
         summary,
         output,
     };
-    course.play_all(scenario, Until::End, &mut printer, onlooker)?;
+    scenario_run.play_all(scenario, PlayLimit::End, &mut printer, progress_observer)?;
     let mut summary = printer.summary;
-    summary.taken = course.taken();
+    summary.taken = scenario_run.taken();
     write_end(alloc, &summary, output)?;
     Ok(summary)
 }
 
 /// Writes the marks of a run as it observes them, and counts. Steps without a mark print nothing, and are counted.
 #[derive(Drop)]
-struct Printer<'a, W: Sink> {
+struct ReplayWriter<'a, W: Sink> {
     alloc: Global,
     summary: Summary,
     output: &'a mut W,
 }
 
-impl<'a, W: Sink> Listener for Printer<'a, W> {
-    ghost hears_steps = { λ _. false };
+impl<'a, W: Sink> RunObserver for ReplayWriter<'a, W> {
+    ghost observes_steps = { λ _. false };
 
     #[inline(always)]
-    fn hears_steps(&self) -> bool {
+    fn observes_steps(&self) -> bool {
         false
     }
 
@@ -98,15 +98,15 @@ impl<'a, W: Sink> Listener for Printer<'a, W> {
 
     ghost HasRoom = { λ printer more. CanCount printer.summary more × (W.failures printer.output.now < 2 ^ 64 - 1) };
 
-    ghost Hears = { λ a s x y b. (b.output.ghost_name ≡ a.output.ghost_name) × (Counts s x a.summary → Counts s y b.summary) × Took (Counts s x a.summary) (text_of s x) (text_of s y) (W.taken a.output.now) (W.taken b.output.now) (W.failures a.output.now) (W.failures b.output.now) };
+    ghost Observes = { λ a s x y b. (b.output.ghost_name ≡ a.output.ghost_name) × (Counts s x a.summary → Counts s y b.summary) × Took (Counts s x a.summary) (text_of s x) (text_of s y) (W.taken a.output.now) (W.taken b.output.now) (W.failures a.output.now) (W.failures b.output.now) };
 
     ghost Stops = { λ a s x y fault b. (b.output.ghost_name ≡ a.output.ghost_name) × TookPart (Counts s x a.summary) (text_of s x) (text_of s y) (W.taken a.output.now) (W.taken b.output.now) (W.failures a.output.now) (W.failures b.output.now) fault };
 
-    fn hear(&mut self, told: &Told) -> Result<(), Fault> {
-        tell(self.alloc, told, &mut self.summary, self.output)
+    fn observe(&mut self, reported: &TurnReport) -> Result<(), Fault> {
+        write_turn(self.alloc, reported, &mut self.summary, self.output)
     }
 
-    fn step(&mut self, _made: Stepped) -> Result<(), Fault> {
+    fn step(&mut self, _made: UnmarkedStep) -> Result<(), Fault> {
         self.summary.events += 1;
         Ok(())
     }
@@ -117,11 +117,11 @@ impl<'a, W: Sink> Listener for Printer<'a, W> {
 
     ghost room_less = { λ a n k few room. (can_count_less a.summary n k few room.0, room.1) };
 
-    ghost hears_nothing = { λ a s x. (refl, (λ counts. counts), took_none (Counts s x a.summary) (text_of s x) (W.taken a.output.now) (W.failures a.output.now)) };
+    ghost observes_nothing = { λ a s x. (refl, (λ counts. counts), took_none (Counts s x a.summary) (text_of s x) (W.taken a.output.now) (W.failures a.output.now)) };
 
-    ghost hears_on = { λ a b c s x y z p q. (q.0 ∙ p.0, (λ counts. q.1 (p.1 counts)), took_on {P = Counts s x a.summary} {Q = Counts s y b.summary} p.1 p.2 q.2) };
+    ghost observes_on = { λ a b c s x y z p q. (q.0 ∙ p.0, (λ counts. q.1 (p.1 counts)), took_on {P = Counts s x a.summary} {Q = Counts s y b.summary} p.1 p.2 q.2) };
 
-    ghost stops_unheard = { λ a s x. (refl, part_unheard (Counts s x a.summary) (text_of s x) (W.taken a.output.now) (W.failures a.output.now)) };
+    ghost stops_unobserved = { λ a s x. (refl, part_unobserved (Counts s x a.summary) (text_of s x) (W.taken a.output.now) (W.failures a.output.now)) };
 
     ghost stops_before = { λ a b s x y more fault p. (p.0, part_before (text_longer s y more) p.1) };
 

@@ -3,21 +3,21 @@ ghost use Rattle.std.specs.Prelude.{◌≡◌, ◌+◌, ◌++◌, ◌-◌, ◌^�
 ghost use Rattle.std.specs.String.{string_bytes};
 ghost use Rattle.plain_store.specs.declared.commands.Command.{Command as Said};
 ghost use Rattle.scenario.specs.files.Engines.{Ran, streams};
-ghost use Rattle.engines.specs.Listings.{event_told};
+ghost use Rattle.engines.specs.Listings.{event_reported};
 ghost use Rattle.engines.specs.Sinks.{Wrote, WroteFront};
 ghost use Rattle.scenario.specs.files.{ReadsFront};
 ghost use Rattle.scenario.specs.{script};
 ghost use Rattle.scenario_run.specs.{Follows, IsWriteFault, ended, failed_write, listed, run_at_start};
 ghost use Rattle.sweeper.specs.{CanSweep, SweepsNone, SweepsOn, can_sweep_less};
-ghost use Rattle.engines.specs.Sweepings.{InputTellsSweep, IsRunSwept, SweepsRun, TellsSweep, accepted_calls, call_of, calls_in, run_swept, status_of_swept, sweep_text, swept, swept_lines as lines_of_swept};
+ghost use Rattle.engines.specs.Sweepings.{InputReportsSweep, IsRunSwept, SweepsRun, ReportsSweep, accepted_calls, call_of, calls_in, run_swept, status_of_swept, sweep_text, swept, swept_lines as lines_of_swept};
 
 use crate::writing::write_line;
-use scenario_run::{Course, Event, Listener, Move, Stepped, Told, Until};
+use scenario_run::{ScenarioRun, Event, RunObserver, Move, UnmarkedStep, TurnReport, PlayLimit};
 use judge::{Verdict, status_of};
 use plain_store::{Command, NestedTypes};
 use scenario::{Fault, Scenario, Sink, Source, read_input, read_scenario};
 use std::alloc::{AllocError, Global};
-use sweeper::progress::{Nobody, Onlooker, Reached};
+use sweeper::progress::{NoObserver, ProgressObserver, ProgressPoint};
 use sweeper::{Sweeper, Swept};
 
 /// A number of calls that exceeds any memory. A sweep has room for this number of them.
@@ -27,17 +27,17 @@ const MOST_CALLS: usize = 1 << 56;
 /// bad run, if there is one, on a second line. The sweep goes along the accepted events of the run, and in each of its
 /// runs the accepted calls of the file follow. Returns the exit status. However it ends, it takes at most `INPUT_LIMIT`
 /// bytes from the start of the input.
-/// `onlooker` receives the progress; [`Nobody`] ignores it.
+/// `progress_observer` receives the progress; [`NoObserver`] ignores it.
 ///
 /// # Errors
 ///
 /// Returns the fault of a line, [`Fault::Read`], [`Fault::Memory`] or [`Fault::Write`]. Only after [`Fault::Memory`] or
 /// [`Fault::Write`] may the start of the text have been written.
-pub fn run_sweep<R: Source, W: Sink, L: Onlooker>(
+pub fn run_sweep<R: Source, W: Sink, L: ProgressObserver>(
     alloc: Global,
     input: &mut R,
     output: &mut W,
-    onlooker: &mut L,
+    progress_observer: &mut L,
 ) -> Result<u8, Fault>
     requires reads { R.failures input.old < 2 ^ 64 - 1 }
     requires writes { W.failures output.old < 2 ^ 64 - 1 }
@@ -45,12 +45,12 @@ pub fn run_sweep<R: Source, W: Sink, L: Onlooker>(
         (streams ⟦<R as Source>⟧ ⟦<W as Sink>⟧ input.old output.old)
         (streams ⟦<R as Source>⟧ ⟦<W as Sink>⟧ input.new output.new) }
     ensures input { ReadsFront (R.to_come input.old) (R.to_come input.new) }
-    ensures swept { IfOk result (λ status. InputTellsSweep (R.to_come input.old) status
+    ensures swept { IfOk result (λ status. InputReportsSweep (R.to_come input.old) status
         (W.taken output.old) (W.taken output.new)) }
 {
     let file = read_input(alloc, input)?;
     let scenario = read_scenario(alloc, file.as_slice())?;
-    sweep_scenario(alloc, &scenario, output, onlooker)
+    sweep_scenario(alloc, &scenario, output, progress_observer)
 }
 
 /// Returns the exit status of the findings of a sweep: 3 if a run is bad, otherwise 0.
@@ -64,79 +64,79 @@ pub fn status_of_sweep(found: &Swept) -> u8
 }
 
 /// Makes a sweep over a scenario's run, writes its findings, and returns the exit status.
-fn sweep_scenario<W: Sink, L: Onlooker>(
+fn sweep_scenario<W: Sink, L: ProgressObserver>(
     alloc: Global,
     scenario: &Scenario,
     output: &mut W,
-    onlooker: &mut L,
+    progress_observer: &mut L,
 ) -> Result<u8, Fault>
     requires { W.failures output.old < 2 ^ 64 - 1 }
     ensures ok { Wrote W.taken result output.old output.new (swept (script scenario.now)) }
     ensures front { WroteFront W.taken output.old output.new (swept (script scenario.now)) }
-    ensures swept { IfOk result (λ status. TellsSweep (script scenario.now) status
+    ensures swept { IfOk result (λ status. ReportsSweep (script scenario.now) status
         (W.taken output.old) (W.taken output.new)) }
     ensures fault { IfErr result IsWriteFault }
     ensures failures { W.failures output.new ≡ W.failures output.old + failed_write result }
 {
-    let found = sweep_run(alloc, scenario, onlooker)?;
+    let found = sweep_run(alloc, scenario, progress_observer)?;
     write_line(output, swept_lines(alloc, &found))?;
     Ok(status_of_sweep(&found))
 }
 
 /// Makes a sweep over a scenario's run. The run is made twice: for its calls, which end each run of the sweep, and then for
 /// the sweeper, which goes along its events as they are made. So no event is stored. Fails only if an allocation fails.
-fn sweep_run<L: Onlooker>(
+fn sweep_run<L: ProgressObserver>(
     alloc: Global,
     scenario: &Scenario,
-    onlooker: &mut L,
+    progress_observer: &mut L,
 ) -> Result<Swept, AllocError>
     ensures swept { IfOk result (IsRunSwept (script scenario.now)) }
     ensures is { IfOk result (λ found. found ≡ run_swept (script scenario.now)) }
 {
-    let heard = calls_of(alloc, scenario)?;
-    let mut course = Course::new(alloc, &scenario.setup)?;
-    let mut along = Along {
+    let observed = calls_of(alloc, scenario)?;
+    let mut scenario_run = ScenarioRun::new(alloc, &scenario.setup)?;
+    let mut along = SweepObserver {
         sweeper: Sweeper::new(alloc, &scenario.setup)?,
-        calls: heard.calls.as_slice(),
-        of: heard.events,
-        onlooker,
+        calls: observed.calls.as_slice(),
+        of: observed.events,
+        progress_observer,
     };
-    sweep_lines(scenario, &mut course, &mut along)
+    sweep_lines(scenario, &mut scenario_run, &mut along)
 }
 
 /// Returns the accepted calls of a scenario's run, in their order, and the number of its events.
 fn calls_of(alloc: Global, scenario: &Scenario) -> Result<Calls, AllocError>
-    ensures calls { IfOk result (λ heard. heard.calls.items ≡ accepted_calls (script scenario.now)) }
-    ensures few { IfOk result (λ heard. length heard.calls.items ≤ 2 ^ 56) }
+    ensures calls { IfOk result (λ observed. observed.calls.items ≡ accepted_calls (script scenario.now)) }
+    ensures few { IfOk result (λ observed. length observed.calls.items ≤ 2 ^ 56) }
 {
-    let mut course = Course::new(alloc, &scenario.setup)?;
+    let mut scenario_run = ScenarioRun::new(alloc, &scenario.setup)?;
     let calls = Vec::new(alloc);
-    let mut heard = Calls { calls, events: 0 };
-    let Ok(_) = course.play_all(scenario, Until::End, &mut heard, &mut Nobody) else {
+    let mut observed = Calls { calls, events: 0 };
+    let Ok(_) = scenario_run.play_all(scenario, PlayLimit::End, &mut observed, &mut NoObserver) else {
         return Err(AllocError);
     };
-    if MOST_CALLS < heard.calls.len() {
+    if MOST_CALLS < observed.calls.len() {
         return Err(AllocError);
     }
-    Ok(heard)
+    Ok(observed)
 }
 
 /// Makes the same sweep by a course and a sweeper that have just begun. It borrows them, because a value that is dropped at
 /// each way out of a function takes long to prove.
-fn sweep_lines<L: Onlooker>(
+fn sweep_lines<L: ProgressObserver>(
     scenario: &Scenario,
-    course: &mut Course,
-    along: &mut Along<L>,
+    scenario_run: &mut ScenarioRun,
+    along: &mut SweepObserver<L>,
 ) -> Result<Swept, AllocError>
-    requires setup { course.old.world.setup ≡ scenario.now.setup }
-    requires follows { Follows course.old run_at_start }
+    requires setup { scenario_run.old.world.setup ≡ scenario.now.setup }
+    requires follows { Follows scenario_run.old run_at_start }
     requires calls { along.old.calls.now ≡ accepted_calls (script scenario.now) }
     requires swept { SweepsNone scenario.now.setup along.old.sweeper }
     requires room { CanSweep along.old.calls.now (2 ^ 56) along.old.sweeper }
     ensures swept { IfOk result (IsRunSwept (script scenario.now)) }
     ensures is { IfOk result (λ found. found ≡ run_swept (script scenario.now)) }
 {
-    let Ok(_) = course.play_all(scenario, Until::End, along, &mut Nobody) else {
+    let Ok(_) = scenario_run.play_all(scenario, PlayLimit::End, along, &mut NoObserver) else {
         return Err(AllocError);
     };
     Ok(along.sweeper.found())
@@ -149,11 +149,11 @@ struct Calls {
     events: u64,
 }
 
-impl Listener for Calls {
-    ghost hears_steps = { λ _. false };
+impl RunObserver for Calls {
+    ghost observes_steps = { λ _. false };
 
     #[inline(always)]
-    fn hears_steps(&self) -> bool {
+    fn observes_steps(&self) -> bool {
         false
     }
 
@@ -161,19 +161,19 @@ impl Listener for Calls {
         self.events
     }
 
-    ghost HasRoom = { λ heard more. ⊤ };
+    ghost HasRoom = { λ observed more. ⊤ };
 
-    ghost Hears = { λ a s x y b. a.calls.items ≡ calls_in (listed s x) → b.calls.items ≡ calls_in (listed s y) };
+    ghost Observes = { λ a s x y b. a.calls.items ≡ calls_in (listed s x) → b.calls.items ≡ calls_in (listed s y) };
 
     ghost Stops = { λ a s x y fault b. ⊤ };
 
-    fn hear(&mut self, told: &Told) -> Result<(), Fault> {
-        let is_event = matches!(told, Told::Accepted(_));
+    fn observe(&mut self, reported: &TurnReport) -> Result<(), Fault> {
+        let is_event = matches!(reported, TurnReport::Accepted(_));
         self.events = self.events.saturating_add(u64::from(is_event));
-        Ok(keep_told(told, &mut self.calls)?)
+        Ok(keep_reported(reported, &mut self.calls)?)
     }
 
-    fn step(&mut self, _made: Stepped) -> Result<(), Fault> {
+    fn step(&mut self, _made: UnmarkedStep) -> Result<(), Fault> {
         self.events = self.events.saturating_add(1);
         Ok(())
     }
@@ -184,11 +184,11 @@ impl Listener for Calls {
 
     ghost room_less = { λ a n k few room. tt };
 
-    ghost hears_nothing = { λ a s x are. are };
+    ghost observes_nothing = { λ a s x are. are };
 
-    ghost hears_on = { λ a b c s x y z p q are. q (p are) };
+    ghost observes_on = { λ a b c s x y z p q are. q (p are) };
 
-    ghost stops_unheard = { λ a s x. tt };
+    ghost stops_unobserved = { λ a s x. tt };
 
     ghost stops_before = { λ a b s x y more fault p. tt };
 
@@ -196,11 +196,11 @@ impl Listener for Calls {
 }
 
 /// Adds the call of this turn, if it is one and was accepted.
-fn keep_told(told: &Told, calls: &mut Vec<(u8, Command)>) -> Result<(), AllocError>
-    ensures { OnOk result (calls.new.items ≡ calls.old.items ++ calls_in (event_told told.now)) }
+fn keep_reported(reported: &TurnReport, calls: &mut Vec<(u8, Command)>) -> Result<(), AllocError>
+    ensures { OnOk result (calls.new.items ≡ calls.old.items ++ calls_in (event_reported reported.now)) }
 {
     let _nested: NestedTypes = None;
-    if let Told::Accepted(made) = told {
+    if let TurnReport::Accepted(made) = reported {
         if let Event::Call(process, command) = made.event {
             calls.push((process, command))?;
         }
@@ -210,14 +210,14 @@ fn keep_told(told: &Told, calls: &mut Vec<(u8, Command)>) -> Result<(), AllocErr
 
 /// A sweep that goes along a run as it is made, and reports to an onlooker the number of its events that it has passed.
 #[derive(Drop)]
-struct Along<'a, L: Onlooker> {
+struct SweepObserver<'a, L: ProgressObserver> {
     sweeper: Sweeper,
     calls: &'a [(u8, Command)],
     of: u64,
-    onlooker: &'a mut L,
+    progress_observer: &'a mut L,
 }
 
-impl<'a, L: Onlooker> Along<'a, L> {
+impl<'a, L: ProgressObserver> SweepObserver<'a, L> {
     /// Lets the sweep go along one more event.
     fn go_on(&mut self, event: &Event)
         requires room { CanSweep self.old.calls.now 1 self.old.sweeper }
@@ -226,7 +226,7 @@ impl<'a, L: Onlooker> Along<'a, L> {
         ensures room { (more : ℕ) → CanSweep self.old.calls.now (more + 1) self.old.sweeper
             → CanSweep self.old.calls.now more self.new.sweeper }
     {
-        self.onlooker.reached(Reached::Swept {
+        self.progress_observer.reached(ProgressPoint::Swept {
             events: self.sweeper.events(),
             of: self.of,
         });
@@ -234,11 +234,11 @@ impl<'a, L: Onlooker> Along<'a, L> {
     }
 }
 
-impl<'a, L: Onlooker> Listener for Along<'a, L> {
-    ghost hears_steps = { λ _. true };
+impl<'a, L: ProgressObserver> RunObserver for SweepObserver<'a, L> {
+    ghost observes_steps = { λ _. true };
 
     #[inline(always)]
-    fn hears_steps(&self) -> bool {
+    fn observes_steps(&self) -> bool {
         true
     }
 
@@ -248,19 +248,19 @@ impl<'a, L: Onlooker> Listener for Along<'a, L> {
 
     ghost HasRoom = { λ along more. CanSweep along.calls.now more along.sweeper };
 
-    ghost Hears = { λ a s x y b. (calls : List (ℕ × Said)) → SweepsRun s calls x a.calls.now a.sweeper → SweepsRun s calls y b.calls.now b.sweeper };
+    ghost Observes = { λ a s x y b. (calls : List (ℕ × Said)) → SweepsRun s calls x a.calls.now a.sweeper → SweepsRun s calls y b.calls.now b.sweeper };
 
     ghost Stops = { λ a s x y fault b. ⊤ };
 
-    fn hear(&mut self, told: &Told) -> Result<(), Fault> {
+    fn observe(&mut self, reported: &TurnReport) -> Result<(), Fault> {
         let _nested: NestedTypes = None;
-        if let Told::Accepted(made) = told {
+        if let TurnReport::Accepted(made) = reported {
             self.go_on(&made.event);
         }
         Ok(())
     }
 
-    fn step(&mut self, made: Stepped) -> Result<(), Fault> {
+    fn step(&mut self, made: UnmarkedStep) -> Result<(), Fault> {
         self.go_on(&Event::Step(made.process, made.flick));
         Ok(())
     }
@@ -269,11 +269,11 @@ impl<'a, L: Onlooker> Listener for Along<'a, L> {
 
     ghost room_less = { λ a n k. can_sweep_less a.calls.now a.sweeper n k };
 
-    ghost hears_nothing = { λ a s x calls swept. swept };
+    ghost observes_nothing = { λ a s x calls swept. swept };
 
-    ghost hears_on = { λ a b c s x y z p q calls swept. q calls (p calls swept) };
+    ghost observes_on = { λ a b c s x y z p q calls swept. q calls (p calls swept) };
 
-    ghost stops_unheard = { λ a s x. tt };
+    ghost stops_unobserved = { λ a s x. tt };
 
     ghost stops_before = { λ a b s x y more fault p. tt };
 

@@ -4,31 +4,31 @@ ghost use Rattle.std.specs.String.{string_bytes};
 ghost use Rattle.engines.specs.Replayings.{mark_lines, text_next};
 ghost use Rattle.engines.specs.Sinks.{Wrote, WroteFront, WroteLine, WroteLineFront};
 ghost use Rattle.scenario_run.specs.run_lines.{line_text, with_end};
-ghost use Rattle.scenario_run.specs.{IsWriteFault, counted, end_line, failed_write, told_text};
+ghost use Rattle.scenario_run.specs.{IsWriteFault, counted, end_line, failed_write, reported_text};
 
-use scenario_run::{Mark, ReplayLine, Summary, Told, newest_words};
+use scenario_run::{Mark, ReplayLine, Summary, TurnReport, newest_words};
 use scenario::{Fault, Sink, write_all};
 use std::alloc::{AllocError, Global};
 
 /// Writes the lines of a turn, before which `number` events were accepted.
-fn write_told<W: Sink>(alloc: Global, number: u64, told: &Told, output: &mut W) -> Result<(), Fault>
+fn write_reported<W: Sink>(alloc: Global, number: u64, reported: &TurnReport, output: &mut W) -> Result<(), Fault>
     requires { W.failures output.old < 2 ^ 64 - 1 }
-    ensures ok { Wrote W.taken result output.old output.new (told_text number told.now) }
-    ensures front { WroteFront W.taken output.old output.new (told_text number told.now) }
+    ensures ok { Wrote W.taken result output.old output.new (reported_text number reported.now) }
+    ensures front { WroteFront W.taken output.old output.new (reported_text number reported.now) }
     ensures fault { IfErr result IsWriteFault }
     ensures failures { W.failures output.new ≡ W.failures output.old + failed_write result }
 {
-    match told {
-        Told::Accepted(made) => {
+    match reported {
+        TurnReport::Accepted(made) => {
             let process = made.event.process();
             write_marks(alloc, number, process, made.marks(alloc).as_slice(), output)
         }
-        Told::Refused { process, refusal } => {
+        TurnReport::Refused { process, refusal } => {
             let process = *process;
             write_run_line(alloc, &ReplayLine::Refused { process, refusal }, output)
         }
-        Told::Tired(process) => write_run_line(alloc, &ReplayLine::Tired(*process), output),
-        Told::Shown(store) => {
+        TurnReport::Tired(process) => write_run_line(alloc, &ReplayLine::Tired(*process), output),
+        TurnReport::Shown(store) => {
             let words = newest_words(alloc, store)?;
             write_run_line(alloc, &ReplayLine::Shown(words.as_str()), output)
         }
@@ -117,22 +117,22 @@ pub(crate) fn write_end<W: Sink>(
 }
 
 /// Writes and counts the lines of a turn.
-pub(crate) fn tell<W: Sink>(
+pub(crate) fn write_turn<W: Sink>(
     alloc: Global,
-    told: &Told,
+    reported: &TurnReport,
     summary: &mut Summary,
     output: &mut W,
 ) -> Result<(), Fault>
     requires writes { W.failures output.old < 2 ^ 64 - 1 }
     requires events { summary.old.events < 2 ^ 64 - 1 }
     requires refused { summary.old.refused < 2 ^ 64 - 1 }
-    ensures ok { Wrote W.taken result output.old output.new (text_next summary.old told.now) }
-    ensures count { OnOk result (summary.new ≡ counted told.now summary.old) }
-    ensures front { WroteFront W.taken output.old output.new (text_next summary.old told.now) }
+    ensures ok { Wrote W.taken result output.old output.new (text_next summary.old reported.now) }
+    ensures count { OnOk result (summary.new ≡ counted reported.now summary.old) }
+    ensures front { WroteFront W.taken output.old output.new (text_next summary.old reported.now) }
     ensures fault { IfErr result IsWriteFault }
     ensures failures { W.failures output.new ≡ W.failures output.old + failed_write result }
 {
-    write_told(alloc, summary.events, told, output)?;
-    summary.count(told);
+    write_reported(alloc, summary.events, reported, output)?;
+    summary.count(reported);
     Ok(())
 }

@@ -72,13 +72,13 @@ pub stays : (o : Option (List ℕ)) → Stays o o
 stays None = tt
 stays (Some xs) = refl
 
-pub some_left : (items : List ℕ) (at : ℕ) → at < length items → 0 < length (drop at items)
-some_left items at some = let left = length-drop at items in omega (arith, left, some)
+pub some_remaining : (items : List ℕ) (at : ℕ) → at < length items → 0 < length (drop at items)
+some_remaining items at some = let remaining = length-drop at items in omega (arith, remaining, some)
 
 -- a block of bytes came
-pub more_come : (items : List ℕ) (at : ℕ) (told : Bool) (old new : Option (List ℕ)) (r : Result ℕ Failed) (buffer block : List ℕ) (count : ℕ) → told ≡ false → length items ≤ at → r ≡ Ok count → ReadConsumes old new r buffer → block ≡ take count buffer →
-    Stays (coming (record { bytes = drop at items; ended = told }) old) (coming (record { bytes = block; ended = told }) new)
-more_come items at told old new r buffer block count open_yet none is came moved =
+pub more_come : (items : List ℕ) (at : ℕ) (reported : Bool) (old new : Option (List ℕ)) (r : Result ℕ Failed) (buffer block : List ℕ) (count : ℕ) → reported ≡ false → length items ≤ at → r ≡ Ok count → ReadConsumes old new r buffer → block ≡ take count buffer →
+    Stays (coming (record { bytes = drop at items; ended = reported }) old) (coming (record { bytes = block; ended = reported }) new)
+more_come items at reported old new r buffer block count open_yet none is came moved =
     subst (λ (t : Bool). Stays (coming (record { bytes = drop at items; ended = t }) old) (coming (record { bytes = block; ended = t }) new)) (sym open_yet)
     (subst (λ (l : List ℕ). Stays (coming (record { bytes = l; ended = false }) old) (coming (record { bytes = block; ended = false }) new)) (sym (drop_all at items none)) (by old new (subst (λ (r : Result ℕ Failed). ReadConsumes old new r buffer) is came).0))
   where
@@ -104,9 +104,9 @@ at_its_end old new r buffer is room came =
     by (Some text) None came end = absurd came
     by (Some text) (Some rest) came end = (came ∙ end, end)
 
-pub none_come : (items : List ℕ) (at : ℕ) (told : Bool) (old new : Option (List ℕ)) (r : Result ℕ Failed) (buffer : List ℕ) → told ≡ false → length items ≤ at → r ≡ Ok 0 → 0 < length buffer → ReadConsumes old new r buffer →
-    ComesToEnd (coming (record { bytes = drop at items; ended = told }) old) (coming (record { bytes = drop at items; ended = true }) new)
-none_come items at told old new r buffer open_yet none is room came =
+pub none_come : (items : List ℕ) (at : ℕ) (reported : Bool) (old new : Option (List ℕ)) (r : Result ℕ Failed) (buffer : List ℕ) → reported ≡ false → length items ≤ at → r ≡ Ok 0 → 0 < length buffer → ReadConsumes old new r buffer →
+    ComesToEnd (coming (record { bytes = drop at items; ended = reported }) old) (coming (record { bytes = drop at items; ended = true }) new)
+none_come items at reported old new r buffer open_yet none is room came =
     subst (λ (t : Bool). ComesToEnd (coming (record { bytes = drop at items; ended = t }) old) (coming (record { bytes = drop at items; ended = true }) new)) (sym open_yet)
     (subst (λ (l : List ℕ). ComesToEnd (coming (record { bytes = l; ended = false }) old) (coming (record { bytes = l; ended = true }) new)) (sym (drop_all at items none)) (by old (at_its_end old new r buffer is room came).0, refl))
   where
@@ -115,7 +115,7 @@ none_come items at told old new r buffer open_yet none is room came =
     by (Some text) end = end
 
 -- the source had reported its end before
-pub none_left : (items : List ℕ) (at : ℕ) (told : Bool) (old : Option (List ℕ)) → told ≡ true → length items ≤ at → ComesToEnd (coming (record { bytes = drop at items; ended = told }) old) (coming (record { bytes = drop at items; ended = told }) old)
-none_left items at told old is none =
+pub none_remaining : (items : List ℕ) (at : ℕ) (reported : Bool) (old : Option (List ℕ)) → reported ≡ true → length items ≤ at → ComesToEnd (coming (record { bytes = drop at items; ended = reported }) old) (coming (record { bytes = drop at items; ended = reported }) old)
+none_remaining items at reported old is none =
     subst (λ (t : Bool). ComesToEnd (coming (record { bytes = drop at items; ended = t }) old) (coming (record { bytes = drop at items; ended = t }) old)) (sym is)
     (subst (λ (l : List ℕ). ComesToEnd (coming (record { bytes = l; ended = true }) old) (coming (record { bytes = l; ended = true }) old)) (sym (drop_all at items none)) (refl, refl))

@@ -9,9 +9,9 @@ no_value (Ok a) e P is = absurd is
 no_value (Err x) e P is = tt
 
 -- such an error is a fault of reading, if e is one
-pub tells_fault : {A : Type 0} (r : Result A Fault) (e : Fault) → IsErrAnd r (λ x. x ≡ e) → IsReadFault e → IfErr r IsReadFault
-tells_fault (Ok a) e is fault = absurd is
-tells_fault (Err x) e is fault = subst IsReadFault (sym is) fault
+pub reports_fault : {A : Type 0} (r : Result A Fault) (e : Fault) → IsErrAnd r (λ x. x ≡ e) → IsReadFault e → IfErr r IsReadFault
+reports_fault (Ok a) e is fault = absurd is
+reports_fault (Err x) e is fault = subst IsReadFault (sym is) fault
 
 pub counts_fault : {A : Type 0} (r : Result A Fault) (e : Fault) (old mid new : ℕ) → IsErrAnd r (λ x. x ≡ e) → mid ≡ old → new ≡ mid + failed_reading {A = A} (Err e) → new ≡ old + failed_reading r
 counts_fault (Ok a) e old mid new is same more = absurd is

@@ -4,7 +4,7 @@ use Rattle.std.proofs.Common.{◌⊎◌, inl, inr, ap, sym, subst, ◌∙◌, ap
 use Rattle.std.proofs.lemmas.Bool.Decides.{nat_tests}
 use Rattle.std.proofs.lemmas.List.{length-drop, length-append, take_at}
 use Rattle.std.specs.Io.KnownBytes.{IsAtEnd}
-use Rattle.files.specs.{FaultKind, Grammar, HaveSameFault, LineFault, ReadsInput, TellsAtLimit, at_line, begins_with, begun, file_of, input_limit, line_read, lines, lines_read, onto, words_of, words_read, ◌>>=◌}
+use Rattle.files.specs.{FaultKind, Grammar, HaveSameFault, LineFault, ReadsInput, ReportsAtLimit, at_line, begins_with, begun, file_of, input_limit, line_read, lines, lines_read, onto, words_of, words_read, ◌>>=◌}
 use Rattle.files.specs.declared.faults.FaultKind.TheVariants.{TooLong}
 
 -- the first line of some bytes ends within k bytes, before byte m, and is the first line of the first m bytes too
@@ -158,27 +158,27 @@ too_late g n line before late = ap (λ t. if t then Err TooLong else words_read 
 
 -- two texts have a fault in common, if reading on in them has it in common
 read_on : {S : Type 0} {a b c d : Result S LineFault} → a ≡ c → b ≡ d → HaveSameFault c d → HaveSameFault a b
-read_on p q h = record { fault = h.fault; left = p ∙ h.left; right = q ∙ h.right }
+read_on p q h = record { fault = h.fault; remaining = p ∙ h.remaining; right = q ∙ h.right }
 
 -- The lines of the first m bytes have the fault that all lines have, if the lines before line 4,097 cannot hold m bytes.
-tells_from : {S : Type 0} (g : Grammar S) (left n m : ℕ) (bs : List ℕ) (before : Option S) → n + left ≡ 4097 → left * 130 + 1 ≤ m → m ≤ length bs → HaveSameFault (lines_read g n (lines (take m bs)) before) (lines_read g n (lines bs) before)
+reports_from : {S : Type 0} (g : Grammar S) (remaining n m : ℕ) (bs : List ℕ) (before : Option S) → n + remaining ≡ 4097 → remaining * 130 + 1 ≤ m → m ≤ length bs → HaveSameFault (lines_read g n (lines (take m bs)) before) (lines_read g n (lines bs) before)
 unfolding Split
-tells_from g zero n zero bs before number many there = absurd (omega arith)
-tells_from g zero n (suc m) [] before number many there = absurd (omega arith)
-tells_from g zero n (suc m) (b ∷ bs) before number many there =
+reports_from g zero n zero bs before number many there = absurd (omega arith)
+reports_from g zero n (suc m) [] before number many there = absurd (omega arith)
+reports_from g zero n (suc m) (b ∷ bs) before number many there =
     let cut = some_line b (take m bs) in
     let whole = some_line b bs in
     record {
       fault = record { line = n; kind = TooLong };
-      left = line_fault g n cut.line cut.rest before TooLong (lines (b ∷ take m bs)) cut.is (too_late g n cut.line before (omega arith));
+      remaining = line_fault g n cut.line cut.rest before TooLong (lines (b ∷ take m bs)) cut.is (too_late g n cut.line before (omega arith));
       right = line_fault g n whole.line whole.rest before TooLong (lines (b ∷ bs)) whole.is (too_late g n whole.line before (omega arith));
     }
-tells_from {S} g (suc left) n m bs before number many there = by (split_at 130 m bs (omega arith) there) (λ size within after. tells_from g left (n + 1) (m - size) (drop size bs) after (omega arith) (omega (arith, within)) (omega (arith, length-drop size bs)))
+reports_from {S} g (suc remaining) n m bs before number many there = by (split_at 130 m bs (omega arith) there) (λ size within after. reports_from g remaining (n + 1) (m - size) (drop size bs) after (omega arith) (omega (arith, within)) (omega (arith, length-drop size bs)))
   where
     goes : (e : Ends 130 m bs) → (r : Result (Option S) FaultKind) → line_read g n e.line before ≡ r → ((after : Option S) → HaveSameFault (lines_read g (n + 1) (lines (take (m - e.size) (drop e.size bs))) after) (lines_read g (n + 1) (lines (drop e.size bs)) after)) → HaveSameFault (lines_read g n (lines (take m bs)) before) (lines_read g n (lines bs) before)
     goes e (Err kind) is behind = record {
       fault = record { line = n; kind = kind };
-      left = line_fault g n e.line (lines (take (m - e.size) (drop e.size bs))) before kind (lines (take m bs)) e.cut is;
+      remaining = line_fault g n e.line (lines (take (m - e.size) (drop e.size bs))) before kind (lines (take m bs)) e.cut is;
       right = line_fault g n e.line (lines (drop e.size bs)) before kind (lines bs) e.whole is;
     }
     goes e (Ok after) is behind = read_on (line_goes g n e.line (lines (take (m - e.size) (drop e.size bs))) before after (lines (take m bs)) e.cut is) (line_goes g n e.line (lines (drop e.size bs)) before after (lines bs) e.whole is) (behind after)
@@ -190,49 +190,49 @@ tells_from {S} g (suc left) n m bs before number many there = by (split_at 130 m
         let cut_long : 130 ≤ length cut.line + 1 = cut.long in
         record {
           fault = record { line = n; kind = TooLong };
-          left = line_fault g n cut.line cut.rest before TooLong (lines (take m bs)) cut.is (too_long g n cut.line before (omega (arith, cut_long)));
+          remaining = line_fault g n cut.line cut.rest before TooLong (lines (take m bs)) cut.is (too_long g n cut.line before (omega (arith, cut_long)));
           right = line_fault g n whole.line whole.rest before TooLong (lines bs) whole.is (too_long g n whole.line before (omega (arith, whole_long)));
         }
 
 -- a fault in common is kept by further steps on the values
 fault_passes : {A B : Type 0} {a b : Result A LineFault} (f h : A → Result B LineFault) → HaveSameFault a b → HaveSameFault (a >>= f) (b >>= h)
-fault_passes f h same = record { fault = same.fault; left = ap (λ r. r >>= f) same.left; right = ap (λ r. r >>= h) same.right }
+fault_passes f h same = record { fault = same.fault; remaining = ap (λ r. r >>= f) same.remaining; right = ap (λ r. r >>= h) same.right }
 
 -- By any grammar, the first bytes of a text, as many as the limit, have a fault, and the whole text has the same.
-pub tells_at_limit : {S : Type 0} (g : Grammar S) (text : List ℕ) → input_limit ≤ length text → TellsAtLimit (file_of g) text
-tells_at_limit g text long = fault_passes (begun (length (lines (take input_limit text)) + 1)) (begun (length (lines text) + 1)) (tells_from g 4096 1 input_limit text None (omega arith) (omega arith) long)
+pub reports_at_limit : {S : Type 0} (g : Grammar S) (text : List ℕ) → input_limit ≤ length text → ReportsAtLimit (file_of g) text
+reports_at_limit g text long = fault_passes (begun (length (lines (take input_limit text)) + 1)) (begun (length (lines text) + 1)) (reports_from g 4096 1 input_limit text None (omega arith) (omega arith) long)
 
 -- A reading that continues that of the grammar has the same fault too.
-pub tells_at_limit_then : {S T : Type 0} (g : Grammar S) (f : S → Result T LineFault) (text : List ℕ) → input_limit ≤ length text → TellsAtLimit (λ bytes. file_of g bytes >>= f) text
-tells_at_limit_then g f text long = fault_passes f f (tells_at_limit g text long)
+pub reports_at_limit_then : {S T : Type 0} (g : Grammar S) (f : S → Result T LineFault) (text : List ℕ) → input_limit ≤ length text → ReportsAtLimit (λ bytes. file_of g bytes >>= f) text
+reports_at_limit_then g f text long = fault_passes f f (reports_at_limit g text long)
 
 -- the bytes that are read of an input: all of it, or as many bytes as the limit
 whole_or_cut : (text bytes : List ℕ) (rest : Option (List ℕ)) → ReadsInput (Some text) rest bytes → ((bytes ≡ text) × IsAtEnd rest) ⊎ ((input_limit ≤ length text) × (bytes ≡ take input_limit text))
 whole_or_cut text bytes None read = absurd read.front
-whole_or_cut text bytes (Some left) read = by (nat_lt (length bytes) input_limit) refl
+whole_or_cut text bytes (Some remaining) read = by (nat_lt (length bytes) input_limit) refl
   where
-    by : (t : Bool) → nat_lt (length bytes) input_limit ≡ t → ((bytes ≡ text) × (left ≡ [])) ⊎ ((input_limit ≤ length text) × (bytes ≡ take input_limit text))
+    by : (t : Bool) → nat_lt (length bytes) input_limit ≡ t → ((bytes ≡ text) × (remaining ≡ [])) ⊎ ((input_limit ≤ length text) × (bytes ≡ take input_limit text))
     by true early =
-        let none : left ≡ [] = read.whole (grind (arith, nat_tests)) in
+        let none : remaining ≡ [] = read.whole (grind (arith, nat_tests)) in
         inl (sym (read.front ∙ ap (λ ys. bytes ++ ys) none ∙ append-nil bytes), none)
     by false late =
         let within : length bytes ≤ input_limit = read.within in
         let full : length bytes ≡ input_limit = grind (arith, nat_tests) in
-        let size : length text ≡ length bytes + length left = ap length read.front ∙ length-append bytes left in
-        inr (omega (arith, full, size), sym (ap (take input_limit) read.front ∙ take_at bytes left input_limit full))
+        let size : length text ≡ length bytes + length remaining = ap length read.front ∙ length-append bytes remaining in
+        inr (omega (arith, full, size), sym (ap (take input_limit) read.front ∙ take_at bytes remaining input_limit full))
 
 -- The bytes that are read of an input have the result of the whole input, by any reading that finds a fault at the limit.
-pub input_tells : {S : Type 0} (reading : List ℕ → Result S LineFault) (text bytes : List ℕ) (rest : Option (List ℕ)) → ((text : List ℕ) → input_limit ≤ length text → TellsAtLimit reading text) → ReadsInput (Some text) rest bytes → reading bytes ≡ reading text
-input_tells reading text bytes rest tells read = by (whole_or_cut text bytes rest read)
+pub input_reports : {S : Type 0} (reading : List ℕ → Result S LineFault) (text bytes : List ℕ) (rest : Option (List ℕ)) → ((text : List ℕ) → input_limit ≤ length text → ReportsAtLimit reading text) → ReadsInput (Some text) rest bytes → reading bytes ≡ reading text
+input_reports reading text bytes rest reports read = by (whole_or_cut text bytes rest read)
   where
     by : ((bytes ≡ text) × IsAtEnd rest) ⊎ ((input_limit ≤ length text) × (bytes ≡ take input_limit text)) → reading bytes ≡ reading text
     by (inl (all, ended)) = ap reading all
-    by (inr (long, cut)) = let same = tells text long in ap reading cut ∙ same.left ∙ sym same.right
+    by (inr (long, cut)) = let same = reports text long in ap reading cut ∙ same.remaining ∙ sym same.right
 
 -- If the bytes that are read have no fault, the input was read to its end.
-pub input_ended : {S : Type 0} (reading : List ℕ → Result S LineFault) (text bytes : List ℕ) (rest : Option (List ℕ)) (said : S) → ((text : List ℕ) → input_limit ≤ length text → TellsAtLimit reading text) → ReadsInput (Some text) rest bytes → reading bytes ≡ Ok said → IsAtEnd rest
-input_ended reading text bytes rest said tells read good = by (whole_or_cut text bytes rest read)
+pub input_ended : {S : Type 0} (reading : List ℕ → Result S LineFault) (text bytes : List ℕ) (rest : Option (List ℕ)) (said : S) → ((text : List ℕ) → input_limit ≤ length text → ReportsAtLimit reading text) → ReadsInput (Some text) rest bytes → reading bytes ≡ Ok said → IsAtEnd rest
+input_ended reading text bytes rest said reports read good = by (whole_or_cut text bytes rest read)
   where
     by : ((bytes ≡ text) × IsAtEnd rest) ⊎ ((input_limit ≤ length text) × (bytes ≡ take input_limit text)) → IsAtEnd rest
     by (inl (all, ended)) = ended
-    by (inr (long, cut)) = let same = tells text long in let two : Err same.fault ≡ Ok said = sym same.left ∙ sym (ap reading cut) ∙ good in absurd (cc)
+    by (inr (long, cut)) = let same = reports text long in let two : Err same.fault ≡ Ok said = sym same.remaining ∙ sym (ap reading cut) ∙ good in absurd (cc)

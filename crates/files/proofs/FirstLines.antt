@@ -5,7 +5,7 @@ use Rattle.std.proofs.lemmas.Bool.Decides.{nat_tests}
 use Rattle.std.proofs.lemmas.List.Folds.{list_all-append}
 use Rattle.std.specs.Io.KnownBytes.{Consumes, IsAtEnd, prepend_known}
 use Rattle.std.specs.List.{list_all}
-use Rattle.files.specs.{ComesToEnd, Fault, FindsLine, Given, GoesOn, Held, IsReadFault, IsTooLong, LineState, MovesAll, MovesEnded, Stays, TakesLine, Told, begins_with, coming, is_inner, lines, onto, shown_line, unless_ended, without_return}
+use Rattle.files.specs.{ComesToEnd, Fault, FindsLine, Given, GoesOn, Held, IsReadFault, IsTooLong, LineState, MovesAll, MovesEnded, Stays, TakesLine, Reported, begins_with, coming, is_inner, lines, onto, shown_line, unless_ended, without_return}
 use Rattle.files.specs.declared.faults.Fault.TheVariants.{Line, Read, Write, Memory}
 use Rattle.files.specs.declared.faults.FaultKind.TheVariants.{TooLong}
 use Rattle.files.proofs.Blocks.{stays}
@@ -108,9 +108,9 @@ too_long (b ∷ bs) rest all many =
 
 -- a 0x0A came after them
 pub fed : (a b : Option (List ℕ)) (ahead rest : Given) (to_come : Option (List ℕ)) (xs line : List ℕ) → list_all is_inner xs ≡ true → Consumes a b xs → Stays b (coming ahead to_come) → MovesEnded ahead.bytes rest.bytes xs line → rest.ended ≡ ahead.ended →
-    Told a (coming rest to_come) (λ text left. TakesLine text (without_return line) left)
+    Reported a (coming rest to_come) (λ text remaining. TakesLine text (without_return line) remaining)
 fed a b ahead rest to_come xs line all front stays ends same =
-    subst (λ (t : Bool). Told a (prepend_known rest.bytes (unless_ended t to_come)) (λ text left. TakesLine text (without_return line) left)) (sym same) (by a b (unless_ended ahead.ended to_come) front stays)
+    subst (λ (t : Bool). Reported a (prepend_known rest.bytes (unless_ended t to_come)) (λ text remaining. TakesLine text (without_return line) remaining)) (sym same) (by a b (unless_ended ahead.ended to_come) front stays)
   where
     inner : list_all is_inner (xs ++ ends.part) ≡ true
     inner = list_all-append is_inner xs ends.part ∙ and_from (list_all is_inner xs) (list_all is_inner ends.part) all ends.inner
@@ -118,9 +118,9 @@ fed a b ahead rest to_come xs line all front stays ends same =
     together : (more : List ℕ) → xs ++ (ahead.bytes ++ more) ≡ (xs ++ ends.part) ++ 10 ∷ (rest.bytes ++ more)
     together more = ap (λ l. xs ++ (l ++ more)) ends.split ∙ ap (λ l. xs ++ l) (append_assoc ends.part (10 ∷ rest.bytes) more) ∙ sym (append_assoc xs ends.part (10 ∷ (rest.bytes ++ more)))
 
-    by : (a b left : Option (List ℕ)) → Consumes a b xs → Stays b (prepend_known ahead.bytes left) → Told a (prepend_known rest.bytes left) (λ text left. TakesLine text (without_return line) left)
-    by None b left front stays = tt
-    by (Some text) None left front stays = absurd front
+    by : (a b remaining : Option (List ℕ)) → Consumes a b xs → Stays b (prepend_known ahead.bytes remaining) → Reported a (prepend_known rest.bytes remaining) (λ text remaining. TakesLine text (without_return line) remaining)
+    by None b remaining front stays = tt
+    by (Some text) None remaining front stays = absurd front
     by (Some text) (Some mid) None front stays = absurd stays
     by (Some text) (Some mid) (Some more) front stays =
         ap lines (front ∙ ap (λ l. xs ++ l) (sym stays) ∙ together more)
@@ -133,9 +133,9 @@ fed_all a b ahead rest to_come xs line front stays moves same =
     subst (λ (t : Bool). Consumes a (prepend_known rest.bytes (unless_ended t to_come)) line) (sym same)
     (subst (λ (l : List ℕ). Consumes a (prepend_known l (unless_ended ahead.ended to_come)) line) (sym moves.none) (by a b (unless_ended ahead.ended to_come) front stays))
   where
-    by : (a b left : Option (List ℕ)) → Consumes a b xs → Stays b (prepend_known ahead.bytes left) → Consumes a (prepend_known [] left) line
-    by None b left front stays = tt
-    by (Some text) None left front stays = absurd front
+    by : (a b remaining : Option (List ℕ)) → Consumes a b xs → Stays b (prepend_known ahead.bytes remaining) → Consumes a (prepend_known [] remaining) line
+    by None b remaining front stays = tt
+    by (Some text) None remaining front stays = absurd front
     by (Some text) (Some mid) None front stays = absurd stays
     by (Some text) (Some mid) (Some more) front stays = front ∙ ap (λ l. xs ++ l) (sym stays) ∙ sym (append_assoc xs ahead.bytes more) ∙ ap (λ l. l ++ more) (sym moves.moved)
 
@@ -143,28 +143,28 @@ pub all_inner : (old new xs line : List ℕ) → list_all is_inner xs ≡ true �
 all_inner old new xs line inner moves = ap (list_all is_inner) moves.moved ∙ list_all-append is_inner xs old ∙ and_from (list_all is_inner xs) (list_all is_inner old) inner moves.inner
 
 -- the bytes are too many for a line
-pub fed_long : (a c : Option (List ℕ)) (line : List ℕ) → Told a c (λ text left. TakesLine text line left) → 128 < length line → IfSome a IsTooLong
-fed_long None c line told long = tt
-fed_long (Some text) None line told long = absurd told
-fed_long (Some text) (Some rest) line told long = record { line = line; others = lines rest; is = told; long = long }
+pub fed_long : (a c : Option (List ℕ)) (line : List ℕ) → Reported a c (λ text remaining. TakesLine text line remaining) → 128 < length line → IfSome a IsTooLong
+fed_long None c line reported long = tt
+fed_long (Some text) None line reported long = absurd reported
+fed_long (Some text) (Some rest) line reported long = record { line = line; others = lines rest; is = reported; long = long }
 
 -- no 0x0A came after them, at the end
-at_end : (a b c : Option (List ℕ)) (xs : List ℕ) → Consumes a b xs → ComesToEnd b c → Told a c (λ text rest. (text ≡ xs) × (rest ≡ []))
-at_end a b c xs front end = subst (λ (c : Option (List ℕ)). Told a c (λ text rest. (text ≡ xs) × (rest ≡ []))) (sym end.1) (by a b front end.0)
+at_end : (a b c : Option (List ℕ)) (xs : List ℕ) → Consumes a b xs → ComesToEnd b c → Reported a c (λ text rest. (text ≡ xs) × (rest ≡ []))
+at_end a b c xs front end = subst (λ (c : Option (List ℕ)). Reported a c (λ text rest. (text ≡ xs) × (rest ≡ []))) (sym end.1) (by a b front end.0)
   where
-    by : (a b : Option (List ℕ)) → Consumes a b xs → IsAtEnd b → Told a (Some []) (λ text rest. (text ≡ xs) × (rest ≡ []))
+    by : (a b : Option (List ℕ)) → Consumes a b xs → IsAtEnd b → Reported a (Some []) (λ text rest. (text ≡ xs) × (rest ≡ []))
     by None b front end = tt
     by (Some text) None front end = absurd front
     by (Some text) (Some mid) front end = (front ∙ ap (λ l. xs ++ l) end ∙ append-nil xs, refl)
 
-pub ended : (a b c : Option (List ℕ)) (xs : List ℕ) (n : ℕ) → n ≡ length xs → not (n == 0) ≡ true → list_all is_inner xs ≡ true → Consumes a b xs → ComesToEnd b c → Told a c (λ text rest. TakesLine text xs rest)
+pub ended : (a b c : Option (List ℕ)) (xs : List ℕ) (n : ℕ) → n ≡ length xs → not (n == 0) ≡ true → list_all is_inner xs ≡ true → Consumes a b xs → ComesToEnd b c → Reported a c (λ text rest. TakesLine text xs rest)
 ended a b c [] n same some all front end = absurd (grind (arith, nat_tests))
 ended a b c (x ∷ xs) n same some all front end = by a c (at_end a b c (x ∷ xs) front end)
   where
-    by : (a c : Option (List ℕ)) → Told a c (λ text rest. (text ≡ x ∷ xs) × (rest ≡ [])) → Told a c (λ text rest. TakesLine text (x ∷ xs) rest)
-    by None c told = tt
-    by (Some text) None told = absurd told
-    by (Some text) (Some rest) told = ap lines told.0 ∙ line_last x xs all ∙ ap (λ l. (x ∷ xs) ∷ lines l) (sym told.1)
+    by : (a c : Option (List ℕ)) → Reported a c (λ text rest. (text ≡ x ∷ xs) × (rest ≡ [])) → Reported a c (λ text rest. TakesLine text (x ∷ xs) rest)
+    by None c reported = tt
+    by (Some text) None reported = absurd reported
+    by (Some text) (Some rest) reported = ap lines reported.0 ∙ line_last x xs all ∙ ap (λ l. (x ∷ xs) ∷ lines l) (sym reported.1)
 
 pub none_came : (a b c : Option (List ℕ)) (xs : List ℕ) (n : ℕ) → n ≡ length xs → not (n == 0) ≡ false → Consumes a b xs → ComesToEnd b c → IsAtEnd a × IsAtEnd c
 none_came a b c (x ∷ xs) n same none front end = absurd (grind (arith, nat_tests))
@@ -187,10 +187,10 @@ none_taken None = tt
 none_taken (Some text) = refl
 
 -- a line that was found in its place
-pub found_first : (old new : Held) (to_come : Option (List ℕ)) (b : Bool) (moved : List ℕ) → b ≡ true → FindsLine old new → new.given.ended ≡ old.given.ended → Told (coming old.given to_come) (coming new.given to_come) (λ text left. TakesLine text (shown_line b new moved) left)
+pub found_first : (old new : Held) (to_come : Option (List ℕ)) (b : Bool) (moved : List ℕ) → b ≡ true → FindsLine old new → new.given.ended ≡ old.given.ended → Reported (coming old.given to_come) (coming new.given to_come) (λ text remaining. TakesLine text (shown_line b new moved) remaining)
 found_first old new to_come true moved is found same =
     let all = coming old.given to_come in
-    subst (λ (l : List ℕ). Told all (coming new.given to_come) (λ text left. TakesLine text l left)) (sym found.line) (fed all all old.given new.given to_come [] found.whole refl (none_taken all) (stays all) found.ends same)
+    subst (λ (l : List ℕ). Reported all (coming new.given to_come) (λ text remaining. TakesLine text l remaining)) (sym found.line) (fed all all old.given new.given to_come [] found.whole refl (none_taken all) (stays all) found.ends same)
 found_first old new to_come false moved is found same = absurd (cc)
 
 -- a call that fails takes no line
@@ -205,5 +205,5 @@ stops (Err x) e old new to_come rest is fault = by x (subst IsReadFault (sym is)
     by Memory read = tt
 
 -- a line that is too long is reported
-pub tells_long : (e : Fault) (old new : LineState) (to_come rest : Option (List ℕ)) → e ≡ Line (record { line = new.taken + 1; kind = TooLong }) → new.taken ≡ old.taken → IfSome (coming old.ahead to_come) IsTooLong → GoesOn (Err e) old to_come new rest
-tells_long e old new to_come rest is same long = subst (λ e. GoesOn (Err e) old to_come new rest) (sym is) (ap (λ (n : ℕ). record { line = n + 1; kind = TooLong }) same, long)
+pub reports_long : (e : Fault) (old new : LineState) (to_come rest : Option (List ℕ)) → e ≡ Line (record { line = new.taken + 1; kind = TooLong }) → new.taken ≡ old.taken → IfSome (coming old.ahead to_come) IsTooLong → GoesOn (Err e) old to_come new rest
+reports_long e old new to_come rest is same long = subst (λ e. GoesOn (Err e) old to_come new rest) (sym is) (ap (λ (n : ℕ). record { line = n + 1; kind = TooLong }) same, long)

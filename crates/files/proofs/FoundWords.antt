@@ -67,8 +67,8 @@ none_more word line first none =
     sym (words_cut line ∙ ap (λ w. filter has_byte (w ∷ []) ++ words_of (after_first is_blank line)) (sym first) ∙ ap (λ b. cond b (word ∷ []) [] ++ words_of (after_first is_blank line)) none)
 
 -- fewer bytes remain after it
-pub fewer_left : (line rest : List ℕ) → false ≡ (length line == 0) → rest ≡ after_first is_blank line → length rest < length line
-fewer_left [] rest some is = absurd (cc)
-fewer_left (b ∷ bs) rest some is =
-    let left = length-drop (position_or_len is_blank (b ∷ bs) + 1) (b ∷ bs) in
-    omega (arith, left, ap length is)
+pub fewer_remaining : (line rest : List ℕ) → false ≡ (length line == 0) → rest ≡ after_first is_blank line → length rest < length line
+fewer_remaining [] rest some is = absurd (cc)
+fewer_remaining (b ∷ bs) rest some is =
+    let remaining = length-drop (position_or_len is_blank (b ∷ bs) + 1) (b ∷ bs) in
+    omega (arith, remaining, ap length is)

@@ -9,9 +9,9 @@ input_limit = 532481
 -- two readings have the same fault
 pub record HaveSameFault {S : Type 0} (a b : Result S LineFault) : Type 0 where
   pub fault : LineFault
-  pub left : a ≡ Err fault
+  pub remaining : a ≡ Err fault
   pub right : b ≡ Err fault
 
 -- the first bytes of a text, as many as the limit, have a fault, and the whole text has the same
-abbrev pub TellsAtLimit : {S : Type 0} → (List ℕ → Result S LineFault) → List ℕ → Type 0
-TellsAtLimit reading text = HaveSameFault (reading (take input_limit text)) (reading text)
+abbrev pub ReportsAtLimit : {S : Type 0} → (List ℕ → Result S LineFault) → List ℕ → Type 0
+ReportsAtLimit reading text = HaveSameFault (reading (take input_limit text)) (reading text)

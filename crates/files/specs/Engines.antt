@@ -19,11 +19,11 @@ pub record Streams : Type 0 where
 
 -- the known bytes of a source and a sink, and their failures
 abbrev pub streams : {R W : Type 0} → source.Ghosts R → sink.Ghosts W → R → W → Streams
-streams told_of_source told_of_sink r w = record {
-  to_come = told_of_source.to_come r;
-  taken = told_of_sink.taken w;
-  read_failures = told_of_source.failures r;
-  write_failures = told_of_sink.failures w;
+streams reported_of_source reported_of_sink r w = record {
+  to_come = reported_of_source.to_come r;
+  taken = reported_of_sink.taken w;
+  read_failures = reported_of_source.failures r;
+  write_failures = reported_of_sink.failures w;
 }
 
 -- the text that an engine prints for the value of a file

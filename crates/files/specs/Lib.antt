@@ -12,14 +12,14 @@ pub mod Streams
 pub mod Texts
 pub mod Words
 pub use Checks.{counted, fault_if, known, word, ◌>>=◌}
-pub use Cuts.{HaveSameFault, TellsAtLimit, input_limit}
+pub use Cuts.{HaveSameFault, ReportsAtLimit, input_limit}
 pub use Engines.{streams, text_by}
 pub use Files.{Grammar, at_line, begun, file_of, line_read, lines_read, one_more, statement_read, words_read}
 pub use KeyWords.{KeyWord, rows_of}
 pub use Limits.{IsWithinLimits, is_said, is_short, said_numbers, said_words}
 pub use Lines.{IsTooLong, MovesAll, MovesEnded, TakesLine, ends_line, is_inner, without_return}
 pub use Reads.{Makes, Takes, UnlessMemory}
-pub use SourceLines.{ComesToEnd, EndHolds, FindsLine, Given, GoesOn, GoesToNext, Held, KeepsEnd, LineState, Stays, TakesNext, Told, coming, shown_line, unless_ended}
+pub use SourceLines.{ComesToEnd, EndHolds, FindsLine, Given, GoesOn, GoesToNext, Held, KeepsEnd, LineState, Stays, TakesNext, Reported, coming, shown_line, unless_ended}
 pub use Statuses.{status_of_fault}
 pub use Streams.{GivesByte, IsReadFault, ReadsFront, ReadsInput, WritesFront, failed_reading, failed_writing}
 pub use Texts.{AddsText, GivesText}

@@ -79,15 +79,15 @@ abbrev pub shown_line : Bool → Held → List ℕ → List ℕ
 shown_line in_place held moved = cond in_place held.line moved
 
 -- a fact about the bytes to come before a call and after it, if they are known
-abbrev pub Told : Option (List ℕ) → Option (List ℕ) → (List ℕ → List ℕ → Type 0) → Type 0
-Told None rest P = Unit {0}
-Told (Some text) None P = ⊥
-Told (Some text) (Some rest) P = P text rest
+abbrev pub Reported : Option (List ℕ) → Option (List ℕ) → (List ℕ → List ℕ → Type 0) → Type 0
+Reported None rest P = Unit {0}
+Reported (Some text) None P = ⊥
+Reported (Some text) (Some rest) P = P text rest
 
 -- the first line of the bytes to come was taken, if it is short enough
 abbrev pub TakesShort : Result Bool Fault → Given → Option (List ℕ) → Given → Option (List ℕ) → List ℕ → Type 0
 TakesShort found old to_come new rest line =
-    IfOk found (λ some. some ≡ true → length line ≤ 128 → Told (coming old to_come) (coming new rest) (λ text left. TakesLine text line left))
+    IfOk found (λ some. some ≡ true → length line ≤ 128 → Reported (coming old to_come) (coming new rest) (λ text remaining. TakesLine text line remaining))
 
 -- a longer line is too long
 abbrev pub TakesLong : Result Bool Fault → Given → Option (List ℕ) → List ℕ → Type 0
@@ -97,7 +97,7 @@ TakesLong found old to_come line = IfOk found (λ some. some ≡ true → 128 < 
 pub record TakesNext (old new : LineState) (to_come rest : Option (List ℕ)) : Type 0 where
   pub taken : new.taken ≡ old.taken + 1
   pub short : length new.line ≤ 128
-  pub line : Told to_come rest (λ text left. TakesLine text new.line left)
+  pub line : Reported to_come rest (λ text remaining. TakesLine text new.line remaining)
 
 -- there was no next line
 pub record FindsEnd (old new : LineState) (to_come rest : Option (List ℕ)) : Type 0 where

@@ -8,7 +8,7 @@ mod ahead;
 
 use crate::faults::{Fault, FaultKind, LineFault};
 use crate::reading::MOST_BYTES;
-use crate::source_lines::ahead::Ahead;
+use crate::source_lines::ahead::ReadAhead;
 use crate::streams::Source;
 use std::alloc::Global;
 use std::marker::Model;
@@ -27,7 +27,7 @@ pub struct Lines {
     /// Whether the last line is read where it was found. A line across two blocks was moved together.
     in_place: bool,
     bytes: Vec<u8>,
-    ahead: Ahead,
+    ahead: ReadAhead,
 }
 
 impl Model for Lines {
@@ -52,7 +52,7 @@ impl Lines {
             taken: 0,
             in_place: false,
             bytes: Vec::new(alloc),
-            ahead: Ahead::new(alloc),
+            ahead: ReadAhead::new(alloc),
         }
     }
 
@@ -155,7 +155,7 @@ impl Lines {
 /// Moves the bytes of the first line together, without its end, or more than 128 of them. Returns `false` if there is no line.
 /// Few lines need it.
 #[inline(never)]
-fn take_line<R: Source>(input: &mut R, ahead: &mut Ahead, line: &mut Vec<u8>) -> Result<bool, Fault>
+fn take_line<R: Source>(input: &mut R, ahead: &mut ReadAhead, line: &mut Vec<u8>) -> Result<bool, Fault>
     requires { R.failures input.old < 2 ^ 64 - 1 }
     ensures line { TakesShort result ahead.old.given (R.to_come input.old) ahead.new.given (R.to_come input.new) line.new.items }
     ensures long { TakesLong result ahead.old.given (R.to_come input.old) line.new.items }

@@ -5,19 +5,19 @@ use Rattle.std.proofs.lemmas.Bool.{or_right}
 use Rattle.std.proofs.lemmas.Option.{slice_get_within}
 use Rattle.plain_store.specs.{Answer, Command, Reply, Setup, checked, reply_to}
 use Rattle.plain_store.specs.declared.Answer.TheVariants as answer
-use Rattle.model.specs.{AreGiven, Call, Entry, Event, IsAnswerTo, Mark, Past, StandsInHistory, Taken, TakenInHistory, all_takings, call_of, called_in, caller, ends_span, entries_of_call, entry_of, has, history, is_called, last_call, last_command, own, past_of, reply_taken, since, store_after, takings, takings_of_call}
+use Rattle.model.specs.{AreGiven, Call, Entry, Event, IsAnswerTo, Mark, Past, IsInHistory, Taken, TakenInHistory, all_takings, call_of, called_in, caller, ends_span, entries_of_call, entry_of, has, history, is_called, last_call, last_command, own, past_of, reply_taken, since, store_after, takings, takings_of_call}
 use Rattle.model.specs.declared.marks.Mark.TheVariants as mark
 use Rattle.model.specs.declared.marks.Mark.TheVariants.{Answered}
-use Rattle.model.proofs.Singles.{get-append, get-left}
+use Rattle.model.proofs.Singles.{get-append, get-remaining}
 use Rattle.model.proofs.Width.{IsGood, is_good}
 use Rattle.laws.proofs.AtPlaces.{own-induction}
 use Rattle.laws.proofs.Frame.{own-other, own-own}
 use Rattle.history_laws.proofs.CallSpans.{Older, older, whole, OneMore, outside, belongs, one_more, since-whole}
 use Rattle.history_laws.proofs.CountedChanges.{history-none, history-takes, taken_at}
 use Rattle.history_laws.proofs.HistoryItems.{HasItsReply, calls-uncalled, each_has_its_reply}
-use Rattle.history_laws.proofs.Order.{answers_tell, in-append, stands}
+use Rattle.history_laws.proofs.Order.{answers_report, in-append, stands}
 use Rattle.history_laws.proofs.Places.{at_its_place}
-use Rattle.history_laws.proofs.Told.{SaysAfter, says, since-called, since-uncalled}
+use Rattle.history_laws.proofs.Reported.{SaysAfter, says, since-called, since-uncalled}
 use Rattle.history_laws.proofs.Took.{EachAnswer, answer-at, begins, goes}
 
 -- A test finds what a list has.
@@ -31,8 +31,8 @@ any_at test (y ∷ xs) x (suc k, l, e) h = or_right (test y) (list_any test xs) 
 -- Once a call is answered it takes nothing more: what it took in all its entries is what it was answered.
 pub answered_whole : (s : Setup) → IsGood s → (later : Past) (events : List Event) (x answering : Entry) (earlier : Past) (a : Answer) → past_of s events ≡ later ++ x ∷ earlier → has is_called x ≡ true →
     Contains (entries_of_call x.process later) answering → Contains answering.marks (Answered a) → IsAnswerTo a (takings_of_call x.process later)
-answered_whole s g [] events x y earlier a h c (k, l, e) told = absurd (omega (arith, l))
-answered_whole s g (e ∷ later) events x y earlier a h c among told = go (answered_whole s g later o.events x y earlier a o.past c) (one_more p e later)
+answered_whole s g [] events x y earlier a h c (k, l, e) reported = absurd (omega (arith, l))
+answered_whole s g (e ∷ later) events x y earlier a h c among reported = go (answered_whole s g later o.events x y earlier a o.past c) (one_more p e later)
   where
     p : ℕ
     p = x.process
@@ -40,30 +40,30 @@ answered_whole s g (e ∷ later) events x y earlier a h c among told = go (answe
     o : Older s e (later ++ x ∷ earlier)
     o = older s events e (later ++ x ∷ earlier) h
 
-    Tells : Past → Type 0
-    Tells call = IsAnswerTo a (all_takings call)
+    Reports : Past → Type 0
+    Reports call = IsAnswerTo a (all_takings call)
 
     -- the answer was among its entries before: the call takes no more
-    stood : Contains (entries_of_call p later) y → Tells (entries_of_call p later) → Tells (entries_of_call p (e ∷ later))
+    stood : Contains (entries_of_call p later) y → Reports (entries_of_call p later) → Reports (entries_of_call p (e ∷ later))
     stood there so_far =
-        let ended = any_at (has ends_span) (entries_of_call p later) y there (any_at ends_span y.marks (Answered a) told refl) in
+        let ended = any_at (has ends_span) (entries_of_call p later) y there (any_at ends_span y.marks (Answered a) reported refl) in
         subst (IsAnswerTo a) (sym (stands s g (e ∷ []) events later x earlier h c ended).1) so_far
 
     -- the new entry has it
-    answers : e.process ≡ p → list_any (has is_called) (own p (e ∷ later)) ≡ false → Contains e.marks (Answered a) → Tells (entries_of_call p (e ∷ later))
-    answers i none here = subst Tells
+    answers : e.process ≡ p → list_any (has is_called) (own p (e ∷ later)) ≡ false → Contains e.marks (Answered a) → Reports (entries_of_call p (e ∷ later))
+    answers i none here = subst Reports
         ((λ j. since is_called (own (i j) (e ∷ o.past j))) ∙ since-whole (e ∷ later) x earlier c none ∙ sym (whole (own p (e ∷ later)) none))
-        (answers_tell s g o.events o.event e o.added a here)
+        (answers_report s g o.events o.event e o.added a here)
 
-    go : (Contains (entries_of_call p later) y → Contains y.marks (Answered a) → Tells (entries_of_call p later)) → OneMore p e later → Tells (entries_of_call p (e ∷ later))
-    go ih (outside k) = subst Tells (sym k) (ih (subst (λ (call : Past). Contains call y) k among) told)
+    go : (Contains (entries_of_call p later) y → Contains y.marks (Answered a) → Reports (entries_of_call p later)) → OneMore p e later → Reports (entries_of_call p (e ∷ later))
+    go ih (outside k) = subst Reports (sym k) (ih (subst (λ (call : Past). Contains call y) k among) reported)
     go ih (belongs i mine none n) = at (subst (λ (call : Past). Contains call y) (whole (own p (e ∷ later)) none ∙ mine) among)
       where
-        at : Contains (e ∷ own p later) y → Tells (entries_of_call p (e ∷ later))
-        at (zero, l, is) = answers i none (subst (λ (f : Entry). Contains f.marks (Answered a)) (sym is) told)
+        at : Contains (e ∷ own p later) y → Reports (entries_of_call p (e ∷ later))
+        at (zero, l, is) = answers i none (subst (λ (f : Entry). Contains f.marks (Answered a)) (sym is) reported)
         at (suc k, l, is) =
             let there : Contains (entries_of_call p later) y = subst (λ (call : Past). Contains call y) (sym (whole (own p later) n)) (k, omega (arith, l), is) in
-            stood there (ih there told)
+            stood there (ih there reported)
 
 -- A command that a call took is in the history.
 
@@ -81,7 +81,7 @@ still s past e k t at = go (reply_taken e.marks) refl
   where
     go : (o : Option Reply) → reply_taken e.marks ≡ o → slice_get (history s (e ∷ past)) k ≡ Some t
     go None r = ap (λ h. slice_get h k) (history-none s past e r) ∙ at
-    go (Some q) r = ap (λ h. slice_get h k) (history-takes s past e q r) ∙ get-left (history s past) (taken_at s past e q ∷ []) k (slice_get_within (history s past) k t at) ∙ at
+    go (Some q) r = ap (λ h. slice_get h k) (history-takes s past e q r) ∙ get-remaining (history s past) (taken_at s past e q ∷ []) k (slice_get_within (history s past) k t at) ∙ at
 
 -- the reply that an entry takes is in its one mark that takes a command
 reply_of : (ms : List Mark) (k : ℕ) (r : Reply) → length (takings ms) < 2 → Contains (takings ms) (k, r) → reply_taken ms ≡ Some r
@@ -152,8 +152,8 @@ stood s g = own-induction s (Stood s) none others own_entry
 
 -- A store answer is in the history, with the sequential store's reply at its place.
 pub answers_stand : TakenInHistory → (s : Setup) → checked s ≡ Ok tt → (events : List Event) (event : Event) (e : Entry) → AreGiven s (event ∷ events) → entry_of s (past_of s events) event ≡ Some e →
-    StandsInHistory s (past_of s events) e
-answers_stand law s ok events event e given is r answered = (told.0, record { there = there; reply = reply })
+    IsInHistory s (past_of s events) e
+answers_stand law s ok events event e given is r answered = (reported.0, record { there = there; reply = reply })
   where
     g : IsGood s
     g = is_good s ok
@@ -167,8 +167,8 @@ answers_stand law s ok events event e given is r answered = (told.0, record { th
     after : past_of s (event ∷ events) ≡ e ∷ past
     after = ap (λ o. elim o as (λ _. Past) [ None ↦ past | Some x ↦ x ∷ past ]) is
 
-    told : IsAnswerTo (answer.Reply r) (all_takings (since is_called (own e.process (e ∷ past))))
-    told = answers_tell s g events event e is (answer.Reply r) answered
+    reported : IsAnswerTo (answer.Reply r) (all_takings (since is_called (own e.process (e ∷ past))))
+    reported = answers_report s g events event e is (answer.Reply r) answered
 
     uncalled : SaysAfter s past e → has is_called e ≡ false
     uncalled (begins command m k) = absurd (answer-at (λ _. ⊥) e.marks (answer.Reply r) (subst (EachAnswer (λ _. ⊥)) (sym m) tt) answered)
@@ -177,9 +177,9 @@ answers_stand law s ok events event e given is r answered = (told.0, record { th
     same : last_call s e.process (own e.process (e ∷ past)) ≡ c
     same = ap (last_call s e.process) (own-own e.process e past refl) ∙ call-uncalled s e.process e (own e.process past) (uncalled (says s g events event e is))
 
-    there : slice_get (history s (e ∷ past)) told.0 ≡ Some (with_reply c r)
-    there = subst (λ d. slice_get (history s (e ∷ past)) told.0 ≡ Some (with_reply d r)) same
-        (subst (λ (p : Past). Stood s p e.process) after (stood s g (event ∷ events) e.process) told.0 r (subst (λ l. Contains l (told.0, r)) (sym told.1) (0, omega arith, refl)))
+    there : slice_get (history s (e ∷ past)) reported.0 ≡ Some (with_reply c r)
+    there = subst (λ d. slice_get (history s (e ∷ past)) reported.0 ≡ Some (with_reply d r)) same
+        (subst (λ (p : Past). Stood s p e.process) after (stood s g (event ∷ events) e.process) reported.0 r (subst (λ l. Contains l (reported.0, r)) (sym reported.1) (0, omega arith, refl)))
 
-    reply : r ≡ reply_to (store_after s (take told.0 (history s (e ∷ past)))) c.command (caller c)
-    reply = subst (λ (p : Past). (k : ℕ) (t : Taken) → slice_get (history s p) k ≡ Some t → HasItsReply s (take k (history s p)) t) after (each_has_its_reply law s ok (event ∷ events) given) told.0 (with_reply c r) there
+    reply : r ≡ reply_to (store_after s (take reported.0 (history s (e ∷ past)))) c.command (caller c)
+    reply = subst (λ (p : Past). (k : ℕ) (t : Taken) → slice_get (history s p) k ≡ Some t → HasItsReply s (take k (history s p)) t) after (each_has_its_reply law s ok (event ∷ events) given) reported.0 (with_reply c r) there

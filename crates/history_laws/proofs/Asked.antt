@@ -4,7 +4,7 @@ use Rattle.std.proofs.Math.Bool.{or-false}
 use Rattle.std.proofs.lemmas.List.{take-append-drop}
 use Rattle.plain_store.specs.{Command, Contents, callers_of, number_of, opening_store, reply_to}
 use Rattle.plain_store.specs.declared.Reply.TheVariants.{Last}
-use Rattle.model.specs.{AskAnswersTheLatestChange, AskTellsOfCutCalls, Taken, TakenInHistory, has_change, history, latest_change, past_of, store_after}
+use Rattle.model.specs.{AskAnswersTheLatestChange, AskReportsOfCutCalls, Taken, TakenInHistory, has_change, history, latest_change, past_of, store_after}
 use Rattle.model.proofs.Width.{is_good}
 use Rattle.history_laws.proofs.CountedChanges.{then}
 use Rattle.history_laws.proofs.HistoryItems.{each_has_its_reply, each_is_kept, numbers_ascend}
@@ -53,8 +53,8 @@ later-pass h up k m t at above j u here same = go j (of-drop h k j u here)
     go (suc j) there = let less = up k (k + suc j) t u (omega arith) at there (sym same) in apart u.number (omega (arith, less, above))
 
 -- If no later change of the asker precedes it, call m was taken as a change exactly if the answer to `Ask` is `Last(m)`.
-pub ask_tells : TakenInHistory → AskTellsOfCutCalls
-ask_tells law s good events given two k m t at asks some above none = (there, back)
+pub ask_reports : TakenInHistory → AskReportsOfCutCalls
+ask_reports law s good events given two k m t at asks some above none = (there, back)
   where
     p : ℕ
     p = t.process

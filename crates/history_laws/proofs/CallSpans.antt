@@ -5,7 +5,7 @@ use Rattle.std.specs.List.{list_any}
 use Rattle.plain_store.specs.{Setup}
 use Rattle.model.specs.{Entry, Event, Past, entries_of_call, entry_of, has, is_called, own, past_of, since, until}
 use Rattle.laws.proofs.Frame.{own-other, own-own}
-use Rattle.history_laws.proofs.Told.{since-called, since-uncalled}
+use Rattle.history_laws.proofs.Reported.{since-called, since-uncalled}
 
 -- A past is that of a record, and its newest entry is that of its newest accepted event.
 
@@ -30,9 +30,9 @@ before s (e ∷ newer) events rest h = let o = older s events e (newer ++ rest) 
 
 -- The entries of a call.
 
-false-left : (a b : Bool) → (a || b) ≡ false → a ≡ false
-false-left false b h = refl
-false-left true b h = h
+false-remaining : (a b : Bool) → (a || b) ≡ false → a ≡ false
+false-remaining false b h = refl
+false-remaining true b h = h
 
 false-right : (a b : Bool) → (a || b) ≡ false → b ≡ false
 false-right false b h = h
@@ -76,7 +76,7 @@ since-whole (e ∷ later) x earlier c h = go (since-whole later x earlier c) (e.
         let is : e.process ≡ p = eqb-true e.process p i in
         let none : (has is_called e || list_any (has is_called) (own p later)) ≡ false = sym (ap (list_any (has is_called)) (own-own p e later is)) ∙ h in
         ap (since is_called) (own-own p e rest is)
-        ∙ since-uncalled e (own p rest) (false-left (has is_called e) (list_any (has is_called) (own p later)) none)
+        ∙ since-uncalled e (own p rest) (false-remaining (has is_called e) (list_any (has is_called) (own p later)) none)
         ∙ ap (λ m. e ∷ m) (ih (false-right (has is_called e) (list_any (has is_called) (own p later)) none))
         ∙ sym (own-own p e later is)
     go ih false i =

@@ -16,10 +16,10 @@ use Rattle.laws.proofs.Always.{inv_of}
 use Rattle.laws.specs.{Doing, Runs, Closes, call, doing, does_after, is_inside, is_inside_at}
 use Rattle.laws.proofs.Doings.{Step}
 use Rattle.laws.proofs.Frame.{Does, at_rest, lying, running, leaving, settling, may_fail, doing-goes, doing-other}
-use Rattle.laws.proofs.FrameCuts.{left, LeftRun, LeftIn}
+use Rattle.laws.proofs.FrameCuts.{remaining, LeftRun, LeftIn}
 use Rattle.laws.proofs.FrameEvents.{does_all}
 use Rattle.laws.proofs.FrameInside.{inside-is}
-use Rattle.laws.proofs.FrameSteps.{left-is, step_of}
+use Rattle.laws.proofs.FrameSteps.{remaining-is, step_of}
 use Rattle.laws.proofs.FrameWires.{wires-kept}
 use Rattle.laws.proofs.Invariant.{Wires, Touches, wires, touches, Stands, StandsRun}
 use Rattle.laws.proofs.Notes.{notes}
@@ -176,8 +176,8 @@ cut-of s g events p low may is h = go (does_all s g events p)
         was_inside = inside-is s g events p ∙ ap is_inside k ∙ working-inside at.part (is_fresh at.run) working
 
         begins : UnitKnows s c (versions s past) (store_of s past) (wires s past p) (is_committing at.part (is_fresh at.run)) (cut_at c at true)
-        begins = cut-part s past p command number (versions s past) (store_of s past) (wires s past p) (λ o. touches s past o p) (left s mine) at.part at.run low working stands.0
-            (subst (LeftIn s p (left s mine)) k (left-is s g events p)) (subst (Knows s past p) k h)
+        begins = cut-part s past p command number (versions s past) (store_of s past) (wires s past p) (λ o. touches s past o p) (remaining s mine) at.part at.run low working stands.0
+            (subst (LeftIn s p (remaining s mine)) k (remaining-is s g events p)) (subst (Knows s past p) k h)
 
         unit : failing c mine ≡ cut_at c at true
         unit = running-cut s g events p d b r ∙ ap (cut_at c at) was_inside

@@ -2,13 +2,13 @@
 use Rattle.std.proofs.Common.{◌≡◌, List, [], ◌∷◌, ◌++◌, Option, None, Some, Ok, refl, ap, subst}
 use Rattle.plain_store.specs.{Setup, checked}
 use Rattle.model.specs.{AreGiven, Entry, Event, Past, entry_of, past_of}
-use Rattle.model.specs.Headline.{AnsweredCallsTakeNoMore, AnswersAreTaken, AnswersStandInHistory, AsksTheLatestChange, CallsTakeOnce, CallsTakeWhatTheyAnswer, CutCallsAreNotAnswered, Headline, IsAlone, KeepsHeadline, KeepsHeadlineThroughout, KeepsOrder, MutualExclusion, NoOvertaking, OneHistory, PlacesKeepOrder, TakenOnce, TellsOfCutCalls}
+use Rattle.model.specs.Headline.{AnsweredCallsTakeNoMore, AnswersAreTaken, AnswersAreInHistory, AsksTheLatestChange, CallsTakeOnce, CallsTakeWhatTheyAnswer, CutCallsAreNotAnswered, Headline, IsAlone, KeepsHeadline, KeepsHeadlineThroughout, KeepsOrder, MutualExclusion, NoOvertaking, OneHistory, PlacesKeepOrder, TakenOnce, ReportsOfCutCalls}
 use Rattle.model.proofs.Width.{is_good}
 use Rattle.laws.proofs.Always.{inv_of}
 use Rattle.laws.proofs.Theorems as lock
 use Rattle.laws.proofs.DoorwayEnds.{full_names_the_lowest, waiters_read_none}
 use Rattle.history_laws.proofs.Answered.{answered_whole, answers_stand}
-use Rattle.history_laws.proofs.Asked.{ask_answers, ask_tells}
+use Rattle.history_laws.proofs.Asked.{ask_answers, ask_reports}
 use Rattle.history_laws.proofs.CallSpans.{before}
 use Rattle.history_laws.proofs.DataHeadline.{full, taken, unoverlapped}
 use Rattle.history_laws.proofs.DataMore.{images_of_the_store}
@@ -22,12 +22,12 @@ pub in_turn : NoOvertaking
 in_turn s h events event e is enters j = lock.no_overtaking s (is_good s h) (inv_of s (is_good s h)) events event e is enters j
 
 pub answers_are_taken : AnswersAreTaken
-answers_are_taken s h events event e is a answered = history.answers_tell s (is_good s h) events event e is a answered
+answers_are_taken s h events event e is a answered = history.answers_report s (is_good s h) events event e is a answered
 
 pub answered_take_no_more : AnsweredCallsTakeNoMore
 answered_take_no_more s h events later earlier e answering a is called among answered = answered_whole s (is_good s h) later events e answering earlier a is called among answered
 
-pub stand : AnswersStandInHistory
+pub stand : AnswersAreInHistory
 stand s h events event e given is r answered = answers_stand taken s h events event e given is r answered
 
 pub taken_once : TakenOnce
@@ -70,7 +70,7 @@ the_headline s h events event e given is = record {
   tickets = full_names_the_lowest s (is_good s h) events event e is;
   stamps = full s h events event e given is;
   asks = with-entry s (AsksTheLatestChange s) events event e is (ask_answers taken s h (event ∷ events) given);
-  tells = with-entry s (TellsOfCutCalls s) events event e is (ask_tells taken s h (event ∷ events) given);
+  reports = with-entry s (ReportsOfCutCalls s) events event e is (ask_reports taken s h (event ∷ events) given);
 }
 
 -- Each entry of a past keeps the headline: it was added by an event, to the past before it.

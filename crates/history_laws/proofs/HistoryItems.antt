@@ -12,7 +12,7 @@ use Rattle.laws.proofs.FrameEvents.{accepted}
 use Rattle.history_laws.proofs.CountedChanges.{history-none, history-takes, taken_at}
 use Rattle.history_laws.proofs.Given.{given_before}
 use Rattle.history_laws.proofs.StoreNumbers.{Ascends, Each, IsKept}
-use Rattle.history_laws.proofs.Told.{SaysAfter, says, since-uncalled}
+use Rattle.history_laws.proofs.Reported.{SaysAfter, says, since-uncalled}
 use Rattle.history_laws.proofs.Took.{begins, goes, doing-few}
 
 -- Each command with those before it.
@@ -143,7 +143,7 @@ no-taking ms r h none = let t = taking_of ms r h in let l = t.1.1 in let n : len
 
 -- after an entry of the process itself
 counted-own : (s : Setup) → s.version ≡ 2 → (past : Past) (e : Entry) → SaysAfter s past e → Counted (history s past) e.process (own e.process past) → Counted (history s (e ∷ past)) e.process (own e.process (e ∷ past))
-counted-own s two past e told c = subst (Counted (history s (e ∷ past)) p) (sym (own-own p e past refl)) (go (reply_taken e.marks) refl told)
+counted-own s two past e reported c = subst (Counted (history s (e ∷ past)) p) (sym (own-own p e past refl)) (go (reply_taken e.marks) refl reported)
   where
     p : ℕ
     p = e.process

@@ -1,5 +1,5 @@
 -- The commands that calls take, and their order
-pub mod Told
+pub mod Reported
 pub mod Took
 pub mod PartMarks
 pub mod ClosingMarks

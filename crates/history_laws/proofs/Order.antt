@@ -12,7 +12,7 @@ use Rattle.laws.proofs.Frame.{own-own}
 use Rattle.history_laws.specs.{taken_with}
 use Rattle.history_laws.proofs.CallSpans.{Older, older, before, whole, OneMore, outside, belongs, one_more, since-whole}
 use Rattle.history_laws.proofs.Places.{at_its_place, grows_by_the_taken}
-use Rattle.history_laws.proofs.Told.{ToldOf, SaysAfter, since-uncalled, told, says}
+use Rattle.history_laws.proofs.Reported.{ReportedOf, SaysAfter, since-uncalled, reported, says}
 use Rattle.history_laws.proofs.Took.{begins, goes, EachAnswer, Gives, answer-at, doing-few, is_done, may_answer}
 
 -- Answers.
@@ -31,12 +31,12 @@ cut_is_not_answered s g events event e is a h = go (says s g events event e is)
 
     go : SaysAfter s past e → list_any (has is_failed) (since is_called (own e.process past)) ≡ false
     go (begins command m k) = absurd (answer-at (λ _. ⊥) e.marks a (subst (EachAnswer (λ _. ⊥)) (sym m) tt) h)
-    go (goes t) = (told s g events e.process).uncut (answer-at (Answers s past e) e.marks a t.answers h).1
+    go (goes t) = (reported s g events e.process).uncut (answer-at (Answers s past e) e.marks a t.answers h).1
 
 -- a call that is answered has taken what its answer states
-pub answers_tell : (s : Setup) → IsGood s → (events : List Event) (event : Event) (e : Entry) → entry_of s (past_of s events) event ≡ Some e → (a : Answer) → Contains e.marks (Answered a) →
+pub answers_report : (s : Setup) → IsGood s → (events : List Event) (event : Event) (e : Entry) → entry_of s (past_of s events) event ≡ Some e → (a : Answer) → Contains e.marks (Answered a) →
     IsAnswerTo a (all_takings (since is_called (own e.process (e ∷ past_of s events))))
-answers_tell s g events event e is a h = go (says s g events event e is)
+answers_report s g events event e is a h = go (says s g events event e is)
   where
     past : Past
     past = past_of s events
@@ -62,20 +62,20 @@ once s g (e ∷ later) events x earlier h c = go (once s g later o.events x earl
     go : length (takings_of_call p later) < 2 → OneMore p e later → length (takings_of_call p (e ∷ later)) < 2
     go ih (outside k) = subst (λ (call : Past). length (all_takings call) < 2) (sym k) ih
     go ih (belongs i k none n) =
-        let t : ToldOf s (past_of s events) p = told s g events p in
+        let t : ReportedOf s (past_of s events) p = reported s g events p in
         let call : since is_called (own p (past_of s events)) ≡ own p (e ∷ later) = ap (λ (past : Past). since is_called (own p past)) h ∙ since-whole (e ∷ later) x earlier c none in
         subst (λ (call : Past). length (all_takings call) < 2) (call ∙ sym (whole (own p (e ∷ later)) none)) (doing-few (doing s p (past_of s events)) (all_takings (since is_called (own p (past_of s events)))) t.took)
 
 -- The knowledge of an entry, and of the past that it was added to.
 record Added (s : Setup) (rest : Past) (e : Entry) : Type 0 where
-  pub told_of : (p : ℕ) → ToldOf s rest p
+  pub reported_of : (p : ℕ) → ReportedOf s rest p
   pub says_after : SaysAfter s rest e
   pub place : (k : ℕ) (r : Reply) → Contains (takings e.marks) (k, r) → k ≡ length (history s rest)
   pub grows : length (history s (e ∷ rest)) ≡ length (history s rest) + length (takings e.marks)
 
 added : (s : Setup) → IsGood s → (e : Entry) (rest : Past) → Older s e rest → Added s rest e
 added s g e rest o = subst (λ (rest : Past). Added s rest e) o.past (record {
-  told_of = told s g o.events;
+  reported_of = reported s g o.events;
   says_after = says s g o.events o.event e o.added;
   place = at_its_place s g o.events o.event e o.added;
   grows = ap length (grows_by_the_taken s g o.events o.event e o.added)
@@ -94,9 +94,9 @@ longer s g (e ∷ later) events base h =
     omega (arith, l, n)
 
 pub in-append : {X : Type 0} (A : Type 0) (xs ys : List X) (x : X) → Contains (xs ++ ys) x → (Contains xs x → A) → (Contains ys x → A) → A
-in-append A [] ys x h left right = right h
-in-append A (y ∷ xs) ys x (zero, l, e) left right = left (0, omega arith, e)
-in-append A (y ∷ xs) ys x (suc k, l, e) left right = in-append A xs ys x (k, omega (arith, l), e) (λ h. left (suc h.0, (let m = h.1 in omega (arith, m)), h.2)) right
+in-append A [] ys x h remaining right = right h
+in-append A (y ∷ xs) ys x (zero, l, e) remaining right = remaining (0, omega arith, e)
+in-append A (y ∷ xs) ys x (suc k, l, e) remaining right = in-append A xs ys x (k, omega (arith, l), e) (λ h. remaining (suc h.0, (let m = h.1 in omega (arith, m)), h.2)) right
 
 -- A command of a call has its place between the lengths of the history before and after the call's entries.
 within : (s : Setup) → IsGood s → (later : Past) (events : List Event) (base : Past) (p k : ℕ) (r : Reply) → past_of s events ≡ later ++ base → Contains (takings_of_call p later) (k, r) →
@@ -135,7 +135,7 @@ within s g (e ∷ later) events base p k r h at = go (within s g later o.events 
 abbrev Stands : ℕ → Past → Past → Type 0
 Stands p between later = (has_ended p later ≡ true) × (takings_of_call p later ≡ takings_of_call p between)
 
-settled : (s : Setup) (x : Entry) (later earlier : Past) → ToldOf s (later ++ x ∷ earlier) x.process → has is_called x ≡ true → list_any (has is_called) (own x.process later) ≡ false → has_ended x.process later ≡ true →
+settled : (s : Setup) (x : Entry) (later earlier : Past) → ReportedOf s (later ++ x ∷ earlier) x.process → has is_called x ≡ true → list_any (has is_called) (own x.process later) ≡ false → has_ended x.process later ≡ true →
     is_done (doing s x.process (later ++ x ∷ earlier)) ≡ true
 settled s x later earlier t c none ended = go (is_done d) refl
   where
@@ -174,7 +174,7 @@ stands s g (e ∷ newer) events between x earlier h c ended = go (stands s g new
         call = whole (own p (e ∷ later)) none ∙ k
 
         done : is_done (doing s e.process (later ++ x ∷ earlier)) ≡ true
-        done = subst (λ (q : ℕ). is_done (doing s q (later ++ x ∷ earlier)) ≡ true) (sym i) (settled s x later earlier (a.told_of p) c n ih.0)
+        done = subst (λ (q : ℕ). is_done (doing s q (later ++ x ∷ earlier)) ≡ true) (sym i) (settled s x later earlier (a.reported_of p) c n ih.0)
 
         quiet : SaysAfter s (later ++ x ∷ earlier) e → takings e.marks ≡ []
         quiet (begins command m q) = ap takings m

@@ -9,7 +9,7 @@ use Rattle.laws.proofs.Frame.{Happens, a_call, a_withdrawal, a_failure, a_restar
 use Rattle.laws.proofs.FrameEvents.{accepted}
 use Rattle.history_laws.specs.{taken_with}
 use Rattle.history_laws.proofs.Took.{Says, begins, goes}
-use Rattle.history_laws.proofs.Told.{says}
+use Rattle.history_laws.proofs.Reported.{says}
 
 -- the marks of an entry have their place in the history
 marks-placed : (s : Setup) (past : Past) (p : ℕ) (e : Entry) (d d' : Doing) → Happens s past p e d d' → (ms : List Mark) × (e.marks ≡ map (placed (length (history s past))) ms)

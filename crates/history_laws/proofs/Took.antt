@@ -55,7 +55,7 @@ is_done (Runs command number at) = false
 is_done (Closes command number at) = has_settled at
 
 -- the knowledge of a process from the entries of its present call
-pub record Told (d : Doing) (call : Past) : Type 0 where
+pub record Reported (d : Doing) (call : Past) : Type 0 where
   pub took : TookBy d (all_takings call)
   pub uncut : may_answer d ≡ true → list_any (has is_failed) call ≡ false
   pub unended : is_done d ≡ false → list_any (has ends_span) call ≡ false
@@ -71,7 +71,7 @@ abbrev pub Gives : Bool → List (ℕ × Reply) → Answer → Type 0
 Gives may taken a = IsAnswerTo a taken × (may ≡ true)
 
 -- The marks of an entry that begins no call, if its call has taken these commands before.
-pub record Tells (taken : List (ℕ × Reply)) (d d' : Doing) (ms : List Mark) : Type 0 where
+pub record Reports (taken : List (ℕ × Reply)) (d d' : Doing) (ms : List Mark) : Type 0 where
   pub one : length (takings ms) < 2
   pub answers : EachAnswer (Gives (may_answer d) (taken ++ takings ms)) ms
   pub uncalled : list_any is_called ms ≡ false
@@ -83,7 +83,7 @@ pub record Tells (taken : List (ℕ × Reply)) (d d' : Doing) (ms : List Mark) :
 -- the marks of any entry
 pub data Says (taken : List (ℕ × Reply)) (d d' : Doing) (ms : List Mark) : Type 0 where
   begins : (command : Command) → ms ≡ Called command ∷ [] → TookBy d' [] → Says taken d d' ms
-  goes : Tells taken d d' ms → Says taken d d' ms
+  goes : Reports taken d d' ms → Says taken d d' ms
 
 -- Marks about no call.
 
@@ -108,9 +108,9 @@ kept P taken more none h = subst P (sym (ap (λ l. taken ++ l) none ∙ append-n
 pub few : (taken : List (ℕ × Reply)) → taken ≡ [] → length taken < 2
 few taken h = let n : length taken ≡ 0 = ap length h in omega (arith, n)
 
-pub silent-tells : (taken : List (ℕ × Reply)) (d d' : Doing) (ms : List Mark) → Silent ms → TookBy d' taken → (may_answer d' ≡ true → may_answer d ≡ true) → (is_done d' ≡ false → is_done d ≡ false) →
-    Tells taken d d' ms
-silent-tells taken d d' ms s h answers done = record {
+pub silent-reports : (taken : List (ℕ × Reply)) (d d' : Doing) (ms : List Mark) → Silent ms → TookBy d' taken → (may_answer d' ≡ true → may_answer d ≡ true) → (is_done d' ≡ false → is_done d ≡ false) →
+    Reports taken d d' ms
+silent-reports taken d d' ms s h answers done = record {
   one = few (takings ms) s.taken;
   answers = no_answer (Gives (may_answer d) (taken ++ takings ms)) ms s.ended;
   uncalled = s.called;

@@ -26,5 +26,5 @@ abbrev pub StampsCountTheChanges : Type 0
 StampsCountTheChanges = EachPastGiven λ s past. (p stamp : ℕ) → p < s.processes → stamp_read (doing s p past) ≡ Some stamp → stamp ≡ changes_taken s past
 
 -- While a process is inside, the entries of the other processes do not change the history.
-abbrev pub HistoryStandsWhileInside : Type 0
-HistoryStandsWhileInside = EachEntry λ s past e. (p : ℕ) → IsTrue (inside p past) → (p ≡ e.process → ⊥) → history s (e ∷ past) ≡ history s past
+abbrev pub HistoryStaysWhileInside : Type 0
+HistoryStaysWhileInside = EachEntry λ s past e. (p : ℕ) → IsTrue (inside p past) → (p ≡ e.process → ⊥) → history s (e ∷ past) ≡ history s past

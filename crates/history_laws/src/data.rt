@@ -2,8 +2,8 @@
 //! law holds for every setup that passes the check, every list of events, including refused ones, and every
 //! flick. If a law mentions a store, the names, values and counts of the events are assumed to be within what
 //! their types allow.
-ghost use Rattle.model.specs.Headline.{AskAnswersTheLatestChange, AskTellsOfCutCalls, Headline, HeadlineThroughout, ImagesAreOfTheStore, ImagesAreRead, MutualExclusion, NewestIsTheHistorys, NoOvertaking, OneHistory, StampsFullAfterAllChanges, VersionReadsAreUnoverlapped, VersionsAreWholeOutside};
-ghost use Rattle.history_laws.specs.Stamps.{HistoryStandsWhileInside, StampsCountTheChanges};
+ghost use Rattle.model.specs.Headline.{AskAnswersTheLatestChange, AskReportsOfCutCalls, Headline, HeadlineThroughout, ImagesAreOfTheStore, ImagesAreRead, MutualExclusion, NewestIsTheHistorys, NoOvertaking, OneHistory, StampsFullAfterAllChanges, VersionReadsAreUnoverlapped, VersionsAreWholeOutside};
+ghost use Rattle.history_laws.specs.Stamps.{HistoryStaysWhileInside, StampsCountTheChanges};
 ghost use Rattle.history_laws.specs.DataLaws.{ChangesFitTheStamps, NewestStampCountsTheChanges, NumbersAscend, RepliesAreThoseOfTheirPlaces};
 
 /// No read of a commit bit, of a stamp or of an image overlaps a write. The bytes that a process reads as an
@@ -42,14 +42,14 @@ pub fn newest_is_the_historys()
 /// taken so far. While a process is inside, itself or by its memory unit, no other process takes a command.
 pub fn stamps_count_the_changes()
     ensures stamps { StampsCountTheChanges }
-    ensures history { HistoryStandsWhileInside }
+    ensures history { HistoryStaysWhileInside }
 {}
 
 /// `Ask` returns the number of the asker's latest call that changed the store before its place, or 0. So a restarted
 /// process learns whether its cut call changed the store. (This project's own failure rule.)
-pub fn ask_tells_of_changes()
+pub fn ask_reports_of_changes()
     ensures latest { AskAnswersTheLatestChange }
-    ensures cut_calls { AskTellsOfCutCalls }
+    ensures cut_calls { AskReportsOfCutCalls }
     ensures numbers { NumbersAscend }
 {}
 

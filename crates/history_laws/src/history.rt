@@ -1,6 +1,6 @@
 //! The laws of one history that hold whatever the registers give. Each law holds for every setup that passes the
 //! check, every list of events, including refused ones, and every flick.
-ghost use Rattle.model.specs.{AnsweredCallsTakeNoMore, AnswersAreTaken, AnswersStandInHistory, CutCallsAreNotAnswered, KeepsOrder, TakenOnce};
+ghost use Rattle.model.specs.{AnsweredCallsTakeNoMore, AnswersAreTaken, AnswersAreInHistory, CutCallsAreNotAnswered, KeepsOrder, TakenOnce};
 ghost use Rattle.history_laws.specs.HistoryLaws.{HistoryGrowsByTheTaken, TakenAtItsPlace};
 
 /// The mark of a command that is taken contains its place in the history, which is the number of commands taken
@@ -17,7 +17,7 @@ pub fn taken_at_its_place()
 pub fn answers_are_taken()
     ensures answers { AnswersAreTaken }
     ensures whole_calls { AnsweredCallsTakeNoMore }
-    ensures history { AnswersStandInHistory }
+    ensures history { AnswersAreInHistory }
 {}
 
 /// A call takes at most one command. This includes a call that is cut by a failure and whose command its memory

@@ -12,7 +12,7 @@ mod data;
 mod history;
 
 pub use data::{
-    ask_tells_of_changes, headline, newest_is_the_historys, one_history,
+    ask_reports_of_changes, headline, newest_is_the_historys, one_history,
     stamps_are_full_after_all_changes, stamps_count_the_changes, versions_are_read_whole,
 };
 pub use history::{

@@ -24,7 +24,7 @@ use Rattle.any_lock.proofs.safe_monitor.laws.FrameEvents.{Accepted, accepted}
 use Rattle.any_lock.proofs.safe_monitor.laws.FrameInside.{stage-is}
 use Rattle.any_lock.proofs.safe_monitor.laws.FrameSteps.{closing-writes, entry-by}
 use Rattle.any_lock.proofs.safe_monitor.laws.HeldThere.{access_there}
-use Rattle.any_lock.specs.{AccessRefusal, Begun, Standing, access_refusal, begins_write, ends, first_that, is_end_of, is_of_bit, is_running, is_settling, may_move, opened, reads, refusal_of_access, settles, standing, torn}
+use Rattle.any_lock.specs.{AccessRefusal, BegunAccess, ProcessView, access_refusal, begins_write, ends, first_that, is_end_of, is_of_bit, is_running, is_settling, may_move, opened, reads, refusal_of_access, settles, process_view, torn}
 use Rattle.any_lock.specs.declared.refusals.AccessRefusal.TheVariants as access
 use Rattle.judge.proofs.OpenDoings.{opens}
 use Rattle.judge.proofs.Opened.{Fits, FitsNext}
@@ -38,7 +38,7 @@ first_none true r tests h rest = absurd (true≢false h)
 first_none false r tests h rest = rest
 
 -- the facts about an access that is not refused
-record Allowed (s : Setup) (p : ℕ) (k : Standing) (a : Access) : Type 0 where
+record Allowed (s : Setup) (p : ℕ) (k : ProcessView) (a : Access) : Type 0 where
   pub process : p < s.processes
   pub there : IsThere s a
   pub by : ByProcess p a
@@ -51,7 +51,7 @@ record Allowed (s : Setup) (p : ℕ) (k : Standing) (a : Access) : Type 0 where
 below : (m n : ℕ) → m < n → nat_lt m n ≡ true
 below m n h = grind (arith, nat_tests)
 
-unrefused : (s : Setup) (p : ℕ) (k : Standing) (a : Access) → Allowed s p k a → access_refusal s p k a ≡ None
+unrefused : (s : Setup) (p : ℕ) (k : ProcessView) (a : Access) → Allowed s p k a → access_refusal s p k a ≡ None
 unrefused s p k a h = λ i. first_that (
     (not (below p s.processes h.process i), access.NoProcess)
     ∷ (not (below a.owner s.processes h.there.owner i && below a.reader s.processes h.there.reader i && below a.bit (width s a.field) h.there.bit i), access.NoBit)
@@ -88,13 +88,13 @@ unrefused s p k a h = λ i. first_that (
 -- Open accesses.
 
 -- an access that fits, fits with the value that was read
-fits_ended : (o : Option Begun) (v : Bool) (x : Access) → Fits o x → Fits o (ended_with v x)
+fits_ended : (o : Option BegunAccess) (v : Bool) (x : Access) → Fits o x → Fits o (ended_with v x)
 fits_ended o v x fits = go x.how o fits
   where
     at : Move → Access
     at m = record { owner = x.owner; field = x.field; bit = x.bit; reader = x.reader; how = m }
 
-    go : (m : Move) (o : Option Begun) → Fits o (at m) → Fits o (at (ended v m))
+    go : (m : Move) (o : Option BegunAccess) → Fits o (at m) → Fits o (at (ended v m))
     go (BeginWrite u) o fits = fits
     go EndWrite o fits = fits
     go BeginRead o fits = fits
@@ -132,7 +132,7 @@ running_moves st m run = ap (λ b. settles m || b || (is_settling st && not (rea
 
 module _ (s : Setup) (past : Past) (p : ℕ) (a : Access) (process : p < s.processes) (there : IsThere s a) (by : ByProcess p a) where
   place_allowed : (c : Call) (at : Place) (v : Bool) → is_over at.part ≡ false → a ≡ ended_with v (access_at c at.part at.run) → stage p past ≡ stage_of at.part (is_fresh at.run) → Fits (opened p past) (access_at c at.part at.run) → torn p past ≡ None →
-      Allowed s p (standing s p past) a
+      Allowed s p (process_view s p past) a
   place_allowed c at v over made st fits none =
       let calm : settles a.how ≡ false = ap (λ (x : Access). settles x.how) made ∙ place_settles c at.part at.run v in
       record {
@@ -169,12 +169,12 @@ settling_moves m h = ap (λ b. settles m || false || (true && not b)) (not_readi
     go false = refl
 
 -- the tests of torn bits find nothing
-record OfTorn (st : Stage) (torn : Option Begun) (a : Access) : Type 0 where
+record OfTorn (st : Stage) (torn : Option BegunAccess) (a : Access) : Type 0 where
   pub settling : (settles a.how && not (is_settling st)) ≡ false
   pub of_torn : (settles a.how && not (is_of_bit torn a)) ≡ false
   pub off_torn : (begins_write a.how && is_of_bit torn a) ≡ false
 
-calm_torn : (st : Stage) (torn : Option Begun) (a : Access) → settles a.how ≡ false → torn ≡ None → OfTorn st torn a
+calm_torn : (st : Stage) (torn : Option BegunAccess) (a : Access) → settles a.how ≡ false → torn ≡ None → OfTorn st torn a
 calm_torn st torn a calm none = record {
   settling = ap (λ b. b && not (is_settling st)) calm;
   of_torn = ap (λ b. b && not (is_of_bit torn a)) calm;
@@ -182,14 +182,14 @@ calm_torn st torn a calm none = record {
 }
 
 -- the access with which a unit settles a copy, or writes it
-settles_torn : (s : Setup) (p : ℕ) (f : Field) (bit : ℕ) (t : copies.Settling) (v : Bool) (torn : Option Begun) → TornAt s.processes p f bit t torn → t.reader < s.processes → OfTorn stages.Settling torn (access_of p f (bit, copies.next_settle t v))
+settles_torn : (s : Setup) (p : ℕ) (f : Field) (bit : ℕ) (t : copies.Settling) (v : Bool) (torn : Option BegunAccess) → TornAt s.processes p f bit t torn → t.reader < s.processes → OfTorn stages.Settling torn (access_of p f (bit, copies.next_settle t v))
 settles_torn s p f bit t v torn at below = go t.begun (copies.is_open_at t.made t.reader) refl
   where
     x : Bool → Bool → Access
     x b o = access_of p f (bit, record { reader = t.reader; how = cond b EndWrite (cond o (Settle v) (BeginWrite v)) })
 
     -- the copy that was open is torn
-    torn_one : (o : Option Begun) → TornBy s.processes p f bit t o → t.made ≡ 2 * t.reader + 1 → is_of_bit o (x false true) ≡ true
+    torn_one : (o : Option BegunAccess) → TornBy s.processes p f bit t o → t.made ≡ 2 * t.reader + 1 → is_of_bit o (x false true) ≡ true
     torn_one o (settled none all) was = absurd (all t.reader (omega arith) below was)
     torn_one o (comes b is owner field its low high made) was =
         let same : b.access.reader ≡ t.reader = omega (arith, made, was) in
@@ -197,7 +197,7 @@ settles_torn s p f bit t v torn at below = go t.begun (copies.is_open_at t.made 
         ∙ (λ i. eq-eqb b.access.bit bit its i && eq-eqb b.access.reader t.reader same i && eq-eqb b.access.owner p owner i && eq-eqb (field_number b.access.field) (field_number f) (ap field_number field) i)
 
     -- a copy that was not open is not torn
-    not_torn : (o : Option Begun) → TornBy s.processes p f bit t o → t.made ≢ 2 * t.reader + 1 → is_of_bit o (x false false) ≡ false
+    not_torn : (o : Option BegunAccess) → TornBy s.processes p f bit t o → t.made ≢ 2 * t.reader + 1 → is_of_bit o (x false false) ≡ false
     not_torn o (settled none all) other = ap (λ o. is_of_bit o (x false false)) none
     not_torn o (comes b is owner field its low high made) other =
         let apart : b.access.reader ≢ t.reader = λ same. other (omega (arith, made, same)) in
@@ -214,7 +214,7 @@ settles_torn s p f bit t v torn at below = go t.begun (copies.is_open_at t.made 
     go false true j = record { settling = refl; of_torn = ap not (torn_one torn at.by (eqb-true t.made (2 * t.reader + 1) j)); off_torn = refl }
     go false false j = record { settling = refl; of_torn = refl; off_torn = not_torn torn at.by (eqb-false t.made (2 * t.reader + 1) j) }
 
-closing_torn : (s : Setup) (p : ℕ) (command : Command) (number : ℕ) (at : Closing) (flick : Bool) (n : Next) (torn : Option Begun) → closing_next (call s p command number) at flick ≡ Some n → TornIn s p torn (Closes command number at) → n.access.reader < s.processes →
+closing_torn : (s : Setup) (p : ℕ) (command : Command) (number : ℕ) (at : Closing) (flick : Bool) (n : Next) (torn : Option BegunAccess) → closing_next (call s p command number) at flick ≡ Some n → TornIn s p torn (Closes command number at) → n.access.reader < s.processes →
     OfTorn (closing_stage at) torn n.access
 closing_torn s p command number at flick n torn next h below =
     subst (OfTorn (closing_stage at) torn) (ap access_in next) (go at next h (subst (λ (a : Access). a.reader < s.processes) (sym (ap access_in next)) below))
@@ -240,13 +240,13 @@ closing_moves c _ flick n next writes = settling_moves n.access.how writes
 
 no_access : (s : Setup) (past : Past) (e : Entry) → e.access ≡ None → e.process < s.processes → refusal_of_access s past e ≡ None
 no_access s past e none process =
-    ap (λ o. elim o as (λ _. Option AccessRefusal) [ None ↦ first_that ((not (nat_lt e.process s.processes), access.NoProcess) ∷ []) | Some a ↦ access_refusal s e.process (standing s e.process past) a ]) none
+    ap (λ o. elim o as (λ _. Option AccessRefusal) [ None ↦ first_that ((not (nat_lt e.process s.processes), access.NoProcess) ∷ []) | Some a ↦ access_refusal s e.process (process_view s e.process past) a ]) none
     ∙ first_none (not (nat_lt e.process s.processes)) access.NoProcess [] (ap not (below e.process s.processes process)) refl
 
-an_access : (s : Setup) (past : Past) (e : Entry) (a : Access) → e.access ≡ Some a → Allowed s e.process (standing s e.process past) a → refusal_of_access s past e ≡ None
+an_access : (s : Setup) (past : Past) (e : Entry) (a : Access) → e.access ≡ Some a → Allowed s e.process (process_view s e.process past) a → refusal_of_access s past e ≡ None
 an_access s past e a acc allowed =
-    ap (λ o. elim o as (λ _. Option AccessRefusal) [ None ↦ first_that ((not (nat_lt e.process s.processes), access.NoProcess) ∷ []) | Some a ↦ access_refusal s e.process (standing s e.process past) a ]) acc
-    ∙ unrefused s e.process (standing s e.process past) a allowed
+    ap (λ o. elim o as (λ _. Option AccessRefusal) [ None ↦ first_that ((not (nat_lt e.process s.processes), access.NoProcess) ∷ []) | Some a ↦ access_refusal s e.process (process_view s e.process past) a ]) acc
+    ∙ unrefused s e.process (process_view s e.process past) a allowed
 
 -- The entry of an event keeps the law `Access` of any lock.
 pub keeps_access : (s : Setup) → IsGood s → (events : List Event) (event : Event) (e : Entry) → entry_of s (past_of s events) event ≡ Some e → refusal_of_access s (past_of s events) e ≡ None

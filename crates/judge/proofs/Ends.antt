@@ -3,13 +3,13 @@ use Rattle.std.proofs.Common.{◌≡◌, ℕ, ◌+◌, ◌≤◌, Bool, true, fa
 use Rattle.std.proofs.lemmas.List.{length-append}
 use Rattle.std.specs.Io.KnownBytes.{IsAtEnd, prepend_known}
 use Rattle.plain_store.specs.{Setup}
-use Rattle.files.specs.{EndHolds, Fault, FaultKind, Given, GoesToNext, IsTooLong, LineFault, LineState, TakesLine, TakesNext, Told, UnlessMemory, at_line, coming, lines, unless_ended, ◌>>=◌}
+use Rattle.files.specs.{EndHolds, Fault, FaultKind, Given, GoesToNext, IsTooLong, LineFault, LineState, TakesLine, TakesNext, Reported, UnlessMemory, at_line, coming, lines, unless_ended, ◌>>=◌}
 use Rattle.files.specs.declared.faults.Fault.TheVariants as fault
 use Rattle.files.specs.declared.faults.FaultKind.TheVariants.{NotFirst, TooLong}
 use Rattle.model.specs.{Entry}
 use Rattle.record_file.specs.{Progress, cleared, entry_in, line_read, lines_read, record_of, rest_read, said_by}
 use Rattle.judge.specs.{IsInputFault, IsOfRecord, number_in, numbers_from, numbers_of}
-use Rattle.judge.specs.Trials.{GoesOn, HearsAt, IsHeard, Stands, count_in}
+use Rattle.judge.specs.Trials.{GoesOn, ObservesAt, IsObserved, Stands, count_in}
 use Rattle.judge.proofs.Lines.{few_in, long_read}
 use Rattle.judge.proofs.Trials.{unless_then}
 
@@ -35,22 +35,22 @@ line_fault n text line others before entries kind is fault =
 -- All lines so far.
 
 -- after this number of lines, reading the rest gives what reading the whole text gives, and its lines have the remaining numbers
-pub record GoesOnTo (before : Option Progress) (entries : List Entry) (numbers : List ℕ) (taken : ℕ) (text left : List ℕ) : Type 0 where
-  pub reads : rest_read (taken + 1) left before entries ≡ record_of text
-  pub counts : numbers ++ numbers_from (taken + 1) (lines left) ≡ numbers_of text
+pub record GoesOnTo (before : Option Progress) (entries : List Entry) (numbers : List ℕ) (taken : ℕ) (text remaining : List ℕ) : Type 0 where
+  pub reads : rest_read (taken + 1) remaining before entries ≡ record_of text
+  pub counts : numbers ++ numbers_from (taken + 1) (lines remaining) ≡ numbers_of text
 
 -- facts about three moments, from those about two pairs of them
-pub told_on : (a b c : Option (List ℕ)) (P Q R : List ℕ → List ℕ → Type 0) → ((x y z : List ℕ) → P x y → Q y z → R x z) → Told a b P → Told b c Q → Told a c R
-told_on None b c P Q R then first next = tt
-told_on (Some x) None c P Q R then first next = absurd first
-told_on (Some x) (Some y) None P Q R then first next = absurd next
-told_on (Some x) (Some y) (Some z) P Q R then first next = then x y z first next
+pub reported_on : (a b c : Option (List ℕ)) (P Q R : List ℕ → List ℕ → Type 0) → ((x y z : List ℕ) → P x y → Q y z → R x z) → Reported a b P → Reported b c Q → Reported a c R
+reported_on None b c P Q R then first next = tt
+reported_on (Some x) None c P Q R then first next = absurd first
+reported_on (Some x) (Some y) None P Q R then first next = absurd next
+reported_on (Some x) (Some y) (Some z) P Q R then first next = then x y z first next
 
 -- a fact about the whole input, from one about its rest
-pub of_input : (to_come rest : Option (List ℕ)) (P : List ℕ → List ℕ → Type 0) (Q R : List ℕ → Type 0) → ((x y : List ℕ) → P x y → Q y → R x) → Told to_come rest P → IfSome rest Q → IfSome to_come R
-of_input None rest P Q R then told is = tt
-of_input (Some x) None P Q R then told is = absurd told
-of_input (Some x) (Some y) P Q R then told is = then x y told is
+pub of_input : (to_come rest : Option (List ℕ)) (P : List ℕ → List ℕ → Type 0) (Q R : List ℕ → Type 0) → ((x y : List ℕ) → P x y → Q y → R x) → Reported to_come rest P → IfSome rest Q → IfSome to_come R
+of_input None rest P Q R then reported is = tt
+of_input (Some x) None P Q R then reported is = absurd reported
+of_input (Some x) (Some y) P Q R then reported is = then x y reported is
 
 -- no bytes remain
 pub at_end : (mid : Option (List ℕ)) → IsAtEnd mid → IfSome mid (λ y. y ≡ [])
@@ -58,8 +58,8 @@ at_end None is = tt
 at_end (Some y) is = is
 
 -- the end was not reported
-pub none_told : (ahead : Given) (to_come : Option (List ℕ)) → ahead.ended ≡ false → EndHolds ahead to_come
-none_told ahead to_come open_yet told = let both : false ≡ true = sym open_yet ∙ told in absurd (cc)
+pub none_reported : (ahead : Given) (to_come : Option (List ℕ)) → ahead.ended ≡ false → EndHolds ahead to_come
+none_reported ahead to_come open_yet reported = let both : false ≡ true = sym open_yet ∙ reported in absurd (cc)
 
 -- one more line
 pub goes_on : (before now : Option Progress) (entries : List Entry) (numbers : List ℕ) (taken taken' : ℕ) (line x y z : List ℕ) → taken' ≡ taken + 1 → line_read line before ≡ Ok now → GoesOnTo before entries numbers taken x y → TakesLine y line z →
@@ -71,7 +71,7 @@ goes_on before now entries numbers taken taken' line x y z one says so_far takes
     })
 
 -- no line yet
-pub goes_on_at_first : (to_come : Option (List ℕ)) (taken : ℕ) → taken ≡ 0 → Told to_come (prepend_known [] to_come) (GoesOnTo None [] [] taken)
+pub goes_on_at_first : (to_come : Option (List ℕ)) (taken : ℕ) → taken ≡ 0 → Reported to_come (prepend_known [] to_come) (GoesOnTo None [] [] taken)
 goes_on_at_first None taken none = tt
 goes_on_at_first (Some text) taken none = subst (λ n. GoesOnTo None [] [] n text text) (sym none) (record { reads = refl; counts = refl })
 
@@ -81,42 +81,42 @@ ended before entries numbers taken x y so_far none =
     let to : GoesOnTo before entries numbers taken x [] = subst (λ y. GoesOnTo before entries numbers taken x y) none so_far in
     (to.reads, sym (append-nil numbers) ∙ to.counts)
 
-module _ {H : Type 0} (HasHeard : H → Setup → List Entry → List ℕ → Type 0) where
+module _ {H : Type 0} (HasObserved : H → Setup → List Entry → List ℕ → Type 0) where
   -- the state after some lines; reading the rest gives what reading the whole text gives
-  pub record Onwards (to_come rest : Option (List ℕ)) (taken : ℕ) (reader : Option Progress) (hearer : Option H) : Type 0 where
+  pub record Onwards (to_come rest : Option (List ℕ)) (taken : ℕ) (reader : Option Progress) (observer : Option H) : Type 0 where
     pub before : Option Progress
     pub entries : List Entry
     pub numbers : List ℕ
-    pub stands : Stands HasHeard reader hearer before entries numbers
+    pub view_of : Stands HasObserved reader observer before entries numbers
     pub few : length entries ≤ taken
-    pub goes_on : Told to_come rest (GoesOnTo before entries numbers taken)
+    pub goes_on : Reported to_come rest (GoesOnTo before entries numbers taken)
 
   -- the number of entries observed is that of the entries read
-  heard_count : (count : H → ℕ) → ((h : H) (s : Setup) (entries : List Entry) (numbers : List ℕ) → HasHeard h s entries numbers → count h ≡ length entries) → (j : Option H) (before : Option Progress) (entries : List Entry) (numbers : List ℕ) → HearsAt HasHeard j before entries numbers → count_in count j ≡ length entries
-  heard_count count counts None before entries numbers heard = sym (ap length heard.0)
-  heard_count count counts (Some j) None entries numbers heard = absurd heard
-  heard_count count counts (Some j) (Some p) entries numbers heard = counts j p.head.setup entries numbers heard.1
+  observed_count : (count : H → ℕ) → ((h : H) (s : Setup) (entries : List Entry) (numbers : List ℕ) → HasObserved h s entries numbers → count h ≡ length entries) → (j : Option H) (before : Option Progress) (entries : List Entry) (numbers : List ℕ) → ObservesAt HasObserved j before entries numbers → count_in count j ≡ length entries
+  observed_count count counts None before entries numbers observed = sym (ap length observed.0)
+  observed_count count counts (Some j) None entries numbers observed = absurd observed
+  observed_count count counts (Some j) (Some p) entries numbers observed = counts j p.head.setup entries numbers observed.1
 
-  pub onwards_few : (count : H → ℕ) → ((h : H) (s : Setup) (entries : List Entry) (numbers : List ℕ) → HasHeard h s entries numbers → count h ≡ length entries) → (to_come rest : Option (List ℕ)) (taken : ℕ) (reader : Option Progress) (j : Option H) → Onwards to_come rest taken reader j → count_in count j ≤ taken
+  pub onwards_few : (count : H → ℕ) → ((h : H) (s : Setup) (entries : List Entry) (numbers : List ℕ) → HasObserved h s entries numbers → count h ≡ length entries) → (to_come rest : Option (List ℕ)) (taken : ℕ) (reader : Option Progress) (j : Option H) → Onwards to_come rest taken reader j → count_in count j ≤ taken
   onwards_few count counts to_come rest taken reader j u =
-      let few : length u.entries ≤ taken = u.few in let same = heard_count count counts j u.before u.entries u.numbers u.stands.heard in omega (arith, few, same)
+      let few : length u.entries ≤ taken = u.few in let same = observed_count count counts j u.before u.entries u.numbers u.view_of.observed in omega (arith, few, same)
 
   -- before the first line no bytes have come
-  pub onwards_start : (to_come : Option (List ℕ)) (ahead : Given) (taken : ℕ) (reader : Option Progress) (j : Option H) → ahead.bytes ≡ [] → ahead.ended ≡ false → taken ≡ 0 → Stands HasHeard reader j None [] [] → Onwards to_come (coming ahead to_come) taken reader j
-  onwards_start to_come ahead taken reader j fresh open_yet none stands =
+  pub onwards_start : (to_come : Option (List ℕ)) (ahead : Given) (taken : ℕ) (reader : Option Progress) (j : Option H) → ahead.bytes ≡ [] → ahead.ended ≡ false → taken ≡ 0 → Stands HasObserved reader j None [] [] → Onwards to_come (coming ahead to_come) taken reader j
+  onwards_start to_come ahead taken reader j fresh open_yet none view_of =
       subst (λ (l : List ℕ). Onwards to_come (prepend_known l (unless_ended ahead.ended to_come)) taken reader j) (sym fresh)
       (subst (λ (b : Bool). Onwards to_come (prepend_known [] (unless_ended b to_come)) taken reader j) (sym open_yet)
-      (record { before = None; entries = []; numbers = []; stands = stands; few = omega arith; goes_on = goes_on_at_first to_come taken none }))
+      (record { before = None; entries = []; numbers = []; view_of = view_of; few = omega arith; goes_on = goes_on_at_first to_come taken none }))
 
   -- one more line
-  abbrev pub onwards_on : (to_come mid rest : Option (List ℕ)) (l l' : LineState) (reader reader' : Option Progress) (j j' : Option H) (u : Onwards to_come mid l.taken reader j) → TakesNext l l' mid rest → GoesOn HasHeard l'.taken l'.line u.before reader' j' u.entries u.numbers → Onwards to_come rest l'.taken reader' j'
+  abbrev pub onwards_on : (to_come mid rest : Option (List ℕ)) (l l' : LineState) (reader reader' : Option Progress) (j j' : Option H) (u : Onwards to_come mid l.taken reader j) → TakesNext l l' mid rest → GoesOn HasObserved l'.taken l'.line u.before reader' j' u.entries u.numbers → Onwards to_come rest l'.taken reader' j'
   onwards_on to_come mid rest l l' reader reader' j j' u takes on = record {
     before = cleared on.now;
     entries = u.entries ++ entry_in on.now;
     numbers = u.numbers ++ number_in l'.taken l'.line;
-    stands = on.stands;
+    view_of = on.view_of;
     few = let had : length u.entries ≤ l.taken = u.few in let one = few_in on.now in let taken : l'.taken ≡ l.taken + 1 = takes.taken in omega (arith, had, one, taken, length-append u.entries (entry_in on.now));
-    goes_on = told_on to_come mid rest (GoesOnTo u.before u.entries u.numbers l.taken) (λ text left. TakesLine text l'.line left) (GoesOnTo (cleared on.now) (u.entries ++ entry_in on.now) (u.numbers ++ number_in l'.taken l'.line) l'.taken)
+    goes_on = reported_on to_come mid rest (GoesOnTo u.before u.entries u.numbers l.taken) (λ text remaining. TakesLine text l'.line remaining) (GoesOnTo (cleared on.now) (u.entries ++ entry_in on.now) (u.numbers ++ number_in l'.taken l'.line) l'.taken)
         (λ x y z so_far line. goes_on u.before on.now u.entries u.numbers l.taken l'.taken l'.line x y z takes.taken on.says so_far line) u.goes_on takes.line;
   }
 
@@ -130,10 +130,10 @@ module _ {H : Type 0} (HasHeard : H → Setup → List Entry → List ℕ → Ty
       (λ (is : line_read l'.line u.before ≡ Err kind). sym so_far.reads ∙ line_fault (l.taken + 1) y l'.line (lines line.0) u.before u.entries kind line.1 is ∙ ap (λ n. Err (record { line = n; kind = kind })) (sym takes.taken)) fault)
       u.goes_on (some_rest mid rest takes.line)
     where
-      some_rest : (mid rest : Option (List ℕ)) → Told mid rest (λ text left. TakesLine text l'.line left) → IfSome mid (λ y. (z : List ℕ) × TakesLine y l'.line z)
-      some_rest None rest told = tt
-      some_rest (Some y) None told = absurd told
-      some_rest (Some y) (Some z) told = (z, told)
+      some_rest : (mid rest : Option (List ℕ)) → Reported mid rest (λ text remaining. TakesLine text l'.line remaining) → IfSome mid (λ y. (z : List ℕ) × TakesLine y l'.line z)
+      some_rest None rest reported = tt
+      some_rest (Some y) None reported = absurd reported
+      some_rest (Some y) (Some z) reported = (z, reported)
 
   -- a line that is too long
   onwards_long : (to_come mid : Option (List ℕ)) (taken : ℕ) (reader : Option Progress) (j : Option H) (u : Onwards to_come mid taken reader j) → IfSome mid IsTooLong → IfSome to_come (λ text. record_of text ≡ Err (record { line = taken + 1; kind = TooLong }))
@@ -148,7 +148,7 @@ module _ {H : Type 0} (HasHeard : H → Setup → List Entry → List ℕ → Ty
   next_fault to_come mid rest l l' reader j fault.Write u goes = absurd goes
 
   -- all lines were skipped
-  pub onwards_none : (to_come mid : Option (List ℕ)) (taken : ℕ) (reader : Option Progress) (j : Option H) (u : Onwards to_come mid taken reader j) → IsHeard HasHeard None u.before u.entries u.numbers → IsAtEnd mid → IfSome to_come (λ text. record_of text ≡ Err (record { line = taken + 1; kind = NotFirst }))
+  pub onwards_none : (to_come mid : Option (List ℕ)) (taken : ℕ) (reader : Option Progress) (j : Option H) (u : Onwards to_come mid taken reader j) → IsObserved HasObserved None u.before u.entries u.numbers → IsAtEnd mid → IfSome to_come (λ text. record_of text ≡ Err (record { line = taken + 1; kind = NotFirst }))
   onwards_none to_come mid taken reader j u none end =
       of_input to_come mid (GoesOnTo u.before u.entries u.numbers taken) (λ y. y ≡ []) (λ text. record_of text ≡ Err (record { line = taken + 1; kind = NotFirst }))
       (λ x y so_far is. sym (ended u.before u.entries u.numbers taken x y so_far is).0 ∙ ap (λ b. rest_read (taken + 1) [] b u.entries) none ∙ ap (λ n. Err (record { line = n; kind = NotFirst })) {y = taken + 1} (omega arith)) u.goes_on (at_end mid end)

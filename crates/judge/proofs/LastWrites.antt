@@ -11,7 +11,7 @@ use Rattle.any_lock.specs.safe_monitor.laws.{Doing, Runs, Closes}
 use Rattle.any_lock.proofs.safe_monitor.laws.Frame.{own-own}
 use Rattle.any_lock.proofs.safe_monitor.laws.FrameCells.{ByProcess}
 use Rattle.any_lock.proofs.safe_monitor.laws.FrameCuts.{last-made}
-use Rattle.any_lock.specs.{Begun, begins, left_open, opened, write_of}
+use Rattle.any_lock.specs.{BegunAccess, begins, left_open, opened, write_of}
 use Rattle.any_lock.proofs.Markings.{ArePlain}
 use Rattle.judge.proofs.OpenDoings.{opened_access, opened_marked}
 use Rattle.judge.proofs.Opened.{open_by}
@@ -21,53 +21,53 @@ abbrev pub Unended : Option Access → Access → Type 0
 Unended last a = (last ≡ Some a) × (is_begin a.how ≡ true)
 
 -- an open write is of this process, on a copy that exists, and its last write
-pub record IsLast (s : Setup) (p : ℕ) (last : Option Access) (b : Begun) : Type 0 where
+pub record IsLast (s : Setup) (p : ℕ) (last : Option Access) (b : BegunAccess) : Type 0 where
   pub last_is : last ≡ Some b.access
   pub begins : is_begin b.access.how ≡ true
   pub owner : b.access.owner ≡ p
   pub reader : b.access.reader < s.processes
 
-abbrev pub OpenIsLast : Setup → ℕ → Option Begun → Option Access → Type 0
-OpenIsLast s p o last = (b : Begun) → write_of o ≡ Some b → IsLast s p last b
+abbrev pub OpenIsLast : Setup → ℕ → Option BegunAccess → Option Access → Type 0
+OpenIsLast s p o last = (b : BegunAccess) → write_of o ≡ Some b → IsLast s p last b
 
 -- the last write is open, if it is a begin
-abbrev pub LastIsOpen : Option Begun → Option Access → Type 0
+abbrev pub LastIsOpen : Option BegunAccess → Option Access → Type 0
 LastIsOpen o last = (a : Access) → Unended last a → write_of o ≡ None → ⊥
 
-abbrev pub LastIsOpenIn : Option Begun → Option Access → Doing → Type 0
+abbrev pub LastIsOpenIn : Option BegunAccess → Option Access → Doing → Type 0
 LastIsOpenIn o last (Runs command number at) = LastIsOpen o last
 LastIsOpenIn o last (Closes command number (Withdraws w)) = LastIsOpen o last
 LastIsOpenIn o last _ = Unit {0}
 
 -- if no bit is left unfinished, the last access is not a begin
-pub finished : (n : ℕ) (last : Option Access) (o : Option Begun) → unfinished n last ≡ None → LastIsOpen o last
+pub finished : (n : ℕ) (last : Option Access) (o : Option BegunAccess) → unfinished n last ≡ None → LastIsOpen o last
 finished n last o none a unended closed =
-    let left_is : unfinished n last ≡ cond (not (is_begin a.how) && (a.reader + 1 == n)) None (Some a) = ap (unfinished n) unended.0 in
+    let remaining_is : unfinished n last ≡ cond (not (is_begin a.how) && (a.reader + 1 == n)) None (Some a) = ap (unfinished n) unended.0 in
     let begun : cond (not (is_begin a.how) && (a.reader + 1 == n)) None (Some a) ≡ Some a = ap (λ b. cond {A = Option Access} (not b && (a.reader + 1 == n)) None (Some a)) unended.1 in
-    let f : None ≡ Some a = sym none ∙ left_is ∙ begun in cc
+    let f : None ≡ Some a = sym none ∙ remaining_is ∙ begun in cc
 
 -- an access, if it is a write that is open
-abbrev of_write : Begun → Move → Option Begun
-of_write b m = cond (begins m) (elim m as (λ _. Option Begun) [ BeginWrite v ↦ Some b | EndWrite ↦ None | BeginRead ↦ None | EndRead v ↦ None | Settle v ↦ None ]) None
+abbrev of_write : BegunAccess → Move → Option BegunAccess
+of_write b m = cond (begins m) (elim m as (λ _. Option BegunAccess) [ BeginWrite v ↦ Some b | EndWrite ↦ None | BeginRead ↦ None | EndRead v ↦ None | Settle v ↦ None ]) None
 
 open_write : (entry : ℕ) (x : Access) → write_of (open_by entry x) ≡ of_write (record { entry = entry; access = x }) x.how
 open_write entry x = push (begins x.how)
   where
-    b : Begun
+    b : BegunAccess
     b = record { entry = entry; access = x }
 
-    push : (c : Bool) → write_of (cond c (Some b) None) ≡ cond c (elim x.how as (λ _. Option Begun) [ BeginWrite v ↦ Some b | EndWrite ↦ None | BeginRead ↦ None | EndRead v ↦ None | Settle v ↦ None ]) None
+    push : (c : Bool) → write_of (cond c (Some b) None) ≡ cond c (elim x.how as (λ _. Option BegunAccess) [ BeginWrite v ↦ Some b | EndWrite ↦ None | BeginRead ↦ None | EndRead v ↦ None | Settle v ↦ None ]) None
     push true = refl
     push false = refl
 
-write_begun : (entry : ℕ) (x : Access) (b : Begun) → write_of (open_by entry x) ≡ Some b → (b.access ≡ x) × (is_begin x.how ≡ true)
+write_begun : (entry : ℕ) (x : Access) (b : BegunAccess) → write_of (open_by entry x) ≡ Some b → (b.access ≡ x) × (is_begin x.how ≡ true)
 write_begun entry x b h = go x.how refl (sym (open_write entry x) ∙ h)
   where
-    at : Begun
+    at : BegunAccess
     at = record { entry = entry; access = x }
 
     go : (m : Move) → x.how ≡ m → of_write at m ≡ Some b → (b.access ≡ x) × (is_begin m ≡ true)
-    go (BeginWrite v) is same = let one : at ≡ b = cc in (ap (λ (y : Begun). y.access) (sym one), refl)
+    go (BeginWrite v) is same = let one : at ≡ b = cc in (ap (λ (y : BegunAccess). y.access) (sym one), refl)
     go _ is same = cc
 
 -- an access that begins a write has it open
@@ -109,18 +109,18 @@ marked_last s past e m none marks before b is_open =
       reader = was.reader;
     }
   where
-    twice : (o : Option Begun) → write_of (write_of o) ≡ write_of o
+    twice : (o : Option BegunAccess) → write_of (write_of o) ≡ write_of o
     twice None = refl
     twice (Some b) = go b.access.how refl
       where
-        w : Move → Option Begun
-        w m = elim m as (λ _. Option Begun) [ BeginWrite v ↦ Some b | EndWrite ↦ None | BeginRead ↦ None | EndRead v ↦ None | Settle v ↦ None ]
+        w : Move → Option BegunAccess
+        w m = elim m as (λ _. Option BegunAccess) [ BeginWrite v ↦ Some b | EndWrite ↦ None | BeginRead ↦ None | EndRead v ↦ None | Settle v ↦ None ]
 
         go : (m : Move) → b.access.how ≡ m → write_of (w b.access.how) ≡ w b.access.how
         go (BeginWrite v) is = let at : w b.access.how ≡ Some b = ap w is in ap write_of at ∙ refl
         go _ is = let at : w b.access.how ≡ None = ap w is in ap write_of at ∙ sym at
 
-    left_write : (o : Option Begun) (m : Mark) (b : Begun) → write_of (left_open o m) ≡ Some b → write_of o ≡ Some b
+    left_write : (o : Option BegunAccess) (m : Mark) (b : BegunAccess) → write_of (left_open o m) ≡ Some b → write_of o ≡ Some b
     left_write o mark.Failed b h = cc
     left_write o mark.Withdrew b h = sym (twice o) ∙ h
     left_write o _ b h = h

@@ -86,9 +86,9 @@ skipped [] is = refl
 skipped (b ∷ bs) is = grind (arith, nat_tests)
 
 -- a line after the first
-pub later_left : (words : List (List ℕ)) (p : Progress) (now : Option Progress) → words_read record_grammar words (Some p) ≡ Ok now → (next : Progress) × (now ≡ Some next) × Left (say_entry words) p next
-later_left [] p now is = (p, sym (ok_same (Some p) now is), same_left p)
-later_left (first ∷ words) p now is = by (begins_with 35 first) refl is
+pub later_remaining : (words : List (List ℕ)) (p : Progress) (now : Option Progress) → words_read record_grammar words (Some p) ≡ Ok now → (next : Progress) × (now ≡ Some next) × Left (say_entry words) p next
+later_remaining [] p now is = (p, sym (ok_same (Some p) now is), same_left p)
+later_remaining (first ∷ words) p now is = by (begins_with 35 first) refl is
   where
     kinds : (o : Option LineKind) → kind_of first ≡ o → ((known o >>= λ kind. line_said kind first words p) >>= λ s. Ok (Some s)) ≡ Ok now → (next : Progress) × (now ≡ Some next) × Left (begins_with_digit first) p next
     kinds None of is = absurd (cc)
@@ -161,26 +161,26 @@ empty p clear = ap (λ (o : Option Progress). elim o as (λ _. Option Entry) [ N
 -- a line that is not an entry has no number among those that are
 pub number_of_none : (n : ℕ) (line : List ℕ) (before now : Option Progress) → words_read record_grammar (words_of line) before ≡ Ok now → cleared before ≡ before → entry_in now ≡ [] → number_in n line ≡ []
 number_of_none n line None now read clear none = ap (λ b. cond b (n ∷ []) []) (first_left (words_of line) now read).1
-number_of_none n line (Some p) now read clear none = by (say_entry (words_of line)) (later_left (words_of line) p now read)
+number_of_none n line (Some p) now read clear none = by (say_entry (words_of line)) (later_remaining (words_of line) p now read)
   where
     nothing : (o : Option Entry) → option_to_list o ≡ [] → IsSome o → ⊥
     nothing None none some = absurd (cc)
     nothing (Some e) none some = absurd (cc)
 
     by : (b : Bool) → (next : Progress) × (now ≡ Some next) × Left b p next → cond b (n ∷ []) [] ≡ []
-    by false left = refl
-    by true left = absurd (nothing left.0.entry (sym (ap entry_in left.1) ∙ none) left.2.0)
+    by false remaining = refl
+    by true remaining = absurd (nothing remaining.0.entry (sym (ap entry_in remaining.1) ∙ none) remaining.2.0)
 
 -- a line that is an entry has one
 pub number_of_some : (n : ℕ) (line : List ℕ) (before : Option Progress) (now : Progress) (e : Entry) → words_read record_grammar (words_of line) before ≡ Ok (Some now) → cleared before ≡ before → now.entry ≡ Some e → number_in n line ≡ n ∷ []
 number_of_some n line None now e read clear says =
     let none : option_to_list now.entry ≡ [] = (first_left (words_of line) (Some now) read).0 in
     let no : e ∷ [] ≡ [] = sym (ap option_to_list says) ∙ none in absurd (cc)
-number_of_some n line (Some p) now e read clear says = by (say_entry (words_of line)) (later_left (words_of line) p (Some now) read)
+number_of_some n line (Some p) now e read clear says = by (say_entry (words_of line)) (later_remaining (words_of line) p (Some now) read)
   where
     by : (b : Bool) → (next : Progress) × (Some now ≡ Some next) × Left b p next → cond b (n ∷ []) [] ≡ n ∷ []
-    by true left = refl
-    by false left =
-        let is : Some now ≡ Some left.0 = left.1 in
-        let same : now ≡ left.0 = cc in
-        let no : Some e ≡ None = sym says ∙ ap (λ (q : Progress). q.entry) same ∙ left.2.0 ∙ empty p clear in absurd (cc)
+    by true remaining = refl
+    by false remaining =
+        let is : Some now ≡ Some remaining.0 = remaining.1 in
+        let same : now ≡ remaining.0 = cc in
+        let no : Some e ≡ None = sym says ∙ ap (λ (q : Progress). q.entry) same ∙ remaining.2.0 ∙ empty p clear in absurd (cc)

@@ -18,9 +18,9 @@ use Rattle.any_lock.proofs.safe_monitor.laws.Frame.{Happens, a_call, a_withdrawa
 use Rattle.any_lock.proofs.safe_monitor.laws.FrameEvents.{Accepted, accepted}
 use Rattle.any_lock.proofs.safe_monitor.laws.FrameInside.{inside-is, stage-is}
 use Rattle.any_lock.proofs.safe_monitor.laws.Steps.{step_is}
-use Rattle.judge.proofs.history_laws.Told.{told}
+use Rattle.judge.proofs.history_laws.Reported.{reported}
 use Rattle.judge.proofs.history_laws.Took.{TookBy}
-use Rattle.any_lock.specs.{Begun, MarkRefusal, Standing, accessed, first_that, has_one_mark, is_down, is_running, is_settling, its_call, mark_refusal, opened, refusal_of_marks, refusal_on, standing, stands_alone, torn, torn_after}
+use Rattle.any_lock.specs.{BegunAccess, MarkRefusal, ProcessView, accessed, first_that, has_one_mark, is_down, is_running, is_settling, its_call, mark_refusal, opened, refusal_of_marks, refusal_on, process_view, stands_alone, torn, torn_after}
 use Rattle.any_lock.specs.declared.refusals.MarkRefusal.TheVariants as refusal
 use Rattle.any_lock.proofs.Markings.{ArePlain, no_failure, none_of, with_marks}
 use Rattle.any_lock.proofs.Steps.{torn-mine}
@@ -37,7 +37,7 @@ use Rattle.judge.proofs.Withdrawals.{WithdrawnIn, answers_withdrawn, never_withd
 
 -- Entries with a mark alone.
 
-alone_fine : (s : Setup) (past : Past) (e : Entry) (m : Mark) → e.access ≡ None → e.marks ≡ m ∷ [] → mark_refusal (standing s e.process past) m ≡ None → refusal_of_marks s past e ≡ None
+alone_fine : (s : Setup) (past : Past) (e : Entry) (m : Mark) → e.access ≡ None → e.marks ≡ m ∷ [] → mark_refusal (process_view s e.process past) m ≡ None → refusal_of_marks s past e ≡ None
 alone_fine s past e m none marks allowed =
     let is : e ≡ with_marks e.process None (m ∷ []) = λ i. record { process = e.process; access = none i; marks = marks i } in
     ap (refusal_of_marks s past) is ∙ refused s e.process past None (m ∷ []) refl (and_false (stands_alone m || false))
@@ -92,11 +92,11 @@ fails_at _ may = absurd (true≢false (sym may))
 -- Entries with an access.
 
 stepped_fine : (s : Setup) (past : Past) (e : Entry) (a : Access) (place : ℕ) (ms : List Mark) → e.access ≡ Some a → e.marks ≡ map (placed place) ms → ArePlain e.marks →
-    Fine s (length past) place (accessed (length past) (standing s e.process past) a) ms → refusal_of_marks s past e ≡ None
+    Fine s (length past) place (accessed (length past) (process_view s e.process past) a) ms → refusal_of_marks s past e ≡ None
 stepped_fine s past e a place ms acc marks plain fine =
     let is : e ≡ with_marks e.process (Some a) e.marks = λ i. record { process = e.process; access = acc i; marks = e.marks } in
     ap (refusal_of_marks s past) is ∙ refused s e.process past (Some a) e.marks refl (ap (λ b. b && not (has_one_mark (with_marks e.process (Some a) e.marks))) plain)
-    ∙ ap (refusal_on s (length past) (accessed (length past) (standing s e.process past) a)) marks ∙ fine
+    ∙ ap (refusal_on s (length past) (accessed (length past) (process_view s e.process past) a)) marks ∙ fine
 
 -- the process rests or is down
 abbrev is_resting : Doing → Bool
@@ -118,14 +118,14 @@ done_after command number Ended h = refl
 done_after command number _ h = absurd (true≢false (sym h))
 
 -- a process that rests or is down has no open access
-rest_closed : (s : Setup) (p : ℕ) (o : Option Begun) (d : Doing) → is_resting d ≡ true → FitsNext o (next_of s p d false) → o ≡ None
+rest_closed : (s : Setup) (p : ℕ) (o : Option BegunAccess) (d : Doing) → is_resting d ≡ true → FitsNext o (next_of s p d false) → o ≡ None
 rest_closed s p o Rests h fits = fits
 rest_closed s p o Lies h fits = fits
 rest_closed s p o (Runs command number at) h fits = absurd (true≢false (sym h))
 rest_closed s p o (Closes command number at) h fits = absurd (true≢false (sym h))
 
 -- without a unit that settles, no bit is torn
-settler_torn : (s : Setup) (p : ℕ) (torn : Option Begun) (command : Command) (number : ℕ) (at : Closing) → is_settler at ≡ false → TornIn s p torn (closes command number at) → torn ≡ None
+settler_torn : (s : Setup) (p : ℕ) (torn : Option BegunAccess) (command : Command) (number : ℕ) (at : Closing) → is_settler at ≡ false → TornIn s p torn (closes command number at) → torn ≡ None
 settler_torn s p torn command number (Settles f bit begun taken is r) h t = absurd (true≢false h)
 settler_torn s p torn command number _ h t = t
 
@@ -139,8 +139,8 @@ keeps_marks s g events what e is takes = go acc.happens
     p : ℕ
     p = e.process
 
-    k : Standing
-    k = standing s p past
+    k : ProcessView
+    k = process_view s p past
 
     n : ℕ
     n = length past
@@ -161,7 +161,7 @@ keeps_marks s g events what e is takes = go acc.happens
     within d h = inside-is s g events p ∙ ap is_inside h
 
     took : (d : Doing) → doing s p past ≡ d → TookBy d (all_takings (its_call p past))
-    took d h = subst (λ d. TookBy d (all_takings (its_call p past))) h (told s g events p).took
+    took d h = subst (λ d. TookBy d (all_takings (its_call p past))) h (reported s g events p).took
 
     withdrew : (d : Doing) → doing s p past ≡ d → WithdrawnIn k.withdrawn d
     withdrew d h = subst (WithdrawnIn k.withdrawn) h (withdrawn_is s g events p)

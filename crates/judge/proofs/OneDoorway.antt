@@ -15,8 +15,8 @@ use Rattle.any_lock.proofs.safe_monitor.laws.Frame.{Happens, a_call, a_withdrawa
 use Rattle.any_lock.proofs.safe_monitor.laws.FrameDoorways.{begins-is, begins_at, begins_with}
 use Rattle.any_lock.proofs.safe_monitor.laws.FrameEvents.{accepted}
 use Rattle.any_lock.proofs.safe_monitor.laws.FrameMarks.{called-is, is_raising, is_resting, is_running}
-use Rattle.any_lock.specs.{Standing, breaks_overtaken, has_access, is_ahead, other_ahead, passage_in}
-use Rattle.any_lock.proofs.Steps.{if_there, number-called, number-mine, standing-other}
+use Rattle.any_lock.specs.{ProcessView, breaks_overtaken, has_access, is_ahead, other_ahead, passage_in}
+use Rattle.any_lock.proofs.Steps.{if_there, number-called, number-mine, process_view-other}
 use Rattle.judge.proofs.NoneBelow.{none_below}
 
 -- both doorways began with one entry; fresh: the call may have made no access yet
@@ -153,7 +153,7 @@ doorways s g = own-induction s (λ (past : Past) (p : ℕ). DoorwayOf past p (do
   where
     kept : (past : Past) (e : Entry) (p : ℕ) (b : Bool) → (e.process == p) ≡ false → OneDoorway past p b → OneDoorway (e ∷ past) p b
     kept past e p b apart h =
-        let any : number_in_call p has_access (e ∷ past) ≡ number_in_call p has_access past = ap (λ (k : Standing). k.passage.doorway) (standing-other s p e past apart) in
+        let any : number_in_call p has_access (e ∷ past) ≡ number_in_call p has_access past = ap (λ (k : ProcessView). k.passage.doorway) (process_view-other s p e past apart) in
         let own : doorway_begin p (e ∷ past) ≡ doorway_begin p past = rw (apart, number_in_call) refl in
         record { same = any ∙ h.same ∙ sym own; begun = λ none. h.begun (sym any ∙ none) }
 
@@ -168,7 +168,7 @@ doorways s g = own-induction s (λ (past : Past) (p : ℕ). DoorwayOf past p (do
 -- Entering.
 
 of_entering : IsOfLock is_entered
-of_entering = record { taken = λ k r. refl; left = refl; settled = λ v. refl; down = refl; withdrawn = refl }
+of_entering = record { taken = λ k r. refl; remaining = refl; settled = λ v. refl; down = refl; withdrawn = refl }
 
 -- a process that enters runs its call
 entering_runs : (s : Setup) (past : Past) (p : ℕ) (e : Entry) (d d' : Doing) → Happens s past p e d d' → has is_entered e ≡ true → DoorwayOf past p d → number_in_call p has_access past ≡ doorway_begin p past

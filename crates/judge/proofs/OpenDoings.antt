@@ -16,13 +16,13 @@ use Rattle.model.proofs.Width.{IsGood}
 use Rattle.any_lock.specs.safe_monitor.laws.{Closes, Doing, IsThere, Rests, Runs, call, closes, doing, next_of, runs}
 use Rattle.any_lock.proofs.safe_monitor.laws.AtPlaces.{own-induction}
 use Rattle.any_lock.proofs.safe_monitor.laws.Frame.{Happens, a_call, a_withdrawal, a_failure, a_restart, a_step, a_closing, doing-other}
-use Rattle.any_lock.proofs.safe_monitor.laws.FrameCuts.{LeftClosing, LeftIn, LeftRun, left}
+use Rattle.any_lock.proofs.safe_monitor.laws.FrameCuts.{LeftClosing, LeftIn, LeftRun, remaining}
 use Rattle.any_lock.proofs.safe_monitor.laws.FrameEvents.{accepted}
-use Rattle.any_lock.proofs.safe_monitor.laws.FrameSteps.{left-is}
+use Rattle.any_lock.proofs.safe_monitor.laws.FrameSteps.{remaining-is}
 use Rattle.any_lock.proofs.safe_monitor.laws.HeldThere.{access_there}
-use Rattle.any_lock.specs.{Begun, Standing, begun_by, left_open, opened, reads, write_of}
+use Rattle.any_lock.specs.{BegunAccess, ProcessView, begun_by, left_open, opened, reads, write_of}
 use Rattle.any_lock.proofs.Markings.{ArePlain}
-use Rattle.any_lock.proofs.Steps.{opened-mine, standing-other}
+use Rattle.any_lock.proofs.Steps.{opened-mine, process_view-other}
 use Rattle.judge.proofs.Opened.{Fits, FitsNext, LeadsOn, open_by, same_copy, write_leads}
 use Rattle.judge.proofs.StepMarks.{plain_closing, plain_step}
 
@@ -37,16 +37,16 @@ new_fits c part = go (is_read part)
     go false = refl
 
 -- a call enters a part with no open access
-enter_fits : (s : Setup) (p : ℕ) (command : Command) (number : ℕ) (part : Part) (o : Option Begun) (flick : Bool) → o ≡ None →
+enter_fits : (s : Setup) (p : ℕ) (command : Command) (number : ℕ) (part : Part) (o : Option BegunAccess) (flick : Bool) → o ≡ None →
     FitsNext o (next_of s p (runs command number (enter (call s p command number) part)) flick)
-enter_fits s p command number part o flick none = subst (λ (x : Option Begun). FitsNext x (next_of s p (runs command number (enter (call s p command number) part)) flick)) (sym none) (go (is_over part))
+enter_fits s p command number part o flick none = subst (λ (x : Option BegunAccess). FitsNext x (next_of s p (runs command number (enter (call s p command number) part)) flick)) (sym none) (go (is_over part))
   where
     go : (b : Bool) → FitsNext None (next_of s p (cond b Rests (Runs command number (enter (call s p command number) part))) flick)
     go true = refl
     go false = new_fits (call s p command number) part
 
 -- a register access continues
-still_fits : (s : Setup) (p : ℕ) (command : Command) (number : ℕ) (part : Part) (run : Run) (o : Option Begun) (flick : Bool) → is_over part ≡ false → Fits o (access_at (call s p command number) part run) →
+still_fits : (s : Setup) (p : ℕ) (command : Command) (number : ℕ) (part : Part) (run : Run) (o : Option BegunAccess) (flick : Bool) → is_over part ≡ false → Fits o (access_at (call s p command number) part run) →
     FitsNext o (next_of s p (runs command number (record { part = part; run = run })) flick)
 still_fits s p command number part run o flick over fits =
     subst (λ b. FitsNext o (next_of s p (cond b Rests (Runs command number (record { part = part; run = run }))) flick)) (sym over) fits
@@ -59,7 +59,7 @@ place_fits s p command number part (Writing w) torn entry u v flick over l = go 
     c : Call
     c = call s p command number
 
-    o : Option Begun
+    o : Option BegunAccess
     o = open_by entry (ended_with u (access_at c part (Writing w)))
 
     leads : LeadsOn p (written_at c part).0 (written_at c part).1 o w.width (write_moved s.processes (written_at c part).1 w)
@@ -102,14 +102,14 @@ closing_fits : (s : Setup) (p : ℕ) (command : Command) (number : ℕ) (at : Cl
     LeftClosing (call s p command number) torn at → ended_with u n.access ≡ n.access → n.access.reader < s.processes →
     FitsNext (open_by entry n.access) (next_of s p (closes command number (closing_after (call s p command number) at flick)) now)
 closing_fits s p command number at flick n torn entry u now next l same below =
-    subst (λ (o : Option Begun). FitsNext o (next_of s p (closes command number (closing_after (call s p command number) at flick)) now)) (ap (open_by entry) same)
+    subst (λ (o : Option BegunAccess). FitsNext o (next_of s p (closes command number (closing_after (call s p command number) at flick)) now)) (ap (open_by entry) same)
     (subst (λ (a : Access). FitsNext (open_by entry (ended_with u a)) (next_of s p (closes command number (closing_after (call s p command number) at flick)) now)) (ap access_in next)
     (go at next l (subst (λ (a : Access). a.reader < s.processes) (sym (ap access_in next)) below)))
   where
     c : Call
     c = call s p command number
 
-    X : Closing → Option Begun → Type 0
+    X : Closing → Option BegunAccess → Type 0
     X at o = FitsNext o (next_of s p (closes command number at) now)
 
     go : (at : Closing) → closing_next c at flick ≡ Some n → LeftClosing c torn at → (access_in (closing_next c at flick)).reader < s.processes → X (closing_after c at flick) (open_by entry (ended_with u (access_in (closing_next c at flick))))
@@ -154,7 +154,7 @@ closing_fits s p command number at flick n torn entry u now next l same below =
         leads = write_leads s.processes p Ticket (no_ticket c) w entry u l.goes.inside
 
         by : (b : Bool) → is_last_written c (no_ticket c) w ≡ b → X (cond b (Lowers (new_write 1)) (Frees is (write_moved s.processes (no_ticket c) w))) (open_by entry (ended_with u (access_of p Ticket (next_written (no_ticket c) w))))
-        by true last = subst (λ (o : Option Begun). X (Lowers (new_write 1)) o) (sym (leads.done last)) refl
+        by true last = subst (λ (o : Option BegunAccess). X (Lowers (new_write 1)) o) (sym (leads.done last)) refl
         by false more = leads.going more
     go (Lowers w) h l below = by (is_last_written c (false ∷ []) w) refl
       where
@@ -170,7 +170,7 @@ closing_fits s p command number at flick n torn entry u now next l same below =
 -- Entries.
 
 -- plain marks do not change the open access
-open_plain : (o : Option Begun) (ms : List Mark) → ArePlain ms → fold left_open o ms ≡ o
+open_plain : (o : Option BegunAccess) (ms : List Mark) → ArePlain ms → fold left_open o ms ≡ o
 open_plain o [] h = refl
 open_plain o (mark.Called c ∷ ms) h = absurd (true≢false h)
 open_plain o (mark.Failed ∷ ms) h = absurd (true≢false h)
@@ -193,7 +193,7 @@ abbrev pub Opens : Setup → Past → ℕ → Type 0
 Opens s past p = (flick : Bool) → FitsNext (opened p past) (next_of s p (doing s p past) flick)
 
 -- a waiting process has no open write
-read_only : (s : Setup) (p : ℕ) (command : Command) (number t : ℕ) (w : Wait) (ws : List Wait) (run : Run) (torn : Option Access) (o : Option Begun) →
+read_only : (s : Setup) (p : ℕ) (command : Command) (number t : ℕ) (w : Wait) (ws : List Wait) (run : Run) (torn : Option Access) (o : Option BegunAccess) →
     LeftRun (call s p command number) torn (Waits t w ws) run → Fits o (access_at (call s p command number) (Waits t w ws) run) → write_of o ≡ None
 read_only s p command number t w ws (Writing n) torn o l fits = absurd (true≢false l.0)
 read_only s p command number t w ws (Reading bits false) torn o l fits = ap write_of fits
@@ -201,7 +201,7 @@ read_only s p command number t w ws (Reading bits true) torn None l fits = refl
 read_only s p command number t w ws (Reading bits true) torn (Some b) l fits =
     of_read b.access.how (and_parts (same_bit b.access (access_at (call s p command number) (Waits t w ws) (Reading bits true))) (reads b.access.how) fits).1
   where
-    of_read : (m : Move) → reads m ≡ true → elim m as (λ _. Option Begun) [ BeginWrite v ↦ Some b | EndWrite ↦ None | BeginRead ↦ None | EndRead v ↦ None | Settle v ↦ None ] ≡ None
+    of_read : (m : Move) → reads m ≡ true → elim m as (λ _. Option BegunAccess) [ BeginWrite v ↦ Some b | EndWrite ↦ None | BeginRead ↦ None | EndRead v ↦ None | Settle v ↦ None ] ≡ None
     of_read BeginRead r = refl
     of_read (EndRead v) r = refl
     of_read (BeginWrite v) r = absurd (true≢false (sym r))
@@ -213,15 +213,15 @@ opens_by : (s : Setup) (past : Past) (e : Entry) (torn : Option Access) (d' : Do
 opens_by s past e torn d' (a_call command number i none m k) l there before flick =
     let now : opened e.process (e ∷ past) ≡ None = opened_marked past e (mark.Called command) none m ∙ subst (λ d. FitsNext (opened e.process past) (next_of s e.process d flick)) i (before flick) in
     subst (λ d. FitsNext (opened e.process (e ∷ past)) (next_of s e.process d flick)) (sym k)
-    (subst (λ (o : Option Begun). FitsNext o (next_of s e.process (Runs command number (enter (call s e.process command number) Raises)) flick)) (sym now) refl)
+    (subst (λ (o : Option BegunAccess). FitsNext o (next_of s e.process (Runs command number (enter (call s e.process command number) Raises)) flick)) (sym now) refl)
 opens_by s past e torn d' (a_withdrawal command number t w ws run i none m k) l there before flick =
     let was : Fits (opened e.process past) (access_at (call s e.process command number) (Waits t w ws) run) = subst (λ d. FitsNext (opened e.process past) (next_of s e.process d flick)) i (before flick) in
     let now : opened e.process (e ∷ past) ≡ None = opened_marked past e mark.Withdrew none m ∙ read_only s e.process command number t w ws run torn (opened e.process past) (subst (LeftIn s e.process torn) i l) was in
     subst (λ d. FitsNext (opened e.process (e ∷ past)) (next_of s e.process d flick)) (sym k)
-    (subst (λ (o : Option Begun). FitsNext o (next_of s e.process (Closes command number (Withdraws (new_write s.ticket_bits))) flick)) (sym now) refl)
+    (subst (λ (o : Option BegunAccess). FitsNext o (next_of s e.process (Closes command number (Withdraws (new_write s.ticket_bits))) flick)) (sym now) refl)
 opens_by s past e torn d' (a_failure command number may none m k) l there before flick =
     subst (λ d. FitsNext (opened e.process (e ∷ past)) (next_of s e.process d flick)) (sym k)
-    (subst (λ (o : Option Begun). FitsNext o (next_of s e.process (Closes command number (failing (call s e.process command number) (own e.process past))) flick)) (sym (opened_marked past e mark.Failed none m))
+    (subst (λ (o : Option BegunAccess). FitsNext o (next_of s e.process (Closes command number (failing (call s e.process command number) (own e.process past))) flick)) (sym (opened_marked past e mark.Failed none m))
     (unit_fits s e.process command number (own e.process past) (unfinished s.processes (last_write (own e.process past))) flick))
 opens_by s past e torn d' (a_restart i none m k) l there before flick =
     subst (λ d. FitsNext (opened e.process (e ∷ past)) (next_of s e.process d flick)) (sym k)
@@ -230,23 +230,23 @@ opens_by s past e torn d' (a_step command number at a now i over acc made m k) l
     let c : Call = call s e.process command number in
     let x : Access = access_at c at.part at.run in
     subst (λ d. FitsNext (opened e.process (e ∷ past)) (next_of s e.process d flick)) (sym k)
-    (subst (λ (o : Option Begun). FitsNext o (next_of s e.process (runs command number (place_after c at (value_of a.how))) flick))
+    (subst (λ (o : Option BegunAccess). FitsNext o (next_of s e.process (runs command number (place_after c at (value_of a.how))) flick))
     (sym (opened_access past e a acc (plain_step c at (value_of a.how) (length (history s past)) e.marks m) ∙ ap (open_by (length past)) made))
     (place_fits s e.process command number at.part at.run torn (length past) (read_value (opening_bit s x) (moves_of x past) now) (value_of a.how) flick over (subst (LeftIn s e.process torn) i l)))
 opens_by s past e torn d' (a_closing command number at now n i next acc same m k) l there before flick =
     let c : Call = call s e.process command number in
     subst (λ d. FitsNext (opened e.process (e ∷ past)) (next_of s e.process d flick)) (sym k)
-    (subst (λ (o : Option Begun). FitsNext o (next_of s e.process (closes command number (closing_after c at now)) flick))
+    (subst (λ (o : Option BegunAccess). FitsNext o (next_of s e.process (closes command number (closing_after c at now)) flick))
     (sym (opened_access past e n.access acc (plain_closing c at now n next (length (history s past)) e.marks m)))
     (closing_fits s e.process command number at now n torn (length past) (read_value (opening_bit s n.access) (moves_of n.access past) now) flick next (subst (LeftIn s e.process torn) i l) same (there n.access acc).reader))
 
 -- In the record of every list of events, the open access of each process fits its next one.
 pub opens : (s : Setup) → IsGood s → (events : List Event) (p : ℕ) → Opens s (past_of s events) p
 opens s g = own-induction s (Opens s) (λ p flick. refl) others
-    (λ events event e is before. opens_by s (past_of s events) e (left s (own e.process (past_of s events))) (doing s e.process (e ∷ past_of s events)) (accepted s g events event e is).happens (left-is s g events e.process)
+    (λ events event e is before. opens_by s (past_of s events) e (remaining s (own e.process (past_of s events))) (doing s e.process (e ∷ past_of s events)) (accepted s g events event e is).happens (remaining-is s g events e.process)
     (access_there s g events event e is) before)
   where
     others : (past : Past) (e : Entry) (p : ℕ) → e.process ≢ p → Opens s past p → Opens s (e ∷ past) p
     others past e p apart before flick =
         subst (λ d. FitsNext (opened p (e ∷ past)) (next_of s p d flick)) (sym (doing-other s p e past apart))
-        (subst (λ (o : Option Begun). FitsNext o (next_of s p (doing s p past) flick)) (sym (ap (λ (k : Standing). k.opened) (standing-other s p e past (ne_eqb e.process p apart)))) (before flick))
+        (subst (λ (o : Option BegunAccess). FitsNext o (next_of s p (doing s p past) flick)) (sym (ap (λ (k : ProcessView). k.opened) (process_view-other s p e past (ne_eqb e.process p apart)))) (before flick))

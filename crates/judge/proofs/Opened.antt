@@ -6,19 +6,19 @@ use Rattle.model.specs.safe_bit.{Move}
 use Rattle.model.specs.safe_bit.declared.Move.TheVariants.{BeginWrite, EndWrite}
 use Rattle.model.specs.safe_number.{NumberWrite, write_on}
 use Rattle.model.specs.{Access, Field, access_of, bit_written, ended_with, field_number, next_written, same_bit, write_moved}
-use Rattle.any_lock.specs.{Begun, begun_by, ends, is_end_of}
+use Rattle.any_lock.specs.{BegunAccess, begun_by, ends, is_end_of}
 
 -- the open access fits the next one
-abbrev pub Fits : Option Begun → Access → Type 0
+abbrev pub Fits : Option BegunAccess → Access → Type 0
 Fits o a = elim (ends a.how) as (λ _. Type 0) [ true ↦ is_end_of o a ≡ true | false ↦ o ≡ None ]
 
 -- the open access fits the next one, if there is one; otherwise no access is open
-abbrev pub FitsNext : Option Begun → Option Access → Type 0
+abbrev pub FitsNext : Option BegunAccess → Option Access → Type 0
 FitsNext o None = o ≡ None
 FitsNext o (Some a) = Fits o a
 
 -- the access that is open after the access of entry n
-abbrev pub open_by : ℕ → Access → Option Begun
+abbrev pub open_by : ℕ → Access → Option BegunAccess
 open_by n x = begun_by n (Some x) None
 
 -- Accesses of one bit.
@@ -33,7 +33,7 @@ same_copy p f k r q how then h = λ i. alike k i && eq-eqb r q h i && alike p i 
 -- Open writes.
 
 -- the state after an access of a write: within the write the open access fits the next one, and after it no access is open
-pub record LeadsOn (p : ℕ) (f : Field) (bits : List Bool) (o : Option Begun) (width : ℕ) (to : NumberWrite) : Type 0 where
+pub record LeadsOn (p : ℕ) (f : Field) (bits : List Bool) (o : Option BegunAccess) (width : ℕ) (to : NumberWrite) : Type 0 where
   pub going : (to.bit == width) ≡ false → Fits o (access_of p f (next_written bits to))
   pub done : (to.bit == width) ≡ true → o ≡ None
 

@@ -12,7 +12,7 @@ use Rattle.model.specs.Parts as part
 use Rattle.any_lock.specs.safe_monitor.laws.{Closes, call, is_inside_at, is_inside_closing}
 use Rattle.any_lock.proofs.safe_monitor.laws.Alone.{SettlesInside}
 use Rattle.judge.proofs.history_laws.Took.{TookAt, TookIn}
-use Rattle.any_lock.specs.{Standing, is_in_doorway, is_leaving, is_withdrawn, marked}
+use Rattle.any_lock.specs.{ProcessView, is_in_doorway, is_leaving, is_withdrawn, marked}
 use Rattle.any_lock.proofs.Took.{Takes}
 use Rattle.judge.proofs.PlainMarks.{Fine, MayAnswer, answers, fine_entered, fine_more, fine_one, fits_answer, leaves, lies_down, no_reply, settles, takes, waits}
 use Rattle.judge.proofs.Withdrawals.{WithdrawnIn, answers_withdrawn}
@@ -20,7 +20,7 @@ use Rattle.judge.proofs.Withdrawals.{WithdrawnIn, answers_withdrawn}
 -- Marks at a place.
 
 -- the state of a process after the access of a part, before the marks; last: it is the last one of its part
-pub record AtPart (k : Standing) (ts : List (ℕ × Reply)) (c : Call) (x : Part) (fresh last : Bool) (bits : List Bool) : Type 0 where
+pub record AtPart (k : ProcessView) (ts : List (ℕ × Reply)) (c : Call) (x : Part) (fresh last : Bool) (bits : List Bool) : Type 0 where
   pub at_stage : k.stage ≡ stage_of x fresh
   pub inside : k.passage.inside ≡ is_inside_at x fresh
   pub unwithdrawn : k.withdrawn ≡ false
@@ -41,7 +41,7 @@ not_withdrawn answer.Withdrawn h = h
 not_withdrawn _ h = refl
 
 -- an answer of a call that was not withdrawn
-may_answer : (k : Standing) (ts : List (ℕ × Reply)) (a : Answer) → (is_in_doorway k.stage || is_leaving k.stage) ≡ true → k.withdrawn ≡ false → is_withdrawn a ≡ false → Takes k.reply ts → IsAnswerTo a ts → k.opened ≡ None → MayAnswer k a
+may_answer : (k : ProcessView) (ts : List (ℕ × Reply)) (a : Answer) → (is_in_doorway k.stage || is_leaving k.stage) ≡ true → k.withdrawn ≡ false → is_withdrawn a ≡ false → Takes k.reply ts → IsAnswerTo a ts → k.opened ≡ None → MayAnswer k a
 may_answer k ts a st unwithdrawn other replies took closed =
     let fits = fits_answer a k.reply ts replies took in
     record {
@@ -54,17 +54,17 @@ may_answer k ts a st unwithdrawn other replies took closed =
     }
 
 module _ (s : Setup) (n place : ℕ) where
-  clears_fine : (k : Standing) (ts : List (ℕ × Reply)) (c : Call) (a : Answer) (fresh last : Bool) (bits : List Bool) → AtPart k ts c (Clears a) fresh last bits → Fine s n place k (cond fresh (Left ∷ []) [] ++ cond last (Answered a ∷ []) [])
+  clears_fine : (k : ProcessView) (ts : List (ℕ × Reply)) (c : Call) (a : Answer) (fresh last : Bool) (bits : List Bool) → AtPart k ts c (Clears a) fresh last bits → Fine s n place k (cond fresh (Left ∷ []) [] ++ cond last (Answered a ∷ []) [])
   clears_fine k ts c a true true bits at =
-      let left : Standing = marked s n k Left in
+      let remaining : ProcessView = marked s n k Left in
       fine_more s n place k Left (Answered a ∷ []) (leaves k at.inside)
-      (fine_one s n place left (Answered a) (answers left a (may_answer left ts a (ap (λ x. is_in_doorway (stage_after x Left) || is_leaving (stage_after x Left)) at.at_stage) at.unwithdrawn (not_withdrawn a at.other) at.replies at.took (at.closed refl refl))))
+      (fine_one s n place remaining (Answered a) (answers remaining a (may_answer remaining ts a (ap (λ x. is_in_doorway (stage_after x Left) || is_leaving (stage_after x Left)) at.at_stage) at.unwithdrawn (not_withdrawn a at.other) at.replies at.took (at.closed refl refl))))
   clears_fine k ts c a true false bits at = fine_one s n place k Left (leaves k at.inside)
   clears_fine k ts c a false true bits at =
       fine_one s n place k (Answered a) (answers k a (may_answer k ts a (ap (λ x. is_in_doorway x || is_leaving x) at.at_stage) at.unwithdrawn (not_withdrawn a at.other) at.replies at.took (at.closed refl refl)))
   clears_fine k ts c a false false bits at = refl
 
-  pub part_fine : (k : Standing) (ts : List (ℕ × Reply)) (c : Call) (x : Part) (fresh last : Bool) (bits : List Bool) → AtPart k ts c x fresh last bits → Fine s n place k (cond fresh (first_marks x) [] ++ cond last (last_marks c x bits) [])
+  pub part_fine : (k : ProcessView) (ts : List (ℕ × Reply)) (c : Call) (x : Part) (fresh last : Bool) (bits : List Bool) → AtPart k ts c x fresh last bits → Fine s n place k (cond fresh (first_marks x) [] ++ cond last (last_marks c x bits) [])
   part_fine k ts c (part.Lowers t) fresh last bits at = only_last (Fine s n place k) fresh last (Waiting t ∷ entered_if_none (waits_of c)) refl
       (λ _. fine_more s n place k (Waiting t) (entered_if_none (waits_of c)) (waits k t at.at_stage) (fine_entered s n place (marked s n k (Waiting t)) (waits_of c) refl))
   part_fine k ts c (Refuses f) fresh last bits at = only_last (Fine s n place k) fresh last (Answered (answer.TicketsFull f) ∷ []) refl
@@ -99,7 +99,7 @@ is_settler (Settles f bit begun taken is t) = true
 is_settler _ = false
 
 -- the state of a process after the access of a closing, before the marks
-pub record AtClosing (s : Setup) (p : ℕ) (k : Standing) (ts : List (ℕ × Reply)) (command : Command) (number : ℕ) (x : Closing) (flick : Bool) : Type 0 where
+pub record AtClosing (s : Setup) (p : ℕ) (k : ProcessView) (ts : List (ℕ × Reply)) (command : Command) (number : ℕ) (x : Closing) (flick : Bool) : Type 0 where
   pub at_stage : k.stage ≡ closing_stage x
   pub inside : k.passage.inside ≡ is_inside_closing x
   pub withdrawn : WithdrawnIn k.withdrawn (Closes command number x)
@@ -121,7 +121,7 @@ takes_inside f by is r some version none = go (is_commit f) refl
     go true h = version (commits_version f h)
     go false h = let g : Some r ≡ None = sym some ∙ none h in cc
 
-module _ (s : Setup) (n place : ℕ) (p : ℕ) (k : Standing) (ts : List (ℕ × Reply)) (command : Command) (number : ℕ) (flick : Bool) where
+module _ (s : Setup) (n place : ℕ) (p : ℕ) (k : ProcessView) (ts : List (ℕ × Reply)) (command : Command) (number : ℕ) (flick : Bool) where
   abbrev c : Call
   c = call s p command number
 

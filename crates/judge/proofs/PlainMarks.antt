@@ -6,33 +6,33 @@ use Rattle.plain_store.specs.declared.Answer.TheVariants as answer
 use Rattle.model.specs.{IsAnswerTo, Mark, Wait, entered_if_none, is_waiting_stage, placed}
 use Rattle.model.specs.declared.marks.Mark.TheVariants.{Waiting, Entered, Taken, Left, Answered, Settled, Down}
 use Rattle.model.specs.declared.stages.Stage.TheVariants as stages
-use Rattle.any_lock.specs.{MarkRefusal, Standing, first_that, has_other_reply, is_in_doorway, is_leaving, is_reply, is_settling, is_withdrawn, mark_refusal, marked, refusal_on}
+use Rattle.any_lock.specs.{MarkRefusal, ProcessView, first_that, has_other_reply, is_in_doorway, is_leaving, is_reply, is_settling, is_withdrawn, mark_refusal, marked, refusal_on}
 use Rattle.any_lock.specs.declared.refusals.MarkRefusal.TheVariants as refusal
 use Rattle.any_lock.proofs.Took.{Takes}
 use Rattle.judge.proofs.SameReply.{same_as_itself}
 
 -- One mark.
 
-pub waits : (k : Standing) (t : ℕ) → k.stage ≡ stages.Doorway → mark_refusal k (Waiting t) ≡ None
+pub waits : (k : ProcessView) (t : ℕ) → k.stage ≡ stages.Doorway → mark_refusal k (Waiting t) ≡ None
 waits k t st = ap (λ x. first_that ((not (is_in_doorway x), refusal.NotInDoorway) ∷ [])) st
 
-pub enters : (k : Standing) → k.stage ≡ stages.Waiting → mark_refusal k Entered ≡ None
+pub enters : (k : ProcessView) → k.stage ≡ stages.Waiting → mark_refusal k Entered ≡ None
 enters k st = ap (λ x. first_that ((not (is_waiting_stage x), refusal.NotWaiting) ∷ [])) st
 
-pub leaves : (k : Standing) → k.passage.inside ≡ true → mark_refusal k Left ≡ None
+pub leaves : (k : ProcessView) → k.passage.inside ≡ true → mark_refusal k Left ≡ None
 leaves k is = ap (λ x. first_that ((not x, refusal.NotInside) ∷ [])) is
 
-pub takes : (k : Standing) (n : ℕ) (r : Reply) → k.passage.inside ≡ true → k.reply ≡ None → mark_refusal k (Taken n r) ≡ None
+pub takes : (k : ProcessView) (n : ℕ) (r : Reply) → k.passage.inside ≡ true → k.reply ≡ None → mark_refusal k (Taken n r) ≡ None
 takes k n r is none = λ i. first_that ((not (is i), refusal.NotInside) ∷ (is_some (none i), refusal.TakenBefore) ∷ [])
 
-pub settles : (k : Standing) (v : Bool) → k.stage ≡ stages.Settling → k.torn ≡ None → mark_refusal k (Settled v) ≡ None
+pub settles : (k : ProcessView) (v : Bool) → k.stage ≡ stages.Settling → k.torn ≡ None → mark_refusal k (Settled v) ≡ None
 settles k v st none = λ i. first_that ((not (is_settling (st i)), refusal.NotSettling) ∷ (is_some (none i), refusal.Torn) ∷ [])
 
-pub lies_down : (k : Standing) → k.stage ≡ stages.Settling → k.passage.inside ≡ false → k.opened ≡ None → k.torn ≡ None → mark_refusal k Down ≡ None
+pub lies_down : (k : ProcessView) → k.stage ≡ stages.Settling → k.passage.inside ≡ false → k.opened ≡ None → k.torn ≡ None → mark_refusal k Down ≡ None
 lies_down k st out closed whole = λ i. first_that ((not (is_settling (st i)), refusal.NotSettling) ∷ (out i, refusal.StillInside) ∷ (is_some (closed i), refusal.AccessOpen) ∷ (is_some (whole i), refusal.Torn) ∷ [])
 
 -- the facts about an answer that is not refused
-pub record MayAnswer (k : Standing) (a : Answer) : Type 0 where
+pub record MayAnswer (k : ProcessView) (a : Answer) : Type 0 where
   pub at_stage : (is_in_doorway k.stage || is_leaving k.stage) ≡ true
   pub withdrawn : (k.withdrawn && not (is_withdrawn a)) ≡ false
   pub same : has_other_reply k.reply a ≡ false
@@ -40,7 +40,7 @@ pub record MayAnswer (k : Standing) (a : Answer) : Type 0 where
   pub unwithdrawn : (not k.withdrawn && is_withdrawn a) ≡ false
   pub closed : k.opened ≡ None
 
-pub answers : (k : Standing) (a : Answer) → MayAnswer k a → mark_refusal k (Answered a) ≡ None
+pub answers : (k : ProcessView) (a : Answer) → MayAnswer k a → mark_refusal k (Answered a) ≡ None
 answers k a h = λ i. first_that (
     (not (h.at_stage i), refusal.NotLeaving)
     ∷ (h.withdrawn i, refusal.WasWithdrawn)
@@ -75,17 +75,17 @@ fits_answer answer.Withdrawn o ts h is = let none : o ≡ None = no_reply o ts h
 -- Marks one after the other.
 
 -- marks that get this position are not refused
-abbrev pub Fine : Setup → ℕ → ℕ → Standing → List Mark → Type 0
+abbrev pub Fine : Setup → ℕ → ℕ → ProcessView → List Mark → Type 0
 Fine s n place k ms = refusal_on s n k (map (placed place) ms) ≡ None
 
-pub fine_more : (s : Setup) (n place : ℕ) (k : Standing) (m : Mark) (ms : List Mark) → mark_refusal k (placed place m) ≡ None → Fine s n place (marked s n k (placed place m)) ms → Fine s n place k (m ∷ ms)
+pub fine_more : (s : Setup) (n place : ℕ) (k : ProcessView) (m : Mark) (ms : List Mark) → mark_refusal k (placed place m) ≡ None → Fine s n place (marked s n k (placed place m)) ms → Fine s n place k (m ∷ ms)
 fine_more s n place k m ms h rest =
     ap (λ r. elim r as (λ _. Option MarkRefusal) [ Some r ↦ Some r | None ↦ refusal_on s n (marked s n k (placed place m)) (map (placed place) ms) ]) h ∙ rest
 
-pub fine_one : (s : Setup) (n place : ℕ) (k : Standing) (m : Mark) → mark_refusal k (placed place m) ≡ None → Fine s n place k (m ∷ [])
+pub fine_one : (s : Setup) (n place : ℕ) (k : ProcessView) (m : Mark) → mark_refusal k (placed place m) ≡ None → Fine s n place k (m ∷ [])
 fine_one s n place k m h = fine_more s n place k m [] h refl
 
 -- a process that waits for no other enters
-pub fine_entered : (s : Setup) (n place : ℕ) (k : Standing) (ws : List Wait) → k.stage ≡ stages.Waiting → Fine s n place k (entered_if_none ws)
+pub fine_entered : (s : Setup) (n place : ℕ) (k : ProcessView) (ws : List Wait) → k.stage ≡ stages.Waiting → Fine s n place k (entered_if_none ws)
 fine_entered s n place k [] st = fine_one s n place k Entered (enters k st)
 fine_entered s n place k (w ∷ ws) st = refl

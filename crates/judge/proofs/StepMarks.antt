@@ -12,7 +12,7 @@ use Rattle.any_lock.proofs.safe_monitor.laws.AtPlaces.{IsOfLock, any-closing, an
 use Rattle.any_lock.proofs.Markings.{ArePlain}
 
 of_plain : IsOfLock stands_alone
-of_plain = record { taken = λ k r. refl; left = refl; settled = λ v. refl; down = refl; withdrawn = refl }
+of_plain = record { taken = λ k r. refl; remaining = refl; settled = λ v. refl; down = refl; withdrawn = refl }
 
 entered_plain : (ws : List Wait) → ArePlain (entered_if_none ws)
 entered_plain [] = refl

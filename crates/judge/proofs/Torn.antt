@@ -9,27 +9,27 @@ use Rattle.plain_store.specs.{Command, Reply, Setup}
 use Rattle.model.specs.Closings.{Closing, Withdraws, Settles, Frees, Lowers, Quit, Ended, closing_after, closing_next, freeing, is_last_written, no_ticket}
 use Rattle.model.proofs.PlaceTurns.{access_in}
 use Rattle.any_lock.specs.safe_monitor.laws.{Doing, Rests, Runs, Closes, call, closes, runs}
-use Rattle.any_lock.specs.{Begun, settles, torn, torn_after}
+use Rattle.any_lock.specs.{BegunAccess, settles, torn, torn_after}
 
 -- Torn bits.
 
 -- the torn bit is a copy that the unit still has to settle, or no bit is torn and no such copy is open
-pub data TornBy (n p : ℕ) (f : Field) (bit : ℕ) (t : copies.Settling) (torn : Option Begun) : Type 0 where
+pub data TornBy (n p : ℕ) (f : Field) (bit : ℕ) (t : copies.Settling) (torn : Option BegunAccess) : Type 0 where
   settled : torn ≡ None → ((r : ℕ) → t.reader ≤ r → r < n → t.made ≢ 2 * r + 1) → TornBy n p f bit t torn
-  comes : (b : Begun) → torn ≡ Some b → b.access.owner ≡ p → b.access.field ≡ f → b.access.bit ≡ bit → t.reader ≤ b.access.reader → b.access.reader < n → t.made ≡ 2 * b.access.reader + 1 → TornBy n p f bit t torn
+  comes : (b : BegunAccess) → torn ≡ Some b → b.access.owner ≡ p → b.access.field ≡ f → b.access.bit ≡ bit → t.reader ≤ b.access.reader → b.access.reader < n → t.made ≡ 2 * b.access.reader + 1 → TornBy n p f bit t torn
 
 -- and if the unit has begun an access of a copy, that copy was not open
-pub record TornAt (n p : ℕ) (f : Field) (bit : ℕ) (t : copies.Settling) (torn : Option Begun) : Type 0 where
+pub record TornAt (n p : ℕ) (f : Field) (bit : ℕ) (t : copies.Settling) (torn : Option BegunAccess) : Type 0 where
   pub by : TornBy n p f bit t torn
   pub apart : t.begun ≡ true → t.made ≢ 2 * t.reader + 1
 
-abbrev pub TornIn : Setup → ℕ → Option Begun → Doing → Type 0
+abbrev pub TornIn : Setup → ℕ → Option BegunAccess → Doing → Type 0
 TornIn s p torn (Closes command number (Settles f bit begun by is t)) = TornAt s.processes p f bit t torn
 TornIn s p torn _ = torn ≡ None
 
 -- The torn bit after an access.
 
-pub runs_none : (s : Setup) (p : ℕ) (torn : Option Begun) (command : Command) (number : ℕ) (at : Place) → torn ≡ None → TornIn s p torn (runs command number at)
+pub runs_none : (s : Setup) (p : ℕ) (torn : Option BegunAccess) (command : Command) (number : ℕ) (at : Place) → torn ≡ None → TornIn s p torn (runs command number at)
 runs_none s p torn command number at h = go (is_over at.part)
   where
     go : (b : Bool) → TornIn s p torn (cond b Rests (Runs command number at))
@@ -37,7 +37,7 @@ runs_none s p torn command number at h = go (is_over at.part)
     go false = h
 
 -- after an access that settles a copy, or another one of a unit that settles
-settles_on : (s : Setup) (p : ℕ) (command : Command) (number : ℕ) (f : Field) (bit : ℕ) (begun : Bool) (taken : Option Reply) (is : Bool) (t : copies.Settling) (flick : Bool) (torn : Option Begun) → TornAt s.processes p f bit t torn → t.reader < s.processes →
+settles_on : (s : Setup) (p : ℕ) (command : Command) (number : ℕ) (f : Field) (bit : ℕ) (begun : Bool) (taken : Option Reply) (is : Bool) (t : copies.Settling) (flick : Bool) (torn : Option BegunAccess) → TornAt s.processes p f bit t torn → t.reader < s.processes →
     TornIn s p (torn_after (Some (access_in (closing_next (call s p command number) (Settles f bit begun taken is t) flick))) torn) (closes command number (closing_after (call s p command number) (Settles f bit begun taken is t) flick))
 settles_on s p command number f bit begun taken is t flick torn at below = go t.begun refl (copies.is_open_at t.made t.reader) refl
   where
@@ -57,7 +57,7 @@ settles_on s p command number f bit begun taken is t flick torn at below = go t.
     then last b = closes command number (cond last (freeing c is) (Settles f bit begun taken is (to b)))
 
     -- the next copy, if this one is not torn
-    past_it : (o : Option Begun) → TornBy s.processes p f bit t o → t.made ≢ 2 * t.reader + 1 → (last : Bool) → (t.reader + 1 == s.processes) ≡ last → TornIn s p o (then last true)
+    past_it : (o : Option BegunAccess) → TornBy s.processes p f bit t o → t.made ≢ 2 * t.reader + 1 → (last : Bool) → (t.reader + 1 == s.processes) ≡ last → TornIn s p o (then last true)
     past_it o (settled none all) other true h = none
     past_it o (settled none all) other false h = record { by = settled none (λ r low. all r (omega (arith, low))); apart = λ b. absurd (true≢false (sym b)) }
     past_it o (comes b torn_is owner field its low high made) other true h =
@@ -73,7 +73,7 @@ settles_on s p command number f bit begun taken is t flick torn at below = go t.
     behind_it was false = record { by = settled refl (λ r low high same. omega (arith, was, low, same)); apart = λ b. absurd (true≢false (sym b)) }
 
     -- this copy again
-    on_it : (o : Option Begun) → TornBy s.processes p f bit t o → t.made ≢ 2 * t.reader + 1 → (last : Bool) → (t.reader == s.processes) ≡ last → TornIn s p o (then last false)
+    on_it : (o : Option BegunAccess) → TornBy s.processes p f bit t o → t.made ≢ 2 * t.reader + 1 → (last : Bool) → (t.reader == s.processes) ≡ last → TornIn s p o (then last false)
     on_it o by other true h = let all : t.reader ≡ s.processes = eqb-true t.reader s.processes h in absurd (omega (arith, below, all))
     on_it o (settled none all) other false h = record { by = settled none all; apart = λ _. other }
     on_it o (comes b torn_is owner field its low high made) other false h = record { by = comes b torn_is owner field its low high made; apart = λ _. other }
@@ -87,12 +87,12 @@ pub never_torn : (o : Option Access) → torn_after o None ≡ None
 never_torn None = refl
 never_torn (Some a) = go (settles a.how)
   where
-    go : (b : Bool) → cond {A = Option Begun} b None None ≡ None
+    go : (b : Bool) → cond {A = Option BegunAccess} b None None ≡ None
     go true = refl
     go false = refl
 
 -- after any access of a closing
-pub closing_torn : (s : Setup) (p : ℕ) (command : Command) (number : ℕ) (at : Closing) (flick : Bool) (n : Next) (torn : Option Begun) → closing_next (call s p command number) at flick ≡ Some n → TornIn s p torn (Closes command number at) → n.access.reader < s.processes →
+pub closing_torn : (s : Setup) (p : ℕ) (command : Command) (number : ℕ) (at : Closing) (flick : Bool) (n : Next) (torn : Option BegunAccess) → closing_next (call s p command number) at flick ≡ Some n → TornIn s p torn (Closes command number at) → n.access.reader < s.processes →
     TornIn s p (torn_after (Some n.access) torn) (closes command number (closing_after (call s p command number) at flick))
 closing_torn s p command number at flick n torn next h below =
     subst (λ (a : Access). TornIn s p (torn_after (Some a) torn) (closes command number (closing_after c at flick))) (ap access_in next) (go at next h (subst (λ (a : Access). a.reader < s.processes) (sym (ap access_in next)) below))

@@ -13,13 +13,13 @@ use Rattle.any_lock.specs.safe_monitor.laws.{Closes, Doing, IsThere, Rests, Runs
 use Rattle.any_lock.proofs.safe_monitor.laws.AtPlaces.{own-induction}
 use Rattle.any_lock.proofs.safe_monitor.laws.Frame.{Happens, a_call, a_withdrawal, a_failure, a_restart, a_step, a_closing, doing-other, may_fail, own-other, own-own}
 use Rattle.any_lock.proofs.safe_monitor.laws.FrameCells.{ByProcess, EntryBy, makes, marks_only}
-use Rattle.any_lock.proofs.safe_monitor.laws.FrameCuts.{LeftIn, LeftRun, last-made, left, written-writes}
+use Rattle.any_lock.proofs.safe_monitor.laws.FrameCuts.{LeftIn, LeftRun, last-made, remaining, written-writes}
 use Rattle.any_lock.proofs.safe_monitor.laws.FrameEvents.{accepted}
-use Rattle.any_lock.proofs.safe_monitor.laws.FrameSteps.{closing-writes, entry-by, is_write-ended, left-is}
+use Rattle.any_lock.proofs.safe_monitor.laws.FrameSteps.{closing-writes, entry-by, is_write-ended, remaining-is}
 use Rattle.any_lock.proofs.safe_monitor.laws.HeldThere.{access_there}
-use Rattle.any_lock.specs.{Begun, Standing, opened, standing, torn, torn_after, write_of}
+use Rattle.any_lock.specs.{BegunAccess, ProcessView, opened, process_view, torn, torn_after, write_of}
 use Rattle.any_lock.proofs.Markings.{ArePlain, no_failure, none_of}
-use Rattle.any_lock.proofs.Steps.{standing-other, torn-mine}
+use Rattle.any_lock.proofs.Steps.{process_view-other, torn-mine}
 use Rattle.judge.proofs.LastWrites.{IsLast, LastIsOpen, LastIsOpenIn, OpenIsLast, access_last, begun_open, finished, marked_last}
 use Rattle.judge.proofs.OpenDoings.{opened_access}
 use Rattle.judge.proofs.StepMarks.{plain_closing, plain_step}
@@ -34,7 +34,7 @@ pub record IsTorn (s : Setup) (past : Past) (p : ℕ) (d : Doing) : Type 0 where
 -- A failure.
 
 -- the unit settles the bit of the last write, if that is unfinished
-fails_torn : (s : Setup) (p : ℕ) (command : Command) (number : ℕ) (mine : Past) (o : Option Begun) (last : Option Access) → OpenIsLast s p o last → LastIsOpen o last →
+fails_torn : (s : Setup) (p : ℕ) (command : Command) (number : ℕ) (mine : Past) (o : Option BegunAccess) (last : Option Access) → OpenIsLast s p o last → LastIsOpen o last →
     TornIn s p (write_of o) (Closes command number (settling_from (call s p command number) mine (unfinished s.processes last)))
 fails_torn s p command number mine o last open_last last_open = go last refl
   where
@@ -48,12 +48,12 @@ fails_torn s p command number mine o last open_last last_open = go last refl
     T torn = TornIn s p (write_of o) (Closes command number (settling_from c mine torn))
 
     -- the process made no write
-    nothing : last ≡ None → (w : Option Begun) → write_of o ≡ w → write_of o ≡ None
+    nothing : last ≡ None → (w : Option BegunAccess) → write_of o ≡ w → write_of o ≡ None
     nothing is None h = h
     nothing is (Some b) h = let f : None ≡ Some b.access = sym is ∙ (open_last b h).last_is in cc
 
     -- its last write is finished
-    ended : (a : Access) → last ≡ Some a → is_finished n a ≡ true → (w : Option Begun) → write_of o ≡ w → write_of o ≡ None
+    ended : (a : Access) → last ≡ Some a → is_finished n a ≡ true → (w : Option BegunAccess) → write_of o ≡ w → write_of o ≡ None
     ended a is fin None h = h
     ended a is fin (Some b) h =
         let its : IsLast s p last b = open_last b h in
@@ -63,7 +63,7 @@ fails_torn s p command number mine o last open_last last_open = go last refl
         absurd (true≢false (sym fin ∙ ap (λ b. not b && (a.reader + 1 == n)) begins))
 
     -- its last write is not finished
-    cut : (a : Access) → last ≡ Some a → (w : Option Begun) → write_of o ≡ w → T (Some a)
+    cut : (a : Access) → last ≡ Some a → (w : Option BegunAccess) → write_of o ≡ w → T (Some a)
     cut a is None h = by (is_begin a.how) refl
       where
         by : (b : Bool) → is_begin a.how ≡ b → T (Some a)
@@ -88,7 +88,7 @@ fails_torn s p command number mine o last open_last last_open = go last refl
         by false fin = cut a is (write_of o) refl
 
 -- if a process may fail, its last write is open, if it is a begin
-may_cut : (s : Setup) (p : ℕ) (mine : Past) (o : Option Begun) (d : Doing) → may_fail d ≡ true → LeftIn s p (left s mine) d → LastIsOpenIn o (last_write mine) d → LastIsOpen o (last_write mine)
+may_cut : (s : Setup) (p : ℕ) (mine : Past) (o : Option BegunAccess) (d : Doing) → may_fail d ≡ true → LeftIn s p (remaining s mine) d → LastIsOpenIn o (last_write mine) d → LastIsOpen o (last_write mine)
 may_cut s p mine o Rests may l h = finished s.processes (last_write mine) o l
 may_cut s p mine o (Runs command number at) may l h = h
 may_cut s p mine o (Closes command number (Withdraws w)) may l h = h
@@ -96,18 +96,18 @@ may_cut s p mine o _ may l h = absurd (true≢false (sym may))
 
 -- The last write.
 
-unit_last : (o : Option Begun) (last : Option Access) (command : Command) (number : ℕ) (c : Call) (mine : Past) (cut : Option Access) → LastIsOpenIn o last (Closes command number (settling_from c mine cut))
+unit_last : (o : Option BegunAccess) (last : Option Access) (command : Command) (number : ℕ) (c : Call) (mine : Past) (cut : Option Access) → LastIsOpenIn o last (Closes command number (settling_from c mine cut))
 unit_last o last command number c mine None = tt
 unit_last o last command number c mine (Some a) = tt
 
-runs_last : (o : Option Begun) (last : Option Access) (command : Command) (number : ℕ) (at : Place) → LastIsOpen o last → LastIsOpenIn o last (runs command number at)
+runs_last : (o : Option BegunAccess) (last : Option Access) (command : Command) (number : ℕ) (at : Place) → LastIsOpen o last → LastIsOpenIn o last (runs command number at)
 runs_last o last command number at h = go (is_over at.part)
   where
     go : (b : Bool) → LastIsOpenIn o last (cond b Rests (Runs command number at))
     go true = tt
     go false = h
 
-closes_last : (o : Option Begun) (last : Option Access) (command : Command) (number : ℕ) (at : Closing) → LastIsOpen o last → LastIsOpenIn o last (closes command number at)
+closes_last : (o : Option BegunAccess) (last : Option Access) (command : Command) (number : ℕ) (at : Closing) → LastIsOpen o last → LastIsOpenIn o last (closes command number at)
 closes_last o last command number (Withdraws w) h = h
 closes_last o last command number _ h = tt
 
@@ -120,12 +120,12 @@ written_last past e a acc plain writes x unended closed =
     begun_open (length past) a (ap (λ (y : Access). is_begin y.how) same ∙ unended.1) (sym (ap write_of (opened_access past e a acc plain)) ∙ closed)
 
 -- after an access of a read, or none, if no bit is left unfinished
-still_last : (s : Setup) (past : Past) (e : Entry) (o : Option Begun) → last_write (e ∷ own e.process past) ≡ last_write (own e.process past) → left s (own e.process past) ≡ None → LastIsOpen o (last_write (own e.process (e ∷ past)))
+still_last : (s : Setup) (past : Past) (e : Entry) (o : Option BegunAccess) → last_write (e ∷ own e.process past) ≡ last_write (own e.process past) → remaining s (own e.process past) ≡ None → LastIsOpen o (last_write (own e.process (e ∷ past)))
 still_last s past e o same none = finished s.processes (last_write (own e.process (e ∷ past))) o (ap (λ l. unfinished s.processes (last_write l)) (own-own e.process e past refl) ∙ ap (unfinished s.processes) same ∙ none)
 
 -- after the access at a place
 place_last : (s : Setup) (past : Past) (e : Entry) (command : Command) (number : ℕ) (part : Part) (run : Run) (a : Access) (v : Bool) → e.access ≡ Some a → ArePlain e.marks → is_write a.how ≡ is_write (access_at (call s e.process command number) part run).how →
-    LeftRun (call s e.process command number) (left s (own e.process past)) part run → LastIsOpen (opened e.process (e ∷ past)) (last_write (own e.process (e ∷ past)))
+    LeftRun (call s e.process command number) (remaining s (own e.process past)) part run → LastIsOpen (opened e.process (e ∷ past)) (last_write (own e.process (e ∷ past)))
 place_last s past e command number part (Writing w) a v acc plain same l = written_last past e a acc plain (same ∙ written-writes e.process (written_at (call s e.process command number) part).0 (written_at (call s e.process command number) part).1 w)
 place_last s past e command number part (Reading bits begun) a v acc plain same l =
     still_last s past e (opened e.process (e ∷ past)) (last-made e (own e.process past) a acc ∙ ap (λ b. cond b (Some a) (last_write (own e.process past))) (same ∙ read begun)) l.1
@@ -159,20 +159,20 @@ module _ (s : Setup) (past : Past) (e : Entry) (d d' : Doing) (is : doing s e.pr
   plain_torn : ArePlain e.marks → has is_failed e ≡ false
   plain_torn plain = none_of is_failed no_failure e.marks plain
 
-  torn_by : Happens s past p e d d' → LeftIn s p (left s mine) d → EntryBy p e → ((a : Access) → e.access ≡ Some a → IsThere s a) → IsTorn s past p d → IsTorn s (e ∷ past) p d'
+  torn_by : Happens s past p e d d' → LeftIn s p (remaining s mine) d → EntryBy p e → ((a : Access) → e.access ≡ Some a → IsThere s a) → IsTorn s past p d → IsTorn s (e ∷ past) p d'
   torn_by (a_call command number i none m k) l by there before = subst (IsTorn s (e ∷ past) p) (sym k) (record {
     open_last = marked_last s past e (mark.Called command) none m before.open_last;
-    last_open = still_last s past e (opened p (e ∷ past)) (last-none e mine none) (subst (LeftIn s p (left s mine)) i l);
+    last_open = still_last s past e (opened p (e ∷ past)) (last-none e mine none) (subst (LeftIn s p (remaining s mine)) i l);
     torn_in = torn_on None none (ap (list_any is_failed) m) ∙ subst (TornIn s p (torn p past)) i before.torn_in;
   })
   torn_by (a_withdrawal command number t w ws run i none m k) l by there before = subst (IsTorn s (e ∷ past) p) (sym k) (record {
     open_last = marked_last s past e mark.Withdrew none m before.open_last;
-    last_open = still_last s past e (opened p (e ∷ past)) (last-none e mine none) (waits_left (call s p command number) (left s mine) t w ws run (subst (LeftIn s p (left s mine)) i l));
+    last_open = still_last s past e (opened p (e ∷ past)) (last-none e mine none) (waits_left (call s p command number) (remaining s mine) t w ws run (subst (LeftIn s p (remaining s mine)) i l));
     torn_in = torn_on None none (ap (list_any is_failed) m) ∙ subst (TornIn s p (torn p past)) i before.torn_in;
   })
   torn_by (a_failure command number may none m k) l by there before = subst (IsTorn s (e ∷ past) p) (sym k) (record {
     open_last = marked_last s past e mark.Failed none m before.open_last;
-    last_open = unit_last (opened p (e ∷ past)) (last_write (own p (e ∷ past))) command number (call s p command number) mine (left s mine);
+    last_open = unit_last (opened p (e ∷ past)) (last_write (own p (e ∷ past))) command number (call s p command number) mine (remaining s mine);
     torn_in = subst (λ t. TornIn s p t (Closes command number (failing (call s p command number) mine))) (sym (torn-mine p e past refl true (ap (list_any is_failed) m)))
         (fails_torn s p command number mine (opened p past) (last_write mine) before.open_last (may_cut s p mine (opened p past) d may l before.last_open));
   })
@@ -188,7 +188,7 @@ module _ (s : Setup) (past : Past) (e : Entry) (d d' : Doing) (is : doing s e.pr
       subst (IsTorn s (e ∷ past) p) (sym k) (record {
         open_last = access_last s past e a acc plain (made_by p e a acc by) (there a acc).reader;
         last_open = runs_last (opened p (e ∷ past)) (last_write (own p (e ∷ past))) command number (place_after c at (value_of a.how))
-            (place_last s past e command number at.part at.run a (value_of a.how) acc plain (ap (λ (y : Access). is_write y.how) made ∙ is_write-ended (read_value (opening_bit s x) (moves_of x past) flick) x.how) (subst (LeftIn s p (left s mine)) i l));
+            (place_last s past e command number at.part at.run a (value_of a.how) acc plain (ap (λ (y : Access). is_write y.how) made ∙ is_write-ended (read_value (opening_bit s x) (moves_of x past) flick) x.how) (subst (LeftIn s p (remaining s mine)) i l));
         torn_in = runs_none s p (torn p (e ∷ past)) command number (place_after c at (value_of a.how))
             (torn_on (Some a) acc (plain_torn plain) ∙ ap (torn_after (Some a)) (subst (TornIn s p (torn p past)) i before.torn_in) ∙ never_torn (Some a));
       })
@@ -207,13 +207,13 @@ pub torn_is : (s : Setup) → IsGood s → (events : List Event) (p : ℕ) → I
 torn_is s g = own-induction s (λ (past : Past) (p : ℕ). IsTorn s past p (doing s p past)) (λ p. record { open_last = λ b h. cc; last_open = tt; torn_in = refl }) others
     (λ events event e is before.
     let past : Past = past_of s events in
-    torn_by s past e (doing s e.process past) (doing s e.process (e ∷ past)) refl (accepted s g events event e is).happens (left-is s g events e.process) (entry-by s g events event e is) (access_there s g events event e is) before)
+    torn_by s past e (doing s e.process past) (doing s e.process (e ∷ past)) refl (accepted s g events event e is).happens (remaining-is s g events e.process) (entry-by s g events event e is) (access_there s g events event e is) before)
   where
     others : (past : Past) (e : Entry) (p : ℕ) → e.process ≢ p → IsTorn s past p (doing s p past) → IsTorn s (e ∷ past) p (doing s p (e ∷ past))
     others past e p apart before =
-        let stands : standing s p (e ∷ past) ≡ standing s p past = standing-other s p e past (ne_eqb e.process p apart) in
-        let open_too : opened p (e ∷ past) ≡ opened p past = ap (λ (k : Standing). k.opened) stands in
-        let torn_too : torn p (e ∷ past) ≡ torn p past = ap (λ (k : Standing). k.torn) stands in
+        let view_of : process_view s p (e ∷ past) ≡ process_view s p past = process_view-other s p e past (ne_eqb e.process p apart) in
+        let open_too : opened p (e ∷ past) ≡ opened p past = ap (λ (k : ProcessView). k.opened) view_of in
+        let torn_too : torn p (e ∷ past) ≡ torn p past = ap (λ (k : ProcessView). k.torn) view_of in
         let mine : own p (e ∷ past) ≡ own p past = own-other p e past apart in
         subst (IsTorn s (e ∷ past) p) (sym (doing-other s p e past apart)) (record {
           open_last = subst (λ o. OpenIsLast s p o (last_write (own p (e ∷ past)))) (sym open_too) (subst (λ l. OpenIsLast s p (opened p past) (last_write l)) (sym mine) before.open_last);

@@ -13,9 +13,9 @@ use Rattle.any_lock.specs.safe_monitor.laws.{Doing, Rests, Runs, Closes, call, c
 use Rattle.any_lock.proofs.safe_monitor.laws.AtPlaces.{AtPlace, own-induction, place-induction}
 use Rattle.any_lock.proofs.safe_monitor.laws.Frame.{Happens, a_call, a_withdrawal, a_failure, a_restart, a_step, a_closing, doing-other}
 use Rattle.any_lock.proofs.safe_monitor.laws.FrameEvents.{accepted}
-use Rattle.any_lock.specs.{Standing, is_withdrawal, its_call}
+use Rattle.any_lock.specs.{ProcessView, is_withdrawal, its_call}
 use Rattle.any_lock.proofs.Markings.{withdrawn-plain}
-use Rattle.any_lock.proofs.Steps.{own-mine, standing-other}
+use Rattle.any_lock.proofs.Steps.{own-mine, process_view-other}
 use Rattle.judge.proofs.StepMarks.{plain_closing, plain_step}
 
 -- A call that was not withdrawn does not return `withdrawn`.
@@ -144,5 +144,5 @@ module _ (s : Setup) (past : Past) (e : Entry) where
 pub withdrawn_is : (s : Setup) → IsGood s → (events : List Event) (p : ℕ) → WithdrawnIn (was_withdrawn p (past_of s events)) (doing s p (past_of s events))
 withdrawn_is s g = own-induction s (λ (past : Past) (p : ℕ). WithdrawnIn (was_withdrawn p past) (doing s p past)) (λ p. tt)
     (λ past e p apart h. subst (WithdrawnIn (was_withdrawn p (e ∷ past))) (sym (doing-other s p e past apart))
-    (subst (λ b. WithdrawnIn b (doing s p past)) (sym (ap (λ (k : Standing). k.withdrawn) (standing-other s p e past (ne_eqb e.process p apart)))) h))
+    (subst (λ b. WithdrawnIn b (doing s p past)) (sym (ap (λ (k : ProcessView). k.withdrawn) (process_view-other s p e past (ne_eqb e.process p apart)))) h))
     (λ events event e is h. withdrawn_by s (past_of s events) e (doing s e.process (past_of s events)) (doing s e.process (e ∷ past_of s events)) (accepted s g events event e is).happens h)

@@ -5,7 +5,7 @@ use Rattle.plain_store.specs.{Setup}
 use Rattle.model.specs.{Entry}
 use Rattle.any_lock.specs.{AnyLockLaw, IsVerdict, Verdict, first_broken, verdict_with}
 use Rattle.any_lock.specs.safe_monitor.declared.verdicts.Verdict.TheVariants.{Good, Bad}
-use Rattle.any_lock.proofs.Told.{verdict_bad, verdict_good}
+use Rattle.any_lock.proofs.Reported.{verdict_bad, verdict_good}
 use Rattle.std.specs.Prelude.{reverse}
 
 -- a record has one verdict

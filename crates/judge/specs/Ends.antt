@@ -22,24 +22,24 @@ IsInputFault fault.Read to_come = Unit {0}
 IsInputFault fault.Memory to_come = Unit {0}
 IsInputFault fault.Write to_come = ⊥
 
-module _ (Tells : Setup → List Entry → List ℕ → List ℕ → ℕ → Type 0) where
+module _ (Reports : Setup → List Entry → List ℕ → List ℕ → ℕ → Type 0) where
   -- the report on the record of a text was written, and this is its status
-  pub record TellsAll (text : List ℕ) (status : ℕ) (old new : Option (List ℕ)) : Type 0 where
-    pub told : List ℕ
-    pub is : IsOfRecord (λ s entries numbers. Tells s entries numbers told status) text
-    pub written : Appends old new told
+  pub record ReportsAll (text : List ℕ) (status : ℕ) (old new : Option (List ℕ)) : Type 0 where
+    pub reported : List ℕ
+    pub is : IsOfRecord (λ s entries numbers. Reports s entries numbers reported status) text
+    pub written : Appends old new reported
 
   -- a prefix of the report was written
-  pub record TellsFront (text : List ℕ) (old new : Option (List ℕ)) : Type 0 where
-    pub told : List ℕ
+  pub record ReportsFront (text : List ℕ) (old new : Option (List ℕ)) : Type 0 where
+    pub reported : List ℕ
     pub status : ℕ
-    pub is : IsOfRecord (λ s entries numbers. Tells s entries numbers told status) text
-    pub front : WritesFront old new told
+    pub is : IsOfRecord (λ s entries numbers. Reports s entries numbers reported status) text
+    pub front : WritesFront old new reported
 
   -- How the engine ends: with the report on the whole input, or with its fault. Each fault has its cause, and nothing was written unless the report is known.
   abbrev pub TrialEnds : Result ℕ Fault → Streams → Streams → Type 0
-  TrialEnds (Ok status) old new = IfSome old.to_come (λ text. TellsAll text status old.taken new.taken) × IsAtEnd new.to_come
+  TrialEnds (Ok status) old new = IfSome old.to_come (λ text. ReportsAll text status old.taken new.taken) × IsAtEnd new.to_come
   TrialEnds (Err (fault.Line f)) old new = IfSome old.to_come (λ text. UnlessMemory f.kind (record_of text ≡ Err f)) × Keeps old.taken new.taken
   TrialEnds (Err fault.Read) old new = (old.read_failures < new.read_failures) × Keeps old.taken new.taken
-  TrialEnds (Err fault.Write) old new = (old.write_failures < new.write_failures) × IfSome old.to_come (λ text. TellsFront text old.taken new.taken)
+  TrialEnds (Err fault.Write) old new = (old.write_failures < new.write_failures) × IfSome old.to_come (λ text. ReportsFront text old.taken new.taken)
   TrialEnds (Err fault.Memory) old new = Keeps old.taken new.taken

@@ -19,22 +19,22 @@ status_of_verdict Good = 0
 status_of_verdict (Bad entry law) = 3
 
 -- the line of the verdict on a record, and its status
-pub record TellsVerdict {L : Type 0} (name : L → List ℕ) (IsVerdict : Setup → List Entry → Verdict L → Type 0) (s : Setup) (entries : List Entry) (numbers told : List ℕ) (status : ℕ) : Type 0 where
+pub record ReportsVerdict {L : Type 0} (name : L → List ℕ) (IsVerdict : Setup → List Entry → Verdict L → Type 0) (s : Setup) (entries : List Entry) (numbers reported : List ℕ) (status : ℕ) : Type 0 where
   pub verdict : Verdict L
   pub is : IsVerdict s entries verdict
   pub answer : status ≡ status_of_verdict verdict
-  pub line : told ≡ verdict_line name (length entries) verdict
+  pub line : reported ≡ verdict_line name (length entries) verdict
 
 -- the line of the verdict, followed by the lines of its reasons, and its status
-pub record TellsReasons {L : Type 0} (name : L → List ℕ) (IsVerdict : Setup → List Entry → Verdict L → Type 0) (AreReasons : L → Setup → Past → ℕ → Entry → List ℕ → Type 0) (s : Setup) (entries : List Entry) (numbers told : List ℕ) (status : ℕ) : Type 0 where
+pub record ReportsReasons {L : Type 0} (name : L → List ℕ) (IsVerdict : Setup → List Entry → Verdict L → Type 0) (AreReasons : L → Setup → Past → ℕ → Entry → List ℕ → Type 0) (s : Setup) (entries : List Entry) (numbers reported : List ℕ) (status : ℕ) : Type 0 where
   pub verdict : Verdict L
   pub is : IsVerdict s entries verdict
   pub answer : status ≡ status_of_verdict verdict
   pub lines : List ℕ
   pub are : AreLinesOf AreReasons s entries numbers verdict lines
-  pub text : told ≡ verdict_line name (length entries) verdict ++ lines
+  pub text : reported ≡ verdict_line name (length entries) verdict ++ lines
 
 -- How judging ends: with the verdict on the record of the whole input, and with lines of reasons if they are asked for; or with its fault. Each fault has its cause, and nothing was written unless the verdict is known.
 abbrev pub JudgeEnds : {L : Type 0} → (L → List ℕ) → (Setup → List Entry → Verdict L → Type 0) → (L → Setup → Past → ℕ → Entry → List ℕ → Type 0) → Bool → Result ℕ Fault → Streams → Streams → Type 0
-JudgeEnds name IsVerdict AreReasons false = TrialEnds (TellsVerdict name IsVerdict)
-JudgeEnds name IsVerdict AreReasons true = TrialEnds (TellsReasons name IsVerdict AreReasons)
+JudgeEnds name IsVerdict AreReasons false = TrialEnds (ReportsVerdict name IsVerdict)
+JudgeEnds name IsVerdict AreReasons true = TrialEnds (ReportsReasons name IsVerdict AreReasons)

@@ -24,14 +24,14 @@ pub mod AnyReasons
 pub mod Good
 pub use AnyReasons.{AreAnyLockReasons, any_reason_lines, wait_line, waits_from}
 pub use Ends.{IsInputFault, IsOfRecord}
-pub use Firsts.{HasHeardFirsts, TellsFirsts}
+pub use Firsts.{HasObservedFirsts, ReportsFirsts}
 pub use Explanations.{AreLinesOf, GivesReasons, HasExplained}
 pub use Good.{DoorwaysAreOne, GoodIsGood, GoodKeepsOfAny}
-pub use Judgements.{JudgeEnds, TellsReasons, TellsVerdict, status_of_verdict, verdict_line}
-pub use Judging.{BothHeard, HasAudited, HasJudged, JudgeState, found}
+pub use Judgements.{JudgeEnds, ReportsReasons, ReportsVerdict, status_of_verdict, verdict_line}
+pub use Judging.{BothObserved, HasAudited, HasJudged, JudgeState, found}
 pub use Mays.{OnlyStepsKeepAllLaws, StepsKeepAllLaws}
 pub use Numbers.{number_in, numbers_from, numbers_of, say_entry}
 pub use ReasonLines.{AreLinesAt}
 pub use Reasons.{AreReasons, Writes, reason_lines}
 pub use Trials.{good_in}
-pub use declared.hearers.Telling.{Telling}
+pub use declared.entry_observers.Reporting.{Reporting}

@@ -6,7 +6,7 @@ use Rattle.plain_store.specs.{Setup}
 use Rattle.model.specs.{Entry, Event, Past, Refusal, Stage, entry_of, has, refusal_text, refused}
 use Rattle.model.specs.declared.events.Event.TheVariants.{Step}
 use Rattle.auditor.specs.world.{stage_in}
-use Rattle.auditor.specs.{AuditorState, Law, OfHeard, event_in, tells_event}
+use Rattle.auditor.specs.{AuditorState, Law, OfObserved, event_in, reports_event}
 use Rattle.judge.specs.ReasonLines.{bad_lines, named_entry, stage_line, word_line}
 
 -- the entry that an event adds, unless it is refused
@@ -33,7 +33,7 @@ event_or_step e = elim (event_in e) as (λ _. Event) [ None ↦ Step e.process f
 
 -- its process exists, and the mark of an event other than a Step is not alone
 abbrev pub is_crowded : Option Stage → Entry → Bool
-is_crowded stage e = is_some stage && is_none (event_in e) && has tells_event e
+is_crowded stage e = is_some stage && is_none (event_in e) && has reports_event e
 
 -- why an entry is refused, if it is
 abbrev pub refused_line : Setup → Past → Entry → List ℕ
@@ -49,4 +49,4 @@ AreReasons l s past n e lines = lines ≡ reason_lines s past n e
 
 -- these lines, which depend on the past that an auditor has observed, were appended to a text
 abbrev pub Writes : AuditorState → (Setup → Past → List ℕ) → (old new : List ℕ) → Type 0
-Writes a lines old new = OfHeard a (λ s past. length past < 2 ^ 64 → new ≡ old ++ lines s past)
+Writes a lines old new = OfObserved a (λ s past. length past < 2 ^ 64 → new ≡ old ++ lines s past)

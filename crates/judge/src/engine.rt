@@ -3,9 +3,9 @@ ghost use Rattle.std.specs.Prelude.{◌≡◌, ◌+◌, ◌-◌, ◌^◌, ◌<�
 ghost use Rattle.std.specs.Io.KnownBytes.{IsAtEnd};
 ghost use Rattle.files.specs.{failed_reading, streams};
 ghost use Rattle.judge.specs.Ends.{IsInputFault, IsOfRecord, TrialEnds};
-ghost use Rattle.judge.specs.Firsts.{HasHeardFirsts, TellsFirsts};
+ghost use Rattle.judge.specs.Firsts.{HasObservedFirsts, ReportsFirsts};
 
-use crate::hearers::Hearer;
+use crate::entry_observers::EntryObserver;
 use crate::trial::Trial;
 use files::source_lines::Lines;
 use files::{Fault, FaultKind, Sink, Source, write_all};
@@ -19,7 +19,7 @@ use std::alloc::Global;
 /// Returns the first fault of the file, with its line, or [`Fault::Read`], [`Fault::Memory`] or [`Fault::Write`]. Only after
 /// [`Fault::Write`] may a part of the text be written. A file of 2^64 - 1 lines or more, whose numbers need more than 64 bits,
 /// ends with [`Fault::Memory`].
-pub fn run_trial<H: Hearer, R: Source, W: Sink>(
+pub fn run_trial<H: EntryObserver, R: Source, W: Sink>(
     alloc: Global,
     limit: Option<u64>,
     input: &mut R,
@@ -27,24 +27,24 @@ pub fn run_trial<H: Hearer, R: Source, W: Sink>(
 ) -> Result<u8, Fault>
     requires reads { R.failures input.old < 2 ^ 64 - 1 }
     requires writes { W.failures output.old < 2 ^ 64 - 1 }
-    ensures { TrialEnds (TellsFirsts limit H.Tells) result
+    ensures { TrialEnds (ReportsFirsts limit H.Reports) result
         (streams ⟦<R as Source>⟧ ⟦<W as Sink>⟧ input.old output.old)
         (streams ⟦<R as Source>⟧ ⟦<W as Sink>⟧ input.new output.new) }
 {
-    let hearer: H = hear_file(alloc, limit, input)?;
-    let telling = hearer.tell(alloc)?;
-    write_all(output, telling.text.as_slice())?;
-    Ok(telling.status)
+    let observer: H = observe_file(alloc, limit, input)?;
+    let reporting = observer.report(alloc)?;
+    write_all(output, reporting.text.as_slice())?;
+    Ok(reporting.status)
 }
 
 /// Reads a whole record file, and returns the observer of its entries, or of the first `limit` of them.
-fn hear_file<H: Hearer, R: Source>(
+fn observe_file<H: EntryObserver, R: Source>(
     alloc: Global,
     limit: Option<u64>,
     input: &mut R,
 ) -> Result<H, Fault>
     requires { R.failures input.old < 2 ^ 64 - 1 }
-    ensures heard { IfOk result (λ hearer. IfSome (R.to_come input.old) (IsOfRecord (HasHeardFirsts limit H.HasHeard hearer))) }
+    ensures observed { IfOk result (λ observer. IfSome (R.to_come input.old) (IsOfRecord (HasObservedFirsts limit H.HasObserved observer))) }
     ensures end { IfOk result (λ _. IsAtEnd (R.to_come input.new)) }
     ensures fault { IfErr result (λ fault. IsInputFault fault (R.to_come input.old)) }
     ensures failures { R.failures input.new ≡ R.failures input.old + failed_reading result }
@@ -56,8 +56,8 @@ fn hear_file<H: Hearer, R: Source>(
             return Err(lines.here(kind));
         }
     }
-    match trial.into_hearer()? {
+    match trial.into_observer()? {
         None => Err(lines.behind(FaultKind::NotFirst)),
-        Some(hearer) => Ok(hearer),
+        Some(observer) => Ok(observer),
     }
 }

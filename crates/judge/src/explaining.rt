@@ -3,10 +3,10 @@ ghost use Rattle.std.specs.Prelude.{◌≡◌, IfOk};
 ghost use Rattle.auditor.specs.safe_monitor.declared.verdicts.Verdict.TheVariants.{Good};
 ghost use Rattle.auditor.specs.safe_monitor.{entry_by, is_good};
 ghost use Rattle.judge.specs.Explanations.{GivesReasons, HasExplained};
-ghost use Rattle.judge.specs.Judgements.{TellsReasons};
+ghost use Rattle.judge.specs.Judgements.{ReportsReasons};
 ghost use Rattle.judge.specs.KeepingLaws.{found_bad, found_good};
 
-use crate::hearers::{Hearer, Judging, Telling};
+use crate::entry_observers::{EntryObserver, Judging, Reporting};
 use crate::reason_lines::entry_of_parts;
 use crate::record_judge::RecordJudge;
 use crate::verdicts::{verdict_line, verdict_status};
@@ -16,20 +16,20 @@ use std::alloc::{AllocError, Global};
 
 /// A judge, and the lines of its reasons once its verdict is bad.
 #[derive(Drop)]
-pub struct Explaining<J> {
+pub struct ExplainingJudge<J> {
     pub(crate) judge: J,
     pub(crate) reasons: Vec<u8>,
 }
 
-impl<J: RecordJudge> Hearer for Explaining<J> {
-    ghost HasHeard = { λ e s entries numbers. HasExplained J.HasJudged J.verdict J.AreReasons e.judge e.reasons.items s entries numbers };
+impl<J: RecordJudge> EntryObserver for ExplainingJudge<J> {
+    ghost HasObserved = { λ e s entries numbers. HasExplained J.HasJudged J.verdict J.AreReasons e.judge e.reasons.items s entries numbers };
 
     ghost count = { λ e. J.count e.judge };
 
-    ghost Tells = { TellsReasons J.Law.name J.IsVerdict J.AreReasons };
+    ghost Reports = { ReportsReasons J.Law.name J.IsVerdict J.AreReasons };
 
-    fn begin(alloc: Global, setup: &Setup) -> Result<Explaining<J>, AllocError> {
-        Ok(Explaining {
+    fn begin(alloc: Global, setup: &Setup) -> Result<ExplainingJudge<J>, AllocError> {
+        Ok(ExplainingJudge {
             judge: J::begin(alloc, setup)?,
             reasons: Vec::new(alloc),
         })
@@ -45,7 +45,7 @@ impl<J: RecordJudge> Hearer for Explaining<J> {
         marks: &[Mark],
     ) -> Result<(), AllocError> {
         let was_good = self.judge.is_good();
-        self.judge.hear(process, access, marks);
+        self.judge.observe(process, access, marks);
         if !was_good || self.judge.is_good() {
             return Ok(());
         }
@@ -57,11 +57,11 @@ impl<J: RecordJudge> Hearer for Explaining<J> {
         self.judge.judged().entries
     }
 
-    fn tell(&self, alloc: Global) -> Result<Telling, AllocError> {
+    fn report(&self, alloc: Global) -> Result<Reporting, AllocError> {
         let judged = self.judge.judged();
         let mut text = verdict_line(alloc, &judged)?.into_bytes();
         text.extend_from_slice(self.reasons.as_slice())?;
-        Ok(Telling {
+        Ok(Reporting {
             text,
             status: verdict_status(&judged.verdict),
         })
@@ -70,7 +70,7 @@ impl<J: RecordJudge> Hearer for Explaining<J> {
     ghost counts = { λ e s entries numbers explained. J.counts e.judge s entries explained.judged };
 }
 
-impl<J: RecordJudge> Judging for Explaining<J> {
+impl<J: RecordJudge> Judging for ExplainingJudge<J> {
     ghost Keeps = { λ s entries. J.IsVerdict s entries Good };
 
     ghost finds_good = { λ e. is_good (J.verdict e.judge) };
@@ -81,9 +81,9 @@ impl<J: RecordJudge> Judging for Explaining<J> {
 
     ghost begins = { J.begins };
 
-    ghost good = { λ e s entries numbers heard good. found_good J.IsVerdict s entries (J.verdict e.judge) (J.finds e.judge s entries heard.judged) good };
+    ghost good = { λ e s entries numbers observed good. found_good J.IsVerdict s entries (J.verdict e.judge) (J.finds e.judge s entries observed.judged) good };
 
-    ghost bad = { λ e s entries numbers heard bad keeps. found_bad J.IsVerdict J.one s entries (J.verdict e.judge) (J.finds e.judge s entries heard.judged) bad keeps };
+    ghost bad = { λ e s entries numbers observed bad keeps. found_bad J.IsVerdict J.one s entries (J.verdict e.judge) (J.finds e.judge s entries observed.judged) bad keeps };
 }
 
 /// Returns the lines that explain the bad verdict of a judge on this entry, which is in line `number`. It is a call of its own,

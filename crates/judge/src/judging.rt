@@ -9,11 +9,11 @@ ghost use Rattle.judge.specs.Judgements.{JudgeEnds};
 ghost use Rattle.judge.specs.Reasons.{AreReasons};
 
 use crate::engine::run_trial;
-use crate::explaining::Explaining;
+use crate::explaining::ExplainingJudge;
 use crate::plain::Plain;
 use crate::record_judge::RecordJudge;
 use crate::this_lock_judge::ThisLockJudge;
-use any_lock::Judge;
+use any_lock::AnyLockJudge;
 use files::{Fault, Sink, Source};
 use std::alloc::Global;
 
@@ -58,7 +58,7 @@ pub fn judge_any_lock<R: Source, W: Sink>(
         (streams ⟦<R as Source>⟧ ⟦<W as Sink>⟧ input.old output.old)
         (streams ⟦<R as Source>⟧ ⟦<W as Sink>⟧ input.new output.new) }
 {
-    run_judged::<Judge, R, W>(alloc, input, output, asked)
+    run_judged::<AnyLockJudge, R, W>(alloc, input, output, asked)
 }
 
 /// Judges a record file as [`run_judge`] does, by the laws of a judge.
@@ -75,7 +75,7 @@ fn run_judged<J: RecordJudge, R: Source, W: Sink>(
         (streams ⟦<R as Source>⟧ ⟦<W as Sink>⟧ input.new output.new) }
 {
     if asked {
-        run_trial::<Explaining<J>, R, W>(alloc, None, input, output)
+        run_trial::<ExplainingJudge<J>, R, W>(alloc, None, input, output)
     } else {
         run_trial::<Plain<J>, R, W>(alloc, None, input, output)
     }

@@ -1,7 +1,7 @@
 //! A judge that reports its verdict alone.
-ghost use Rattle.judge.specs.Judgements.{TellsVerdict};
+ghost use Rattle.judge.specs.Judgements.{ReportsVerdict};
 
-use crate::hearers::{Hearer, Telling};
+use crate::entry_observers::{EntryObserver, Reporting};
 use crate::record_judge::RecordJudge;
 use crate::verdicts::{verdict_line, verdict_status};
 use plain_store::Setup;
@@ -14,12 +14,12 @@ pub(crate) struct Plain<J> {
     pub judge: J,
 }
 
-impl<J: RecordJudge> Hearer for Plain<J> {
-    ghost HasHeard = { λ plain s entries numbers. J.HasJudged plain.judge s entries };
+impl<J: RecordJudge> EntryObserver for Plain<J> {
+    ghost HasObserved = { λ plain s entries numbers. J.HasJudged plain.judge s entries };
 
     ghost count = { λ plain. J.count plain.judge };
 
-    ghost Tells = { TellsVerdict J.Law.name J.IsVerdict };
+    ghost Reports = { ReportsVerdict J.Law.name J.IsVerdict };
 
     fn begin(alloc: Global, setup: &Setup) -> Result<Plain<J>, AllocError> {
         Ok(Plain {
@@ -36,7 +36,7 @@ impl<J: RecordJudge> Hearer for Plain<J> {
         access: &Option<Access>,
         marks: &[Mark],
     ) -> Result<(), AllocError> {
-        self.judge.hear(process, access, marks);
+        self.judge.observe(process, access, marks);
         Ok(())
     }
 
@@ -44,9 +44,9 @@ impl<J: RecordJudge> Hearer for Plain<J> {
         self.judge.judged().entries
     }
 
-    fn tell(&self, alloc: Global) -> Result<Telling, AllocError> {
+    fn report(&self, alloc: Global) -> Result<Reporting, AllocError> {
         let judged = self.judge.judged();
-        Ok(Telling {
+        Ok(Reporting {
             text: verdict_line(alloc, &judged)?.into_bytes(),
             status: verdict_status(&judged.verdict),
         })

@@ -7,7 +7,7 @@ ghost use Rattle.judge.specs.ReasonLines.{word_line};
 ghost use Rattle.judge.specs.Reasons.{Writes, event_or_step, is_crowded, may_line as line_of_may, may_lines, reason_lines, refusal_line, refused_line, without_twin};
 
 use crate::reason_lines::{push_bad, push_entry, push_stage, push_word};
-use auditor::{Auditor, event_in, tells_event};
+use auditor::{Auditor, event_in, reports_event};
 use plain_store::NestedTypes;
 use model::{Act, Entry, Event, Refusal, Stage};
 use std::alloc::{AllocError, Global};
@@ -101,7 +101,7 @@ fn is_crowded(stage: Option<Stage>, entry: &Entry) -> bool
     ensures { result ≡ is_crowded stage entry.now }
 {
     let Act { access, marks } = &entry.act;
-    stage.is_some() && event_in(entry.process, access, marks).is_none() && tells_event(marks)
+    stage.is_some() && event_in(entry.process, access, marks).is_none() && reports_event(marks)
 }
 
 /// Returns the event of an entry: that of its mark, or otherwise a Step.

@@ -43,9 +43,9 @@ pub trait RecordJudge: Sized + Drop {
         ensures { IfOk result (λ judge. HasJudged judge setup.now []) };
 
     /// Observes one more entry, which may be any, by its parts. It does not allocate.
-    fn hear(&mut self, process: u8, access: &Option<Access>, marks: &[Mark])
+    fn observe(&mut self, process: u8, access: &Option<Access>, marks: &[Mark])
         requires { count self.old < 2 ^ 64 - 1 }
-        ensures heard { (s : Given) (entries : List Noted) → HasJudged self.old s entries → HasJudged self.new s (entries ++ entry_by process access.now marks.now ∷ []) }
+        ensures observed { (s : Given) (entries : List Noted) → HasJudged self.old s entries → HasJudged self.new s (entries ++ entry_by process access.now marks.now ∷ []) }
         ensures count { count self.new ≡ count self.old + 1 };
 
     /// Returns the verdict on the entries so far, and their number.

@@ -5,13 +5,13 @@ ghost use Rattle.model.specs.{Entry as Noted};
 ghost use Rattle.auditor.specs.safe_monitor.{entry_by};
 ghost use Rattle.auditor.specs.{IsVerdict as IsTheVerdict};
 ghost use Rattle.auditor.proofs.Unique.{one_verdict};
-ghost use Rattle.judge.specs.Judging.{BothHearOneMore, HasJudged as HasHeardAll, IsNextVerdict, StaysBefore, found as verdict_found};
+ghost use Rattle.judge.specs.Judging.{BothObserveOneMore, HasJudged as HasObservedAll, IsNextVerdict, StaysBefore, found as verdict_found};
 ghost use Rattle.judge.specs.Reasons.{AreReasons as AreTheReasons};
 ghost use Rattle.judge.specs.ThisLockVerdicts.{newest_is_bad, none_is_bad, stays_bad};
 
 use crate::reasons::push_reasons;
 use crate::record_judge::RecordJudge;
-use auditor::{Audited, Auditor, Core, Law, Verdict, Watch};
+use auditor::{Audited, Auditor, Core, Law, Verdict, SafeMonitor};
 use plain_store::{NestedTypes, Setup};
 use model::{Access, Entry, Mark};
 use std::alloc::{AllocError, Global};
@@ -20,7 +20,7 @@ use std::marker::Model;
 /// The judge of records of this project's lock. It stores a watch, an auditor, and the verdict so far.
 #[derive(Drop)]
 pub struct ThisLockJudge {
-    watch: Watch,
+    monitor: SafeMonitor,
     auditor: Auditor,
     verdict: Verdict,
     entries: u64,
@@ -31,7 +31,7 @@ impl Model for ThisLockJudge {
 
     ghost Value = { JudgeState };
 
-    ghost view = { λ j. record { watch = j.watch; auditor = j.auditor; verdict = j.verdict; entries = j.entries } };
+    ghost view = { λ j. record { monitor = j.monitor; auditor = j.auditor; verdict = j.verdict; entries = j.entries } };
 }
 
 impl ThisLockJudge {
@@ -51,10 +51,10 @@ impl ThisLockJudge {
 
     /// Observes one more entry, which may be any, by its parts. The setup of its core stays.
     #[inline]
-    pub fn observe(&mut self, process: u8, access: &Option<Access>, marks: &[Mark])
+    pub fn observe_parts(&mut self, process: u8, access: &Option<Access>, marks: &[Mark])
         requires { self.old.entries < 2 ^ 64 - 1 }
-        ensures heard { (s : Given) (entries : List Noted) → HasHeardAll self.old s entries →
-            HasHeardAll self.new s (entries ++ entry_by process access.now marks.now ∷ []) }
+        ensures observed { (s : Given) (entries : List Noted) → HasObservedAll self.old s entries →
+            HasObservedAll self.new s (entries ++ entry_by process access.now marks.now ∷ []) }
         ensures entries { self.new.entries ≡ self.old.entries + 1 }
         ensures setup { self.new.auditor.core.setup ≡ self.old.auditor.core.setup }
     {
@@ -70,12 +70,12 @@ impl ThisLockJudge {
         ensures verdict { self.new.verdict ≡ self.old.verdict }
         ensures entries { self.new.entries ≡ self.old.entries }
         ensures setup { self.new.auditor.core.setup ≡ self.old.auditor.core.setup }
-        ensures heard { IsNextVerdict self.old (entry_by process access.now marks.now) result }
-        ensures goes_on { BothHearOneMore self.old (entry_by process access.now marks.now) result self.new }
+        ensures observed { IsNextVerdict self.old (entry_by process access.now marks.now) result }
+        ensures goes_on { BothObserveOneMore self.old (entry_by process access.now marks.now) result self.new }
         ensures stays { StaysBefore self.old (entry_by process access.now marks.now) result self.new }
     {
-        let is_safe = self.watch.hear(access);
-        let law = self.auditor.hear(process, access, marks);
+        let is_safe = self.monitor.observe(access);
+        let law = self.auditor.observe(process, access, marks);
         found(self.entries, is_safe, law)
     }
 }
@@ -87,7 +87,7 @@ impl RecordJudge for ThisLockJudge {
 
     ghost AreReasons = { AreTheReasons };
 
-    ghost HasJudged = { HasHeardAll };
+    ghost HasJudged = { HasObservedAll };
 
     ghost verdict = { λ judge. judge.verdict };
 
@@ -95,7 +95,7 @@ impl RecordJudge for ThisLockJudge {
 
     fn begin(alloc: Global, setup: &Setup) -> Result<ThisLockJudge, AllocError> {
         Ok(ThisLockJudge {
-            watch: Watch::new(alloc, setup)?,
+            monitor: SafeMonitor::new(alloc, setup)?,
             auditor: Auditor::new(alloc, setup)?,
             verdict: Verdict::Good,
             entries: 0,
@@ -103,8 +103,8 @@ impl RecordJudge for ThisLockJudge {
     }
 
     #[inline]
-    fn hear(&mut self, process: u8, access: &Option<Access>, marks: &[Mark]) {
-        self.observe(process, access, marks);
+    fn observe(&mut self, process: u8, access: &Option<Access>, marks: &[Mark]) {
+        self.observe_parts(process, access, marks);
     }
 
     fn judged(&self) -> Audited {

@@ -2,10 +2,10 @@ ghost use Rattle.std.specs.Prelude.{◌≡◌, ◌-◌, ◌^◌, ◌<◌, ◌≤
 ghost use Rattle.plain_store.specs.{checked};
 ghost use Rattle.model.specs.{Entry as Noted};
 ghost use Rattle.record_file.specs.{Progress};
-ghost use Rattle.judge.specs.Firsts.{HasHeardFirsts};
-ghost use Rattle.judge.specs.Trials.{GoesOn, Hears, IsHeard, LineEnds, Stands, count_in, good_in};
+ghost use Rattle.judge.specs.Firsts.{HasObservedFirsts};
+ghost use Rattle.judge.specs.Trials.{GoesOn, Observes, IsObserved, LineEnds, Stands, count_in, good_in};
 
-use crate::hearers::{Hearer, Judging};
+use crate::entry_observers::{EntryObserver, Judging};
 use auditor::parts;
 use files::{FaultKind, read_any_line};
 use plain_store::{NestedTypes, Setup};
@@ -15,21 +15,21 @@ use std::alloc::{AllocError, Global};
 
 /// A record file that is read line by line: what was read, and the observer of its entries, once there is one.
 #[derive(Drop)]
-pub struct Trial<H: Hearer> {
+pub struct Trial<H: EntryObserver> {
     alloc: Global,
     reader: Option<RecordReader>,
-    hearer: Option<H>,
+    observer: Option<H>,
 }
 
-impl<H: Hearer> Trial<H> {
+impl<H: EntryObserver> Trial<H> {
     /// Creates a trial of which no line was read.
     pub fn new(alloc: Global) -> Trial<H>
-        ensures { Stands H.HasHeard result.reader result.hearer None [] [] }
+        ensures { Stands H.HasObserved result.reader result.observer None [] [] }
     {
         Trial {
             alloc,
             reader: None,
-            hearer: None,
+            observer: None,
         }
     }
 
@@ -40,10 +40,10 @@ impl<H: Hearer> Trial<H> {
     /// Returns the fault of the line, or [`FaultKind::Memory`] if memory runs out.
     pub fn line(&mut self, number: u64, line: &[u8]) -> Result<(), FaultKind>
         requires short { length line.now ≤ 128 }
-        requires few { count_in H.count self.old.hearer < 2 ^ 64 - 1 }
-        ensures { (before : Option Progress) (entries : List Noted) (numbers : List ℕ) → Stands H.HasHeard self.old.reader self.old.hearer before entries numbers → LineEnds H.HasHeard result number line.now before self.new.reader self.new.hearer entries numbers }
+        requires few { count_in H.count self.old.observer < 2 ^ 64 - 1 }
+        ensures { (before : Option Progress) (entries : List Noted) (numbers : List ℕ) → Stands H.HasObserved self.old.reader self.old.observer before entries numbers → LineEnds H.HasObserved result number line.now before self.new.reader self.new.observer entries numbers }
     {
-        if self.hears_step(number, line)? {
+        if self.observes_step(number, line)? {
             return Ok(());
         }
         self.any_line(number, line)
@@ -59,26 +59,26 @@ impl<H: Hearer> Trial<H> {
         line: &[u8],
     ) -> Result<(), FaultKind>
         requires short { length line.now ≤ 128 }
-        requires few { count_in H.count self.old.hearer < 2 ^ 64 - 1 }
+        requires few { count_in H.count self.old.observer < 2 ^ 64 - 1 }
         ensures { (before : Option Progress) (entries : List Noted) (numbers : List ℕ) →
-            Stands (HasHeardFirsts limit H.HasHeard) self.old.reader self.old.hearer before entries numbers →
-            LineEnds (HasHeardFirsts limit H.HasHeard) result number line.now before self.new.reader self.new.hearer entries numbers }
+            Stands (HasObservedFirsts limit H.HasObserved) self.old.reader self.old.observer before entries numbers →
+            LineEnds (HasObservedFirsts limit H.HasObserved) result number line.now before self.new.reader self.new.observer entries numbers }
     {
         let Some(limit) = limit else {
             return self.line(number, line);
         };
-        if self.heard() < limit {
+        if self.observed() < limit {
             return self.line(number, line);
         }
         self.pass(limit, number, line)
     }
 
     /// Returns the number of entries that were observed.
-    fn heard(&self) -> u64
-        ensures { result ≡ count_in H.count self.now.hearer }
+    fn observed(&self) -> u64
+        ensures { result ≡ count_in H.count self.now.observer }
     {
-        match &self.hearer {
-            Some(hearer) => hearer.entries(),
+        match &self.observer {
+            Some(observer) => observer.entries(),
             None => 0,
         }
     }
@@ -86,19 +86,19 @@ impl<H: Hearer> Trial<H> {
     /// Reads one more line, with its number, and observes no entry, because `limit` entries were observed.
     fn pass(&mut self, limit: u64, number: u64, line: &[u8]) -> Result<(), FaultKind>
         requires short { length line.now ≤ 128 }
-        requires full { limit ≤ count_in H.count self.old.hearer }
+        requires full { limit ≤ count_in H.count self.old.observer }
         ensures { (before : Option Progress) (entries : List Noted) (numbers : List ℕ) →
-            Stands (HasHeardFirsts (Some limit) H.HasHeard) self.old.reader self.old.hearer before entries numbers →
-            LineEnds (HasHeardFirsts (Some limit) H.HasHeard) result number line.now before self.new.reader self.new.hearer entries numbers }
+            Stands (HasObservedFirsts (Some limit) H.HasObserved) self.old.reader self.old.observer before entries numbers →
+            LineEnds (HasObservedFirsts (Some limit) H.HasObserved) result number line.now before self.new.reader self.new.observer entries numbers }
     {
         let _nested: NestedTypes = None;
-        if self.hearer.is_some() && read_step(line).is_some() {
+        if self.observer.is_some() && read_step(line).is_some() {
             return Ok(());
         }
         read_any_line(self.alloc, line, &mut self.reader)?;
         if let Some(reader) = &mut self.reader {
             if let Some(_entry) = reader.last_entry() {
-                pass_entry(self.alloc, limit, reader.setup(), &mut self.hearer)?;
+                pass_entry(self.alloc, limit, reader.setup(), &mut self.observer)?;
                 reader.forget_entry();
             }
         }
@@ -107,33 +107,33 @@ impl<H: Hearer> Trial<H> {
 
     /// Observes a line after an entry if it is printed as a Step with an access and no mark, as most lines are, and returns
     /// whether it is. Otherwise nothing is changed.
-    fn hears_step(&mut self, number: u64, line: &[u8]) -> Result<bool, AllocError>
+    fn observes_step(&mut self, number: u64, line: &[u8]) -> Result<bool, AllocError>
         requires short { length line.now ≤ 128 }
-        requires few { count_in H.count self.old.hearer < 2 ^ 64 - 1 }
-        ensures heard { IfOk result (λ heard. heard ≡ true → (before : Option Progress) (entries : List Noted) (numbers : List ℕ) → Stands H.HasHeard self.old.reader self.old.hearer before entries numbers → GoesOn H.HasHeard number line.now before self.new.reader self.new.hearer entries numbers) }
-        ensures same { IfOk result (λ heard. heard ≡ false → self.new ≡ self.old) }
+        requires few { count_in H.count self.old.observer < 2 ^ 64 - 1 }
+        ensures observed { IfOk result (λ observed. observed ≡ true → (before : Option Progress) (entries : List Noted) (numbers : List ℕ) → Stands H.HasObserved self.old.reader self.old.observer before entries numbers → GoesOn H.HasObserved number line.now before self.new.reader self.new.observer entries numbers) }
+        ensures same { IfOk result (λ observed. observed ≡ false → self.new ≡ self.old) }
     {
-        let Some(hearer) = &mut self.hearer else {
+        let Some(observer) = &mut self.observer else {
             return Ok(false);
         };
         let Some((process, access)) = read_step(line) else {
             return Ok(false);
         };
-        hearer.take(self.alloc, number, process, &Some(access), &[])?;
+        observer.take(self.alloc, number, process, &Some(access), &[])?;
         Ok(true)
     }
 
     /// Reads any line, by its words.
     fn any_line(&mut self, number: u64, line: &[u8]) -> Result<(), FaultKind>
         requires short { length line.now ≤ 128 }
-        requires few { count_in H.count self.old.hearer < 2 ^ 64 - 1 }
-        ensures { (before : Option Progress) (entries : List Noted) (numbers : List ℕ) → Stands H.HasHeard self.old.reader self.old.hearer before entries numbers → LineEnds H.HasHeard result number line.now before self.new.reader self.new.hearer entries numbers }
+        requires few { count_in H.count self.old.observer < 2 ^ 64 - 1 }
+        ensures { (before : Option Progress) (entries : List Noted) (numbers : List ℕ) → Stands H.HasObserved self.old.reader self.old.observer before entries numbers → LineEnds H.HasObserved result number line.now before self.new.reader self.new.observer entries numbers }
     {
         let _nested: NestedTypes = None;
         read_any_line(self.alloc, line, &mut self.reader)?;
         if let Some(reader) = &mut self.reader {
             if let Some(entry) = reader.last_entry() {
-                hear(self.alloc, reader.setup(), number, entry, &mut self.hearer)?;
+                observe(self.alloc, reader.setup(), number, entry, &mut self.observer)?;
                 reader.forget_entry();
             }
         }
@@ -145,21 +145,21 @@ impl<H: Hearer> Trial<H> {
     /// # Errors
     ///
     /// Returns [`AllocError`] if memory runs out.
-    pub fn into_hearer(self) -> Result<Option<H>, AllocError>
-        ensures { IfOk result (λ heard. (limit : Option ℕ) (before : Option Progress) (entries : List Noted) (numbers : List ℕ) →
-            Stands (HasHeardFirsts limit H.HasHeard) self.reader self.hearer before entries numbers →
-            IsHeard (HasHeardFirsts limit H.HasHeard) heard before entries numbers) }
+    pub fn into_observer(self) -> Result<Option<H>, AllocError>
+        ensures { IfOk result (λ observed. (limit : Option ℕ) (before : Option Progress) (entries : List Noted) (numbers : List ℕ) →
+            Stands (HasObservedFirsts limit H.HasObserved) self.reader self.observer before entries numbers →
+            IsObserved (HasObservedFirsts limit H.HasObserved) observed before entries numbers) }
     {
         let Trial {
             alloc,
             reader,
-            hearer,
+            observer,
         } = self;
         let Some(reader) = reader else {
             return Ok(None);
         };
-        match hearer {
-            Some(hearer) => Ok(Some(hearer)),
+        match observer {
+            Some(observer) => Ok(Some(observer)),
             None => Ok(Some(H::begin(alloc, reader.setup())?)),
         }
     }
@@ -168,54 +168,54 @@ impl<H: Hearer> Trial<H> {
 impl<H: Judging> Trial<H> {
     /// Returns whether each entry so far keeps all laws.
     pub fn is_good(&self) -> bool
-        ensures { result ≡ good_in H.finds_good self.now.hearer }
+        ensures { result ≡ good_in H.finds_good self.now.observer }
     {
-        match &self.hearer {
-            Some(hearer) => hearer.is_good(),
+        match &self.observer {
+            Some(observer) => observer.is_good(),
             None => true,
         }
     }
 }
 
 /// Lets the observer have one more entry. The first entry creates it.
-fn hear<H: Hearer>(
+fn observe<H: EntryObserver>(
     alloc: Global,
     setup: &Setup,
     number: u64,
     entry: &Entry,
-    hearer: &mut Option<H>,
+    observer: &mut Option<H>,
 ) -> Result<(), AllocError>
     requires good { checked setup.now ≡ Ok tt }
-    requires few { count_in H.count hearer.old < 2 ^ 64 - 1 }
-    ensures some { OnOk result (IsSome hearer.new) }
-    ensures heard { OnOk result ((entries : List Noted) (numbers : List ℕ) → Hears H.HasHeard hearer.old setup.now entries numbers → Hears H.HasHeard hearer.new setup.now (entries ++ entry.now ∷ []) (numbers ++ number ∷ [])) }
+    requires few { count_in H.count observer.old < 2 ^ 64 - 1 }
+    ensures some { OnOk result (IsSome observer.new) }
+    ensures observed { OnOk result ((entries : List Noted) (numbers : List ℕ) → Observes H.HasObserved observer.old setup.now entries numbers → Observes H.HasObserved observer.new setup.now (entries ++ entry.now ∷ []) (numbers ++ number ∷ [])) }
 {
-    if hearer.is_none() {
-        begin(alloc, setup, hearer)?;
+    if observer.is_none() {
+        begin(alloc, setup, observer)?;
     }
-    if let Some(hearer) = hearer {
+    if let Some(observer) = observer {
         let (process, access, marks) = parts(entry);
-        hearer.take(alloc, number, process, access, marks)?;
+        observer.take(alloc, number, process, access, marks)?;
     }
     Ok(())
 }
 
 /// Passes over one more entry. The first entry creates the observer, even if it is not to observe any.
-fn pass_entry<H: Hearer>(
+fn pass_entry<H: EntryObserver>(
     alloc: Global,
     limit: u64,
     setup: &Setup,
-    hearer: &mut Option<H>,
+    observer: &mut Option<H>,
 ) -> Result<(), AllocError>
     requires good { checked setup.now ≡ Ok tt }
-    requires full { limit ≤ count_in H.count hearer.old }
-    ensures some { OnOk result (IsSome hearer.new) }
-    ensures heard { OnOk result ((e : Noted) (number : ℕ) (entries : List Noted) (numbers : List ℕ) →
-        Hears (HasHeardFirsts (Some limit) H.HasHeard) hearer.old setup.now entries numbers →
-        Hears (HasHeardFirsts (Some limit) H.HasHeard) hearer.new setup.now (entries ++ e ∷ []) (numbers ++ number ∷ [])) }
+    requires full { limit ≤ count_in H.count observer.old }
+    ensures some { OnOk result (IsSome observer.new) }
+    ensures observed { OnOk result ((e : Noted) (number : ℕ) (entries : List Noted) (numbers : List ℕ) →
+        Observes (HasObservedFirsts (Some limit) H.HasObserved) observer.old setup.now entries numbers →
+        Observes (HasObservedFirsts (Some limit) H.HasObserved) observer.new setup.now (entries ++ e ∷ []) (numbers ++ number ∷ [])) }
 {
-    if hearer.is_none() {
-        begin(alloc, setup, hearer)?;
+    if observer.is_none() {
+        begin(alloc, setup, observer)?;
     }
     Ok(())
 }
@@ -223,12 +223,12 @@ fn pass_entry<H: Hearer>(
 /// Creates the observer, without entries. It is a function of its own, because the room in which one is made would otherwise
 /// be cleared before each entry.
 #[inline(never)]
-fn begin<H: Hearer>(alloc: Global, setup: &Setup, hearer: &mut Option<H>) -> Result<(), AllocError>
+fn begin<H: EntryObserver>(alloc: Global, setup: &Setup, observer: &mut Option<H>) -> Result<(), AllocError>
     requires good { checked setup.now ≡ Ok tt }
-    ensures some { OnOk result (IsSome hearer.new) }
-    ensures none { OnOk result (count_in H.count hearer.new ≡ 0) }
-    ensures heard { OnOk result (Hears H.HasHeard hearer.new setup.now [] []) }
+    ensures some { OnOk result (IsSome observer.new) }
+    ensures none { OnOk result (count_in H.count observer.new ≡ 0) }
+    ensures observed { OnOk result (Observes H.HasObserved observer.new setup.now [] []) }
 {
-    *hearer = Some(H::begin(alloc, setup)?);
+    *observer = Some(H::begin(alloc, setup)?);
     Ok(())
 }

@@ -128,7 +128,7 @@ run-after c at v h = go (is_last c at.part at.run)
 -- a test that no mark passes that a withdrawal, a memory unit, an image or the last clearing makes
 pub record IsOfLock (test : Mark → Bool) : Type 0 where
   pub taken : (k : ℕ) (r : Reply) → test (Taken k r) ≡ false
-  pub left : test Left ≡ false
+  pub remaining : test Left ≡ false
   pub settled : (v : Bool) → test (Settled v) ≡ false
   pub down : test Down ≡ false
   pub withdrawn : test (Answered answer.Withdrawn) ≡ false
@@ -145,12 +145,12 @@ any-placed test of k (m ∷ ms) = ap (λ t. test m || t) (any-placed test of k m
 -- only the last marks of an access pass the test
 pub any-marks : (test : Mark → Bool) → test Left ≡ false → (c : Call) (at : Place) (v : Bool) →
     list_any test (marks_of c at v) ≡ (is_last c at.part at.run && list_any test (last_marks c at.part (bits_with at.run v)))
-any-marks test left c at v = list_any-append test (cond (is_fresh at.run) (first_marks at.part) []) (cond (is_last c at.part at.run) (last_marks c at.part (bits_with at.run v)) [])
+any-marks test remaining c at v = list_any-append test (cond (is_fresh at.run) (first_marks at.part) []) (cond (is_last c at.part at.run) (last_marks c at.part (bits_with at.run v)) [])
     ∙ ap (λ b. b || list_any test (cond (is_last c at.part at.run) (last_marks c at.part (bits_with at.run v)) [])) (go (is_fresh at.run) at.part) ∙ last (is_last c at.part at.run)
   where
     go : (b : Bool) (part : Part) → list_any test (cond b (first_marks part) []) ≡ false
     go false part = refl
-    go true (Clears a) = either (test Left) false left refl
+    go true (Clears a) = either (test Left) false remaining refl
     go true _ = refl
 
     last : (b : Bool) → list_any test (cond b (last_marks c at.part (bits_with at.run v)) []) ≡ (b && list_any test (last_marks c at.part (bits_with at.run v)))
@@ -161,7 +161,7 @@ pub any-stepping : (test : Mark → Bool) → IsOfLock test → (s : Setup) (pas
     has test e ≡ (is_last (call s p command number) at.part at.run && list_any test (last_marks (call s p command number) at.part (bits_with at.run (value_of st.access.how))))
 any-stepping test of s past p e command number at st =
     ap (list_any test) st.marks ∙ any-placed test of (length (history s past)) (marks_of (call s p command number) at (value_of st.access.how))
-    ∙ any-marks test of.left (call s p command number) at (value_of st.access.how)
+    ∙ any-marks test of.remaining (call s p command number) at (value_of st.access.how)
 
 -- a step begins no program
 pub plain-stepping : (s : Setup) (past : Past) (p : ℕ) (e : Entry) (command : Command) (number : ℕ) (at : Place) → Stepping s past p e command number at → has starts e ≡ false
@@ -188,7 +188,7 @@ any-closing test of c at flick n h = go at h
     go : (x : Closing) → closing_next c x flick ≡ Some n → list_any test n.marks ≡ false
     go (Withdraws w) h = of_next _ (one (Answered answer.Withdrawn) _ of.withdrawn) h
     go (Settles f bit begun taken is t) h = of_next _ (settles begun _ _ taken) h
-    go (Frees is w) h = of_next _ (one Left _ of.left) h
+    go (Frees is w) h = of_next _ (one Left _ of.remaining) h
     go (Lowers w) h = of_next _ (one Down _ of.down) h
     go Quit h = cc
     go Ended h = cc

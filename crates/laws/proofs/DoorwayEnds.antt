@@ -20,7 +20,7 @@ pub data EndsWith (s : Setup) (p : ℕ) (values : Numbers) (e : Entry) : Type 0 
   with_full : (f : ℕ) → e.marks ≡ Answered (answer.TicketsFull f) ∷ [] → AllAsked s p (Some f) values → EndsWith s p values e
 
 abbrev pub of_ends : IsOfLock ends_doorway
-of_ends = record { taken = λ k r. refl; left = refl; settled = λ v. refl; down = refl; withdrawn = refl }
+of_ends = record { taken = λ k r. refl; remaining = refl; settled = λ v. refl; down = refl; withdrawn = refl }
 
 entered-ends : (ws : List Wait) → list_any ends_doorway (entered_if_none ws) ≡ false
 entered-ends [] = refl
@@ -83,9 +83,9 @@ ends s g events event e is h = happens-ends s (past_of s events) e.process e (ac
 -- Marks that end a doorway.
 
 -- `TicketsFull` with this process
-abbrev pub tells_full : ℕ → Mark → Bool
-tells_full j (Answered (answer.TicketsFull f)) = f == j
-tells_full j _ = false
+abbrev pub reports_full : ℕ → Mark → Bool
+reports_full j (Answered (answer.TicketsFull f)) = f == j
+reports_full j _ = false
 
 right : (b : Bool) → (b || true) ≡ true
 right true = refl
@@ -108,11 +108,11 @@ ticket-ends : (m : Mark) → is_waiting m ≡ true → ends_doorway m ≡ true
 ticket-ends (Waiting t) h = refl
 ticket-ends _ h = absurd (true≢false (sym h))
 
-full-ends : (j : ℕ) (m : Mark) → tells_full j m ≡ true → ends_doorway m ≡ true
+full-ends : (j : ℕ) (m : Mark) → reports_full j m ≡ true → ends_doorway m ≡ true
 full-ends j (Answered (answer.TicketsFull f)) h = refl
 full-ends j _ h = absurd (true≢false (sym h))
 
-entered-full : (j : ℕ) (ws : List Wait) → list_any (tells_full j) (entered_if_none ws) ≡ false
+entered-full : (j : ℕ) (ws : List Wait) → list_any (reports_full j) (entered_if_none ws) ≡ false
 entered-full j [] = refl
 entered-full j (w ∷ ws) = refl
 
@@ -136,18 +136,18 @@ waiters_read_none s g events event e is h = go (ends s g events event e is (more
 
 pub full_names_the_lowest : (s : Setup) → IsGood s → (events : List Event) (event : Event) (e : Entry) → entry_of s (past_of s events) event ≡ Some e → (j : ℕ) → Contains e.marks (Answered (answer.TicketsFull j)) →
     full_in s e.process (read_in_call s e.process (past_of s events)).finished ≡ Some j
-full_names_the_lowest s g events event e is j at = go (ends s g events event e is (more (tells_full j) ends_doorway e.marks (full-ends j) told))
+full_names_the_lowest s g events event e is j at = go (ends s g events event e is (more (reports_full j) ends_doorway e.marks (full-ends j) reported))
   where
-    told : list_any (tells_full j) e.marks ≡ true
-    told = contained (tells_full j) e.marks (Answered (answer.TicketsFull j)) at (eq-eqb j j refl)
+    reported : list_any (reports_full j) e.marks ≡ true
+    reported = contained (reports_full j) e.marks (Answered (answer.TicketsFull j)) at (eq-eqb j j refl)
 
     only : (b : Bool) → (b || false) ≡ true → b ≡ true
     only true h = refl
     only false h = h
 
     go : EndsWith s e.process (read_in_call s e.process (past_of s events)).finished e → full_in s e.process (read_in_call s e.process (past_of s events)).finished ≡ Some j
-    go (with_ticket t ws m x) = absurd (true≢false (sym told ∙ ap (list_any (tells_full j)) m ∙ entered-full j ws))
-    go (with_full f m x) = x.1 ∙ ap Some (eqb-true f j (only (f == j) (sym (ap (list_any (tells_full j)) m) ∙ told)))
+    go (with_ticket t ws m x) = absurd (true≢false (sym reported ∙ ap (list_any (reports_full j)) m ∙ entered-full j ws))
+    go (with_full f m x) = x.1 ∙ ap Some (eqb-true f j (only (f == j) (sym (ap (list_any (reports_full j)) m) ∙ reported)))
 
 pub full_exactly : (s : Setup) → IsGood s → (events : List Event) (event : Event) (e : Entry) → entry_of s (past_of s events) event ≡ Some e → has ends_doorway e ≡ true → (j : ℕ) →
     Contains e.marks (Answered (answer.TicketsFull j)) ↔ (full_in s e.process (read_in_call s e.process (past_of s events)).finished ≡ Some j)

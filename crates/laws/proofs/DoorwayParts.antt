@@ -159,7 +159,7 @@ finished-begun _ fresh h = refl
 -- The marks of the entry.
 
 abbrev pub of_waiting : IsOfLock is_waiting
-of_waiting = record { taken = λ k r. refl; left = refl; settled = λ v. refl; down = refl; withdrawn = refl }
+of_waiting = record { taken = λ k r. refl; remaining = refl; settled = λ v. refl; down = refl; withdrawn = refl }
 
 pub waiting-last : (c : Call) (part : Part) (bits : List Bool) → list_any is_waiting (last_marks c part bits) ≡ is_lowering part
 waiting-last c (Lowers t) bits = refl

@@ -158,13 +158,13 @@ settle_ends s past e p f k t v flick v_is access fl x is how = go t.begun refl (
 
 closing_ends : (s : Setup) (past : Past) (e : Entry) (p : ℕ) (command : Command) (number : ℕ) (at : Closing) (flick : Bool) (n : Next) → closing_next (call s p command number) at flick ≡ Some n → e.access ≡ Some n.access →
     Ending s (e ∷ past) p (closes command number (closing_after (call s p command number) at flick))
-closing_ends s past e p command number at flick n next access = go at (access_told at next)
+closing_ends s past e p command number at flick n next access = go at (access_reported at next)
   where
     c : Call
     c = call s p command number
 
-    access_told : (at : Closing) → closing_next c at flick ≡ Some n → e.access ≡ option_map (λ (n : Next). n.access) (closing_next c at flick)
-    access_told at h = access ∙ ap (option_map (λ (n : Next). n.access)) (sym h)
+    access_reported : (at : Closing) → closing_next c at flick ≡ Some n → e.access ≡ option_map (λ (n : Next). n.access) (closing_next c at flick)
+    access_reported at h = access ∙ ap (option_map (λ (n : Next). n.access)) (sym h)
 
     go : (at : Closing) → e.access ≡ option_map (λ (n : Next). n.access) (closing_next c at flick) → Ending s (e ∷ past) p (closes command number (closing_after c at flick))
     go (Withdraws w) h fl x = by (is_last_written c (no_ticket c) w)

@@ -6,7 +6,7 @@ use Rattle.plain_store.specs.{Setup}
 use Rattle.model.specs.{Entry, Event, Past, entry_of, has, inside, is_below, is_entered, is_fresh, is_waiting_stage, past_of, stage, stage_after}
 use Rattle.model.specs.declared.stages.Stage.TheVariants.{Waiting}
 use Rattle.model.proofs.Width.{IsGood}
-use Rattle.laws.specs.{StandsBefore, doing, is_inside, is_inside_at, ticket_told}
+use Rattle.laws.specs.{PrecedesInLine, doing, is_inside, is_inside_at, ticket_reported}
 use Rattle.laws.proofs.Always.{inv_of}
 use Rattle.laws.proofs.AtPlaces.{AtPlace}
 use Rattle.laws.proofs.Doings.{stage_of}
@@ -28,20 +28,20 @@ below-test a j b p (inr (same, lower)) = go (nat_lt a b)
     go false = λ i. eq-eqb a b same i && lt-ltb j p lower i
 
 -- the ticket that a waiting process holds is the one in its marks
-waiter-told : (s : Setup) → IsGood s → (events : List Event) (q : ℕ) → WaitsAt (doing s q (past_of s events)) → ticket_told q (past_of s events) ≡ (notes s q (past_of s events)).ticket
-waiter-told s g events q x =
+waiter-reported : (s : Setup) → IsGood s → (events : List Event) (q : ℕ) → WaitsAt (doing s q (past_of s events)) → ticket_reported q (past_of s events) ≡ (notes s q (past_of s events)).ticket
+waiter-reported s g events q x =
     let past : Past = past_of s events in
     let at : TicketIs s past q x.command x.number x.at = subst (AtPlace (TicketIs s past q)) x.does (tickets s g events q) in
-    subst (λ y. TicketAt y (notes s q past).ticket (ticket_told q past)) x.part_is at
+    subst (λ y. TicketAt y (notes s q past).ticket (ticket_reported q past)) x.part_is at
 
 -- a waiting process is not inside
 waiter-outside : (s : Setup) (past : Past) (q : ℕ) → WaitsAt (doing s q past) → is_inside (doing s q past) ≡ false
 waiter-outside s past q x = ap is_inside x.does ∙ ap (λ y. is_inside_at y (is_fresh x.at.run)) x.part_is
 
-pub first_inside : (s : Setup) → IsGood s → (events : List Event) (p : ℕ) → IsTrue (inside p (past_of s events)) → (q : ℕ) → stage q (past_of s events) ≡ Waiting → StandsBefore (past_of s events) p q
-first_inside s g events p within q waits = below-test (ticket_told p past) p (ticket_told q past) q
-    (subst (λ t. (t < ticket_told q past) ⊎ ((t ≡ ticket_told q past) × (p < q))) (sym (insiders s g events p within))
-    (subst (λ u. ((notes s p past).ticket < u) ⊎ (((notes s p past).ticket ≡ u) × (p < q))) (sym (waiter-told s g events q x))
+pub first_inside : (s : Setup) → IsGood s → (events : List Event) (p : ℕ) → IsTrue (inside p (past_of s events)) → (q : ℕ) → stage q (past_of s events) ≡ Waiting → PrecedesInLine (past_of s events) p q
+first_inside s g events p within q waits = below-test (ticket_reported p past) p (ticket_reported q past) q
+    (subst (λ t. (t < ticket_reported q past) ⊎ ((t ≡ ticket_reported q past) × (p < q))) (sym (insiders s g events p within))
+    (subst (λ u. ((notes s p past).ticket < u) ⊎ (((notes s p past).ticket ≡ u) × (p < q))) (sym (waiter-reported s g events q x))
     (below s past p q inv pN qN apart ((inv.own p pN).senior.held here) (waiter-holds s past q inv qN x).0 ((inv.own p pN).senior.passed here q qN (λ same. apart (sym same))))))
   where
     past : Past
@@ -66,9 +66,9 @@ first_inside s g events p within q waits = below-test (ticket_told p past) p (ti
     apart same = true≢false (sym here ∙ ap (λ r. is_inside (doing s r past)) same ∙ waiter-outside s past q x)
 
 pub first_to_enter : (s : Setup) → IsGood s → (events : List Event) (event : Event) (e : Entry) → entry_of s (past_of s events) event ≡ Some e → IsTrue (has is_entered e) →
-    (q : ℕ) → q ≢ e.process → stage q (past_of s events) ≡ Waiting → StandsBefore (e ∷ past_of s events) e.process q
+    (q : ℕ) → q ≢ e.process → stage q (past_of s events) ≡ Waiting → PrecedesInLine (e ∷ past_of s events) e.process q
 first_to_enter s g events event e is enters_now q other waits =
-    after_event s events event e is (λ then. IsTrue (inside e.process then) → stage q then ≡ Waiting → StandsBefore then e.process q) (λ within waits. first_inside s g (event ∷ events) e.process within q waits) within still
+    after_event s events event e is (λ then. IsTrue (inside e.process then) → stage q then ≡ Waiting → PrecedesInLine then e.process q) (λ within waits. first_inside s g (event ∷ events) e.process within q waits) within still
   where
     past : Past
     past = past_of s events

@@ -40,12 +40,12 @@ cells-kept s past e o f k r h = ap (λ y. cell_of (opening_bit s a) (elim y as (
 abbrev pub field_of : ℕ → Field
 field_of n = cond (n == 0) Choosing (cond (n == 1) Ticket (cond (n == 2) Commit (cond (n == 3) Stamp0 (cond (n == 4) Stamp1 (cond (n == 5) Image0 Image1)))))
 
-field_told : (f : Field) → field_of (field_number f) ≡ f
-field_told Choosing = refl
-field_told _ = refl
+field_reported : (f : Field) → field_of (field_number f) ≡ f
+field_reported Choosing = refl
+field_reported _ = refl
 
 pub field-same : (f g : Field) → (field_number f == field_number g) ≡ true → f ≡ g
-field-same f g h = sym (field_told f) ∙ ap field_of (eqb-true (field_number f) (field_number g) h) ∙ field_told g
+field-same f g h = sym (field_reported f) ∙ ap field_of (eqb-true (field_number f) (field_number g) h) ∙ field_reported g
 
 -- the access is on this very copy
 pub record OnCopy (x : Access) (o : ℕ) (f : Field) (k r : ℕ) : Type 0 where

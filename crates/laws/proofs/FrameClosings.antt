@@ -31,8 +31,8 @@ closing-goes : (s : Setup) (past : Past) (p : ℕ) (flick : Bool) (e : Entry) (a
     (then_doing s past p e ≡ closes command number (closing_after (last_call s p mine) at (value_written e)) → Does s p (e ∷ mine) (fold stage_after (stage p past) e.marks) (then_doing s past p e)) →
     Goes s past p e (doing s p past) (then_doing s past p e)
 closing-goes s past p flick e at step does then = record {
-  happens = a_closing (last_command mine) (call_number s mine) at value n does step.told step.access
-      (closing-same (last_call s p mine) at value (read_value (opening_bit s n.access) (moves_of n.access past) value) n step.told) (ap (λ (e : Entry). e.marks) (sym step.is)) d';
+  happens = a_closing (last_command mine) (call_number s mine) at value n does step.reported step.access
+      (closing-same (last_call s p mine) at value (read_value (opening_bit s n.access) (moves_of n.access past) value) n step.reported) (ap (λ (e : Entry). e.marks) (sym step.is)) d';
   does = then d';
 }
   where

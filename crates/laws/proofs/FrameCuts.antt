@@ -36,8 +36,8 @@ last-made e mine x h =
 -- The unfinished access of a write.
 
 -- the unfinished access of a process
-abbrev pub left : Setup → Past → Option Access
-left s mine = unfinished s.processes (last_write mine)
+abbrev pub remaining : Setup → Past → Option Access
+remaining s mine = unfinished s.processes (last_write mine)
 
 -- a write of a field has no unfinished access, or one of its present bit
 pub data LeftBy (torn : Option Access) (f : Field) (w : NumberWrite) : Type 0 where
@@ -64,8 +64,8 @@ written-writes p f bits w = go ((bit_written bits w).made % 2 == 0)
     go false = refl
 
 -- the unfinished access, by whether it is the last one on its bit
-left-written : (n p : ℕ) (f : Field) (bits : List Bool) (w : NumberWrite) → unfinished n (Some (written p f bits w)) ≡ cond ((bit_written bits w).made + 1 == 2 * n) None (Some (written p f bits w))
-left-written n p f bits w = ap (λ b. cond b None (Some (written p f bits w))) (ends-bit n (bit_written bits w).made (bit_written bits w).value)
+remaining-written : (n p : ℕ) (f : Field) (bits : List Bool) (w : NumberWrite) → unfinished n (Some (written p f bits w)) ≡ cond ((bit_written bits w).made + 1 == 2 * n) None (Some (written p f bits w))
+remaining-written n p f bits w = ap (λ b. cond b None (Some (written p f bits w))) (ends-bit n (bit_written bits w).made (bit_written bits w).value)
 
 -- the write after an access, by whether it was the last one on its bit
 abbrev on_with : List Bool → NumberWrite → Bool → NumberWrite
@@ -89,16 +89,16 @@ moved-begun n bits w r = go ((bit_written bits w).made + 1 == 2 * n)
 pub moved-on : (n : ℕ) (bits : List Bool) (w : NumberWrite) → 0 < n → WriteOn n bits w → ((write_moved n bits w).bit == w.width) ≡ false → WriteOn n bits (write_moved n bits w)
 moved-on n bits w some on last = record { goes = (further n bits w some on.goes).goes last; begun = moved-begun n bits w }
 
-pub left-moved : (n p : ℕ) (f : Field) (bits : List Bool) (w : NumberWrite) (torn : Option Access) → torn ≡ unfinished n (Some (written p f bits w)) → LeftBy torn f (write_moved n bits w)
-left-moved n p f bits w torn h = go ((bit_written bits w).made + 1 == 2 * n) (h ∙ left-written n p f bits w)
+pub remaining-moved : (n p : ℕ) (f : Field) (bits : List Bool) (w : NumberWrite) (torn : Option Access) → torn ≡ unfinished n (Some (written p f bits w)) → LeftBy torn f (write_moved n bits w)
+remaining-moved n p f bits w torn h = go ((bit_written bits w).made + 1 == 2 * n) (h ∙ remaining-written n p f bits w)
   where
     go : (b : Bool) → torn ≡ cond b None (Some (written p f bits w)) → LeftBy torn f (on_with bits w b)
     go true k = nothing k
     go false k = one_bit (written p f bits w) k refl refl
 
-pub left-done : (n p : ℕ) (f : Field) (bits : List Bool) (w : NumberWrite) (torn : Option Access) → torn ≡ unfinished n (Some (written p f bits w)) → w.bit < w.width →
+pub remaining-done : (n p : ℕ) (f : Field) (bits : List Bool) (w : NumberWrite) (torn : Option Access) → torn ≡ unfinished n (Some (written p f bits w)) → w.bit < w.width →
     ((write_moved n bits w).bit == w.width) ≡ true → torn ≡ None
-left-done n p f bits w torn h inside = go ((bit_written bits w).made + 1 == 2 * n) (h ∙ left-written n p f bits w)
+remaining-done n p f bits w torn h inside = go ((bit_written bits w).made + 1 == 2 * n) (h ∙ remaining-written n p f bits w)
   where
     go : (b : Bool) → torn ≡ cond b None (Some (written p f bits w)) → ((on_with bits w b).bit == w.width) ≡ true → torn ≡ None
     go true k l = k
@@ -125,8 +125,8 @@ LeftIn s p torn Lies = torn ≡ None
 LeftIn s p torn (Runs command number at) = LeftRun (call s p command number) torn at.part at.run
 LeftIn s p torn (Closes command number at) = LeftClosing (call s p command number) torn at
 
-pub enter-left : (c : Call) → IsGood c.setup → (torn : Option Access) (x : Part) → is_over x ≡ false → torn ≡ None → LeftRun c torn x (new_run c x)
-enter-left c g torn x o h = go (is_read x) refl
+pub enter-remaining : (c : Call) → IsGood c.setup → (torn : Option Access) (x : Part) → is_over x ≡ false → torn ≡ None → LeftRun c torn x (new_run c x)
+enter-remaining c g torn x o h = go (is_read x) refl
   where
     go : (b : Bool) → is_read x ≡ b → LeftRun c torn x (cond b (Reading [] false) (Writing (new_write (width c.setup (written_at c x).0))))
     go true r = (r, h)
@@ -135,25 +135,25 @@ enter-left c g torn x o h = go (is_read x) refl
 pub new-ticket : (c : Call) → IsGood c.setup → WriteOn c.setup.processes (no_ticket c) (new_write c.setup.ticket_bits)
 new-ticket c g = new-on c.setup.processes (no_ticket c) c.setup.ticket_bits (omega (arith, g.processes_is)) (omega (arith, g.ticket_is)) (ticket_width c)
 
-pub unit-left : (c : Call) → IsGood c.setup → (mine : Past) (torn now : Option Access) → LeftClosing c now (settling_from c mine torn)
-unit-left c g mine None now = new-ticket c g
-unit-left c g mine (Some a) now = tt
+pub unit-remaining : (c : Call) → IsGood c.setup → (mine : Past) (torn now : Option Access) → LeftClosing c now (settling_from c mine torn)
+unit-remaining c g mine None now = new-ticket c g
+unit-remaining c g mine (Some a) now = tt
 
 -- at a place that the process reaches
-place-left : (s : Setup) (p : ℕ) (torn : Option Access) (command : Command) (number : ℕ) (to : Place) → (is_over to.part ≡ true → torn ≡ None) → (is_over to.part ≡ false → LeftRun (call s p command number) torn to.part to.run) →
+place-remaining : (s : Setup) (p : ℕ) (torn : Option Access) (command : Command) (number : ℕ) (to : Place) → (is_over to.part ≡ true → torn ≡ None) → (is_over to.part ≡ false → LeftRun (call s p command number) torn to.part to.run) →
     LeftIn s p torn (runs command number to)
-place-left s p torn command number to over on = go (is_over to.part) refl
+place-remaining s p torn command number to over on = go (is_over to.part) refl
   where
     go : (b : Bool) → is_over to.part ≡ b → LeftIn s p torn (cond b Rests (Runs command number to))
     go true o = over o
     go false o = on o
 
 -- after an access at a place
-pub step-left : (s : Setup) → IsGood s → (p : ℕ) (was torn : Option Access) (command : Command) (number : ℕ) (x : Part) (run : Run) (v : Bool)
+pub step-remaining : (s : Setup) → IsGood s → (p : ℕ) (was torn : Option Access) (command : Command) (number : ℕ) (x : Part) (run : Run) (v : Bool)
     → let c : Call = call s p command number in
     is_over x ≡ false → LeftRun c was x run → (is_write (access_at c x run).how ≡ true → torn ≡ unfinished s.processes (Some (access_at c x run))) → (is_write (access_at c x run).how ≡ false → torn ≡ was) →
     LeftIn s p torn (runs command number (place_after c (record { part = x; run = run }) v))
-step-left s g p was torn command number x (Writing w) v o l writes reads = go (is_last c x (Writing w)) refl
+step-remaining s g p was torn command number x (Writing w) v o l writes reads = go (is_last c x (Writing w)) refl
   where
     c : Call
     c = call s p command number
@@ -169,11 +169,11 @@ step-left s g p was torn command number x (Writing w) v o l writes reads = go (i
 
     go : (b : Bool) → is_last c x (Writing w) ≡ b → LeftIn s p torn (runs command number (cond b (enter c (part_after c x [])) (record { part = x; run = Writing (write_moved s.processes bits w) })))
     go true last =
-        let none : torn ≡ None = left-done s.processes p f bits w torn now l.1.goes.inside last in
-        place-left s p torn command number (enter c (part_after c x [])) (λ _. none) (λ o. enter-left c g torn (part_after c x []) o none)
-    go false last = place-left s p torn command number (record { part = x; run = Writing (write_moved s.processes bits w) }) (λ q. absurd (true≢false (sym q ∙ o)))
-        (λ _. (l.0, moved-on s.processes bits w (omega (arith, g.processes_is)) l.1 last, left-moved s.processes p f bits w torn now))
-step-left s g p was torn command number x (Reading bits begun) v o l writes reads = go (is_last c x (Reading bits begun))
+        let none : torn ≡ None = remaining-done s.processes p f bits w torn now l.1.goes.inside last in
+        place-remaining s p torn command number (enter c (part_after c x [])) (λ _. none) (λ o. enter-remaining c g torn (part_after c x []) o none)
+    go false last = place-remaining s p torn command number (record { part = x; run = Writing (write_moved s.processes bits w) }) (λ q. absurd (true≢false (sym q ∙ o)))
+        (λ _. (l.0, moved-on s.processes bits w (omega (arith, g.processes_is)) l.1 last, remaining-moved s.processes p f bits w torn now))
+step-remaining s g p was torn command number x (Reading bits begun) v o l writes reads = go (is_last c x (Reading bits begun))
   where
     c : Call
     c = call s p command number
@@ -186,14 +186,14 @@ step-left s g p was torn command number x (Reading bits begun) v o l writes read
     none = reads (read begun) ∙ l.1
 
     go : (b : Bool) → LeftIn s p torn (runs command number (cond b (enter c (part_after c x (bits_with (Reading bits begun) v))) (record { part = x; run = run_after c x (Reading bits begun) v })))
-    go true = place-left s p torn command number (enter c (part_after c x (bits_with (Reading bits begun) v))) (λ _. none) (λ o. enter-left c g torn (part_after c x (bits_with (Reading bits begun) v)) o none)
-    go false = place-left s p torn command number (record { part = x; run = run_after c x (Reading bits begun) v }) (λ q. absurd (true≢false (sym q ∙ o))) (λ _. (l.0, none))
+    go true = place-remaining s p torn command number (enter c (part_after c x (bits_with (Reading bits begun) v))) (λ _. none) (λ o. enter-remaining c g torn (part_after c x (bits_with (Reading bits begun) v)) o none)
+    go false = place-remaining s p torn command number (record { part = x; run = run_after c x (Reading bits begun) v }) (λ q. absurd (true≢false (sym q ∙ o))) (λ _. (l.0, none))
 
 -- after an access of a closing
-pub closing-left : (s : Setup) → IsGood s → (p : ℕ) (was torn : Option Access) (command : Command) (number : ℕ) (at : Closing) (flick : Bool) (n : Next)
+pub closing-remaining : (s : Setup) → IsGood s → (p : ℕ) (was torn : Option Access) (command : Command) (number : ℕ) (at : Closing) (flick : Bool) (n : Next)
     → let c : Call = call s p command number in
     LeftClosing c was at → closing_next c at flick ≡ Some n → (is_write n.access.how ≡ true → torn ≡ unfinished s.processes (Some n.access)) → LeftIn s p torn (closes command number (closing_after c at flick))
-closing-left s g p was torn command number (Withdraws w) flick n l h writes = go (is_last_written c (no_ticket c) w) refl
+closing-remaining s g p was torn command number (Withdraws w) flick n l h writes = go (is_last_written c (no_ticket c) w) refl
   where
     c : Call
     c = call s p command number
@@ -205,9 +205,9 @@ closing-left s g p was torn command number (Withdraws w) flick n l h writes = go
     now = writes (ap (λ (a : Access). is_write a.how) is ∙ written-writes p Ticket (no_ticket c) w) ∙ ap (λ a. unfinished s.processes (Some a)) is
 
     go : (b : Bool) → is_last_written c (no_ticket c) w ≡ b → LeftIn s p torn (closes command number (cond b Quit (Withdraws (write_moved s.processes (no_ticket c) w))))
-    go true last = left-done s.processes p Ticket (no_ticket c) w torn now l.0.goes.inside last
-    go false last = (moved-on s.processes (no_ticket c) w (omega (arith, g.processes_is)) l.0 last, left-moved s.processes p Ticket (no_ticket c) w torn now)
-closing-left s g p was torn command number (Settles f bit begun taken is t) flick n l h writes = go (is_last_settled c t (copies.settled_at t flick))
+    go true last = remaining-done s.processes p Ticket (no_ticket c) w torn now l.0.goes.inside last
+    go false last = (moved-on s.processes (no_ticket c) w (omega (arith, g.processes_is)) l.0 last, remaining-moved s.processes p Ticket (no_ticket c) w torn now)
+closing-remaining s g p was torn command number (Settles f bit begun taken is t) flick n l h writes = go (is_last_settled c t (copies.settled_at t flick))
   where
     c : Call
     c = call s p command number
@@ -215,7 +215,7 @@ closing-left s g p was torn command number (Settles f bit begun taken is t) flic
     go : (b : Bool) → LeftIn s p torn (closes command number (cond b (freeing c is) (Settles f bit begun taken is (copies.settle_after t (copies.settled_at t flick)))))
     go true = new-ticket c g
     go false = tt
-closing-left s g p was torn command number (Frees is w) flick n l h writes = go (is_last_written c (no_ticket c) w) refl
+closing-remaining s g p was torn command number (Frees is w) flick n l h writes = go (is_last_written c (no_ticket c) w) refl
   where
     c : Call
     c = call s p command number
@@ -223,7 +223,7 @@ closing-left s g p was torn command number (Frees is w) flick n l h writes = go 
     go : (b : Bool) → is_last_written c (no_ticket c) w ≡ b → LeftIn s p torn (closes command number (cond b (Lowers (new_write 1)) (Frees is (write_moved s.processes (no_ticket c) w))))
     go true last = new-on s.processes (false ∷ []) 1 (omega (arith, g.processes_is)) (omega arith) refl
     go false last = moved-on s.processes (no_ticket c) w (omega (arith, g.processes_is)) l last
-closing-left s g p was torn command number (Lowers w) flick n l h writes = go (is_last_written c (false ∷ []) w) refl
+closing-remaining s g p was torn command number (Lowers w) flick n l h writes = go (is_last_written c (false ∷ []) w) refl
   where
     c : Call
     c = call s p command number
@@ -235,7 +235,7 @@ closing-left s g p was torn command number (Lowers w) flick n l h writes = go (i
     now = writes (ap (λ (a : Access). is_write a.how) is ∙ written-writes p Choosing (false ∷ []) w) ∙ ap (λ a. unfinished s.processes (Some a)) is
 
     go : (b : Bool) → is_last_written c (false ∷ []) w ≡ b → LeftIn s p torn (closes command number (cond b Ended (Lowers (write_moved s.processes (false ∷ []) w))))
-    go true last = left-done s.processes p Choosing (false ∷ []) w torn now l.goes.inside last
+    go true last = remaining-done s.processes p Choosing (false ∷ []) w torn now l.goes.inside last
     go false last = moved-on s.processes (false ∷ []) w (omega (arith, g.processes_is)) l last
-closing-left s g p was torn command number Quit flick n l h writes = cc
-closing-left s g p was torn command number Ended flick n l h writes = cc
+closing-remaining s g p was torn command number Quit flick n l h writes = cc
+closing-remaining s g p was torn command number Ended flick n l h writes = cc

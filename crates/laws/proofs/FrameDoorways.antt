@@ -15,10 +15,10 @@ use Rattle.model.proofs.Turns.{and_false, and_true}
 use Rattle.model.proofs.Width.{IsGood}
 use Rattle.laws.specs.{Doing, Runs, Closes, call, doing}
 use Rattle.laws.proofs.Frame.{Happens, a_call, a_withdrawal, a_failure, a_restart, a_step, a_closing}
-use Rattle.laws.proofs.FrameCuts.{left, WriteOn, LeftRun, LeftClosing, LeftIn}
+use Rattle.laws.proofs.FrameCuts.{remaining, WriteOn, LeftRun, LeftClosing, LeftIn}
 use Rattle.laws.proofs.FrameEvents.{accepted}
 use Rattle.laws.proofs.FrameMarks.{is_raising}
-use Rattle.laws.proofs.FrameSteps.{left-is}
+use Rattle.laws.proofs.FrameSteps.{remaining-is}
 
 -- The begin of a doorway.
 
@@ -149,5 +149,5 @@ begins-happens s past p e torn d d' (a_closing command number at flick n was nex
 -- A doorway begins with the first access of part `Raises`.
 pub begins-is : (s : Setup) → IsGood s → (events : List Event) (what : Event) (e : Entry) → entry_of s (past_of s events) what ≡ Some e →
     begins_doorway e ≡ begins_with e.access (doing s e.process (past_of s events))
-begins-is s g events what e h = begins-happens s (past_of s events) e.process e (left s (own e.process (past_of s events))) (doing s e.process (past_of s events)) (doing s e.process (e ∷ past_of s events))
-    (accepted s g events what e h).happens (left-is s g events e.process)
+begins-is s g events what e h = begins-happens s (past_of s events) e.process e (remaining s (own e.process (past_of s events))) (doing s e.process (past_of s events)) (doing s e.process (e ∷ past_of s events))
+    (accepted s g events what e h).happens (remaining-is s g events e.process)

@@ -101,26 +101,26 @@ marks_in (Some n) = n.marks
 -- the marks of a closing are of none of these kinds
 closing-marks : (test : Mark → Bool) → ((k i : ℕ) (r : Reply) → test (Taken k r) ≡ false) → test (Answered answer.Withdrawn) ≡ false → ((v : Bool) → test (Settled v) ≡ false) → test Left ≡ false → test Down ≡ false →
     (c : Call) (at : Closing) (flick : Bool) (n : Next) → closing_next c at flick ≡ Some n → list_any test n.marks ≡ false
-closing-marks test taken answered settled left down c at flick n h = subst (λ o. list_any test (marks_in o) ≡ false) h (go at)
+closing-marks test taken answered settled remaining down c at flick n h = subst (λ o. list_any test (marks_in o) ≡ false) h (go at)
   where
     one : (b : Bool) (m : Mark) → test m ≡ false → list_any test (cond b (m ∷ []) []) ≡ false
     one true m h = ap (λ t. t || false) h
     one false m h = refl
 
-    told : (d v : Bool) (r : Reply) → list_any test (Settled v ∷ cond d (Taken 0 r ∷ []) []) ≡ false
-    told true v r = λ j. settled v j || (taken 0 0 r j || false)
-    told false v r = ap (λ t. t || false) (settled v)
+    reported : (d v : Bool) (r : Reply) → list_any test (Settled v ∷ cond d (Taken 0 r ∷ []) []) ≡ false
+    reported true v r = λ j. settled v j || (taken 0 0 r j || false)
+    reported false v r = ap (λ t. t || false) (settled v)
 
     two : (b begun v : Bool) (r : Option Reply) → list_any test (cond b (settled_marks begun r v) []) ≡ false
     two true begun v None = ap (λ t. t || false) (settled v)
-    two true begun v (Some r) = told (cond v begun (not begun)) v r
+    two true begun v (Some r) = reported (cond v begun (not begun)) v r
     two false begun v r = refl
 
     go : (at : Closing) → list_any test (marks_in (closing_next c at flick)) ≡ false
     go (Withdraws w) = one (is_last_written c (no_ticket c) w) (Answered answer.Withdrawn) answered
     go (Settles field bit begun taken is t) =
         two (is_last_settled c t (copies.settled_at t flick)) begun (copies.settled_at t flick) taken
-    go (Frees is w) = one (is && is_unwritten w) Left left
+    go (Frees is w) = one (is && is_unwritten w) Left remaining
     go (Lowers w) = one (is_last_written c (false ∷ []) w) Down down
     go Quit = refl
     go Ended = refl

@@ -20,7 +20,7 @@ use Rattle.laws.proofs.Doings.{IsCut, Step, calls, withdraws, fails, restarts, s
 use Rattle.laws.proofs.Doings as doings
 use Rattle.laws.proofs.Frame.{may_fail, Happens, a_call, a_withdrawal, a_failure, a_restart, a_step, a_closing, doing-other, own-own, own-other}
 use Rattle.laws.proofs.FrameCells.{ByProcess, EntryBy, marks_only, makes}
-use Rattle.laws.proofs.FrameCuts.{left, LeftBy, nothing, one_bit, LeftRun, LeftIn, last-made, enter-left, new-ticket, unit-left, step-left, closing-left}
+use Rattle.laws.proofs.FrameCuts.{remaining, LeftBy, nothing, one_bit, LeftRun, LeftIn, last-made, enter-remaining, new-ticket, unit-remaining, step-remaining, closing-remaining}
 use Rattle.laws.proofs.FrameEvents.{Accepted, accepted}
 use Rattle.laws.proofs.FrameInside.{inside-is}
 
@@ -47,44 +47,44 @@ made-write e mine x h w = last-made e mine x h ∙ ap (λ b. cond b (Some x) (la
 made-read : (e : Entry) (mine : Past) (x : Access) → e.access ≡ Some x → is_write x.how ≡ false → last_write (e ∷ mine) ≡ last_write mine
 made-read e mine x h w = last-made e mine x h ∙ ap (λ b. cond b (Some x) (last_write mine)) w
 
-waits-left : (c : Call) (torn : Option Access) (t : ℕ) (w : Wait) (ws : List Wait) (run : Run) → LeftRun c torn (Waits t w ws) run → torn ≡ None
-waits-left c torn t w ws (Writing q) l = let f : true ≡ false = l.0 in cc
-waits-left c torn t w ws (Reading bits begun) l = l.1
+waits-remaining : (c : Call) (torn : Option Access) (t : ℕ) (w : Wait) (ws : List Wait) (run : Run) → LeftRun c torn (Waits t w ws) run → torn ≡ None
+waits-remaining c torn t w ws (Writing q) l = let f : true ≡ false = l.0 in cc
+waits-remaining c torn t w ws (Reading bits begun) l = l.1
 
-left-happens : (s : Setup) → IsGood s → (past : Past) (p : ℕ) (e : Entry) (d d' : Doing) → Happens s past p e d d' → LeftIn s p (left s (own p past)) d → LeftIn s p (left s (e ∷ own p past)) d'
-left-happens s g past p e d d' (a_call command number was none marks then) l =
-    subst (LeftIn s p (left s (e ∷ own p past))) (sym then) (enter-left (call s p command number) g (left s (e ∷ own p past)) Raises refl (ap (unfinished s.processes) (last-none e (own p past) none) ∙ subst (LeftIn s p (left s (own p past))) was l))
-left-happens s g past p e d d' (a_withdrawal command number t w ws run was none marks then) l =
-    subst (LeftIn s p (left s (e ∷ own p past))) (sym then) (
+remaining-happens : (s : Setup) → IsGood s → (past : Past) (p : ℕ) (e : Entry) (d d' : Doing) → Happens s past p e d d' → LeftIn s p (remaining s (own p past)) d → LeftIn s p (remaining s (e ∷ own p past)) d'
+remaining-happens s g past p e d d' (a_call command number was none marks then) l =
+    subst (LeftIn s p (remaining s (e ∷ own p past))) (sym then) (enter-remaining (call s p command number) g (remaining s (e ∷ own p past)) Raises refl (ap (unfinished s.processes) (last-none e (own p past) none) ∙ subst (LeftIn s p (remaining s (own p past))) was l))
+remaining-happens s g past p e d d' (a_withdrawal command number t w ws run was none marks then) l =
+    subst (LeftIn s p (remaining s (e ∷ own p past))) (sym then) (
       new-ticket (call s p command number) g,
-      nothing (ap (unfinished s.processes) (last-none e (own p past) none) ∙ waits-left (call s p command number) (left s (own p past)) t w ws run (subst (LeftIn s p (left s (own p past))) was l)),
+      nothing (ap (unfinished s.processes) (last-none e (own p past) none) ∙ waits-remaining (call s p command number) (remaining s (own p past)) t w ws run (subst (LeftIn s p (remaining s (own p past))) was l)),
     )
-left-happens s g past p e d d' (a_failure command number may none marks then) l =
-    subst (LeftIn s p (left s (e ∷ own p past))) (sym then) (unit-left (call s p command number) g (own p past) (left s (own p past)) (left s (e ∷ own p past)))
-left-happens s g past p e d d' (a_restart was none marks then) l =
-    subst (LeftIn s p (left s (e ∷ own p past))) (sym then) (ap (unfinished s.processes) (last-none e (own p past) none) ∙ subst (LeftIn s p (left s (own p past))) was l)
-left-happens s g past p e d d' (a_step command number at a flick was over access is marks then) l =
-    subst (LeftIn s p (left s (e ∷ own p past))) (sym then)
-    (step-left s g p (left s (own p past)) (left s (e ∷ own p past)) command number at.part at.run (value_of a.how) over (subst (LeftIn s p (left s (own p past))) was l) writes reads)
+remaining-happens s g past p e d d' (a_failure command number may none marks then) l =
+    subst (LeftIn s p (remaining s (e ∷ own p past))) (sym then) (unit-remaining (call s p command number) g (own p past) (remaining s (own p past)) (remaining s (e ∷ own p past)))
+remaining-happens s g past p e d d' (a_restart was none marks then) l =
+    subst (LeftIn s p (remaining s (e ∷ own p past))) (sym then) (ap (unfinished s.processes) (last-none e (own p past) none) ∙ subst (LeftIn s p (remaining s (own p past))) was l)
+remaining-happens s g past p e d d' (a_step command number at a flick was over access is marks then) l =
+    subst (LeftIn s p (remaining s (e ∷ own p past))) (sym then)
+    (step-remaining s g p (remaining s (own p past)) (remaining s (e ∷ own p past)) command number at.part at.run (value_of a.how) over (subst (LeftIn s p (remaining s (own p past))) was l) writes reads)
   where
     x : Access
     x = access_at (call s p command number) at.part at.run
 
-    writes : is_write x.how ≡ true → left s (e ∷ own p past) ≡ unfinished s.processes (Some x)
+    writes : is_write x.how ≡ true → remaining s (e ∷ own p past) ≡ unfinished s.processes (Some x)
     writes w = ap (unfinished s.processes) (made-write e (own p past) x (access ∙ ap Some (is ∙ valued-write s past flick x w)) w)
 
-    reads : is_write x.how ≡ false → left s (e ∷ own p past) ≡ left s (own p past)
+    reads : is_write x.how ≡ false → remaining s (e ∷ own p past) ≡ remaining s (own p past)
     reads w = ap (unfinished s.processes) (made-read e (own p past) a access (ap (λ (b : Access). is_write b.how) is ∙ is_write-ended (read_value (opening_bit s x) (moves_of x past) flick) x.how ∙ w))
-left-happens s g past p e d d' (a_closing command number at flick n was next access same marks then) l =
-    subst (LeftIn s p (left s (e ∷ own p past))) (sym then)
-    (closing-left s g p (left s (own p past)) (left s (e ∷ own p past)) command number at flick n (subst (LeftIn s p (left s (own p past))) was l) next (λ w. ap (unfinished s.processes) (made-write e (own p past) n.access access w)))
+remaining-happens s g past p e d d' (a_closing command number at flick n was next access same marks then) l =
+    subst (LeftIn s p (remaining s (e ∷ own p past))) (sym then)
+    (closing-remaining s g p (remaining s (own p past)) (remaining s (e ∷ own p past)) command number at flick n (subst (LeftIn s p (remaining s (own p past))) was l) next (λ w. ap (unfinished s.processes) (made-write e (own p past) n.access access w)))
 
 abbrev LeftAll : Setup → Past → Type 0
-LeftAll s past = IsGood s → (p : ℕ) → LeftIn s p (left s (own p past)) (doing s p past)
+LeftAll s past = IsGood s → (p : ℕ) → LeftIn s p (remaining s (own p past)) (doing s p past)
 
 -- in every record the unfinished access of a process is that of its state
-pub left-is : (s : Setup) → IsGood s → (events : List Event) (p : ℕ) → LeftIn s p (left s (own p (past_of s events))) (doing s p (past_of s events))
-left-is s g events p = past-induction LeftAll s (λ g p. refl) more events g p
+pub remaining-is : (s : Setup) → IsGood s → (events : List Event) (p : ℕ) → LeftIn s p (remaining s (own p (past_of s events))) (doing s p (past_of s events))
+remaining-is s g events p = past-induction LeftAll s (λ g p. refl) more events g p
   where
     more : (events : List Event) (what : Event) (e : Entry) → entry_of s (past_of s events) what ≡ Some e → LeftAll s (past_of s events) → LeftAll s (e ∷ past_of s events)
     more events what e h ih g p = go (e.process == p) refl
@@ -95,14 +95,14 @@ left-is s g events p = past-induction LeftAll s (λ g p. refl) more events g p
         acc : Accepted s past what e
         acc = accepted s g events what e h
 
-        go : (b : Bool) → (e.process == p) ≡ b → LeftIn s p (left s (own p (e ∷ past))) (doing s p (e ∷ past))
-        go true i = subst (λ q. LeftIn s q (left s (own q (e ∷ past))) (doing s q (e ∷ past))) (eqb-true e.process p i)
-            (subst (λ mine. LeftIn s e.process (left s mine) (doing s e.process (e ∷ past))) (sym (own-own e.process e past refl))
-            (left-happens s g past e.process e (doing s e.process past) (doing s e.process (e ∷ past)) acc.happens (ih g e.process)))
+        go : (b : Bool) → (e.process == p) ≡ b → LeftIn s p (remaining s (own p (e ∷ past))) (doing s p (e ∷ past))
+        go true i = subst (λ q. LeftIn s q (remaining s (own q (e ∷ past))) (doing s q (e ∷ past))) (eqb-true e.process p i)
+            (subst (λ mine. LeftIn s e.process (remaining s mine) (doing s e.process (e ∷ past))) (sym (own-own e.process e past refl))
+            (remaining-happens s g past e.process e (doing s e.process past) (doing s e.process (e ∷ past)) acc.happens (ih g e.process)))
         go false i =
             let other : e.process ≢ p = λ u. true≢false (sym (eq-eqb e.process p u) ∙ i) in
-            subst (LeftIn s p (left s (own p (e ∷ past)))) (sym (doing-other s p e past other))
-            (subst (λ mine. LeftIn s p (left s mine) (doing s p past)) (sym (own-other p e past other)) (ih g p))
+            subst (LeftIn s p (remaining s (own p (e ∷ past)))) (sym (doing-other s p e past other))
+            (subst (λ mine. LeftIn s p (remaining s mine) (doing s p past)) (sym (own-other p e past other)) (ih g p))
 
 -- The beginning of a unit.
 
@@ -144,11 +144,11 @@ cut-is s p c mine torn (Runs command number at) may i l = cut-run s p c mine tor
 cut-is s p c mine torn (Closes command number (Withdraws w)) may i l = cut-withdrawal s p c mine torn command number w i l.1
 cut-is s p c mine torn _ may i l = cc
 
-step-from : (s : Setup) (past : Past) (p : ℕ) (e : Entry) (d d' : Doing) → Happens s past p e d d' → inside p past ≡ is_inside d → LeftIn s p (left s (own p past)) d → Step s past p e d d'
+step-from : (s : Setup) (past : Past) (p : ℕ) (e : Entry) (d d' : Doing) → Happens s past p e d d' → inside p past ≡ is_inside d → LeftIn s p (remaining s (own p past)) d → Step s past p e d d'
 step-from s past p e d d' (a_call command number was none marks then) i l = calls command number was none then
 step-from s past p e d d' (a_withdrawal command number t w ws run was none marks then) i l = withdraws command number t w ws run was none then
 step-from s past p e d d' (a_failure command number may none marks then) i l =
-    fails command number (failing (call s p command number) (own p past)) (cut-is s p (call s p command number) (own p past) (left s (own p past)) d may (inside-own p past ∙ i) l) none then
+    fails command number (failing (call s p command number) (own p past)) (cut-is s p (call s p command number) (own p past) (remaining s (own p past)) d may (inside-own p past ∙ i) l) none then
 step-from s past p e d d' (a_restart was none marks then) i l = restarts was none then
 step-from s past p e d d' (a_step command number at a flick was over access is marks then) i l = steps command number at a flick was over access is then
 step-from s past p e d d' (a_closing command number at flick n was next access same marks then) i l = closes_on command number at flick n was next (access ∙ ap Some (sym same)) then
@@ -159,7 +159,7 @@ pub step_of : (s : Setup) → IsGood s → (events : List Event) (what : Event) 
 step_of s g events what e h =
     let past : Past = past_of s events in
     let acc : Accepted s past what e = accepted s g events what e h in
-    (acc.process, acc.below, step-from s past e.process e (doing s e.process past) (doing s e.process (e ∷ past)) acc.happens (inside-is s g events e.process) (left-is s g events e.process))
+    (acc.process, acc.below, step-from s past e.process e (doing s e.process past) (doing s e.process (e ∷ past)) acc.happens (inside-is s g events e.process) (remaining-is s g events e.process))
 
 -- a process that does not exist rests
 abbrev AboveAll : Setup → Past → Type 0

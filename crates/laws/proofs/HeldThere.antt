@@ -16,9 +16,9 @@ use Rattle.laws.specs.{Closes, Doing, IsThere, Lies, Rests, Runs, call, closes, 
 use Rattle.laws.proofs.Always.{inv_of}
 use Rattle.laws.proofs.AtPlaces.{AtPlace, own-induction}
 use Rattle.laws.proofs.Frame.{Happens, a_call, a_withdrawal, a_failure, a_restart, a_step, a_closing, doing-other, own-other, own-own}
-use Rattle.laws.proofs.FrameCuts.{LeftClosing, LeftIn, last-made, left}
+use Rattle.laws.proofs.FrameCuts.{LeftClosing, LeftIn, last-made, remaining}
 use Rattle.laws.proofs.FrameEvents.{Accepted, accepted}
-use Rattle.laws.proofs.FrameSteps.{left-is}
+use Rattle.laws.proofs.FrameSteps.{remaining-is}
 use Rattle.laws.proofs.HeldOwners.{OwnersAt, OwnersThere, owner-there, owners_there}
 use Rattle.laws.proofs.Invariant.{Stands, StandsRun, Wires, wires}
 use Rattle.laws.proofs.Notes.{Notes, notes}
@@ -185,8 +185,8 @@ entry-there : (s : Setup) → IsGood s → (events : List Event) (event : Event)
 entry-there s g events event e is cl a h =
     let past : Past = past_of s events in
     let acc : Accepted s past event e = accepted s g events event e is in
-    happens-there s past e.process e (doing s e.process past) (doing s e.process (e ∷ past)) (notes s e.process past) (wires s past e.process) (left s (own e.process past)) acc.happens acc.below
-    (owners_there s g events e.process) ((inv_of s g events).own e.process acc.below).stands (left-is s g events e.process) cl a h
+    happens-there s past e.process e (doing s e.process past) (doing s e.process (e ∷ past)) (notes s e.process past) (wires s past e.process) (remaining s (own e.process past)) acc.happens acc.below
+    (owners_there s g events e.process) ((inv_of s g events).own e.process acc.below).stands (remaining-is s g events e.process) cl a h
 
 closings_there : (s : Setup) → IsGood s → (events : List Event) (p : ℕ) → LastThere s (own p (past_of s events)) × ClosesThere s (doing s p (past_of s events))
 closings_there s g = own-induction s (λ (past : Past) (p : ℕ). LastThere s (own p past) × ClosesThere s (doing s p past)) (λ p. ((λ a h. cc), tt))

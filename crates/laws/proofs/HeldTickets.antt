@@ -6,7 +6,7 @@ use Rattle.model.specs.{Access, Call, Closing, Entry, Event, Mark, Past, Place, 
 use Rattle.plain_store.specs.{Command, Setup}
 use Rattle.model.specs.declared.marks.Mark.TheVariants.{Waiting, Entered, Left}
 use Rattle.model.proofs.Width.{IsGood}
-use Rattle.laws.specs.{Closes, call, doing, is_inside, runs, ticket_after, ticket_told}
+use Rattle.laws.specs.{Closes, call, doing, is_inside, runs, ticket_after, ticket_reported}
 use Rattle.laws.proofs.AtPlaces.{AtPlace, IsOfLock, Stepping, any-closing, any-placed, own-induction, place-induction}
 use Rattle.laws.proofs.DoorwayParts.{of_waiting}
 use Rattle.laws.proofs.Frame.{Happens, a_call, a_withdrawal, a_failure, a_restart, a_step, a_closing, notes-goes, notes-other}
@@ -14,15 +14,15 @@ use Rattle.laws.proofs.FrameEvents.{accepted}
 use Rattle.laws.proofs.FrameInside.{inside-is, inside-runs}
 use Rattle.laws.proofs.Notes.{Notes, notes, notes_after, ticket_by}
 use Rattle.laws.proofs.Theorems.{of_entered}
-use Rattle.laws.proofs.PartTickets.{TicketAt, inside-told, place-on, placed-tells}
+use Rattle.laws.proofs.PartTickets.{TicketAt, inside-reported, place-on, placed-reports}
 
 -- Looking back.
 
-pub told-other : (q : ℕ) (e : Entry) (past : Past) → e.process ≢ q → ticket_told q (e ∷ past) ≡ ticket_told q past
-told-other q e past h = ap (λ b. cond b (fold ticket_after (ticket_told q past) e.marks) (ticket_told q past)) (ne_eqb e.process q h)
+pub reported-other : (q : ℕ) (e : Entry) (past : Past) → e.process ≢ q → ticket_reported q (e ∷ past) ≡ ticket_reported q past
+reported-other q e past h = ap (λ b. cond b (fold ticket_after (ticket_reported q past) e.marks) (ticket_reported q past)) (ne_eqb e.process q h)
 
-told-own : (e : Entry) (past : Past) → ticket_told e.process (e ∷ past) ≡ fold ticket_after (ticket_told e.process past) e.marks
-told-own e past = ap (λ b. cond b (fold ticket_after (ticket_told e.process past) e.marks) (ticket_told e.process past)) (eq-eqb e.process e.process refl)
+reported-own : (e : Entry) (past : Past) → ticket_reported e.process (e ∷ past) ≡ fold ticket_after (ticket_reported e.process past) e.marks
+reported-own e past = ap (λ b. cond b (fold ticket_after (ticket_reported e.process past) e.marks) (ticket_reported e.process past)) (eq-eqb e.process e.process refl)
 
 inside-other : (q : ℕ) (e : Entry) (past : Past) → e.process ≢ q → inside q (e ∷ past) ≡ inside q past
 inside-other q e past h = ap (λ b. cond b (fold inside_after (inside q past) e.marks) (inside q past)) (ne_eqb e.process q h)
@@ -38,18 +38,18 @@ after_event s events event e is P h = subst (λ o. P (elim o as (λ _. Past) [ N
 
 -- the ticket of a process at a place of its call
 abbrev pub TicketIs : Setup → Past → ℕ → Command → ℕ → Place → Type 0
-TicketIs s past p command number at = TicketAt at.part (notes s p past).ticket (ticket_told p past)
+TicketIs s past p command number at = TicketAt at.part (notes s p past).ticket (ticket_reported p past)
 
 others-keep : (s : Setup) (past : Past) (e : Entry) (p : ℕ) (command : Command) (number : ℕ) (at : Place) → e.process ≢ p → TicketIs s past p command number at → TicketIs s (e ∷ past) p command number at
 others-keep s past e p command number at apart h =
-    subst (λ (n : Notes). TicketAt at.part n.ticket (ticket_told p (e ∷ past))) (sym (notes-other s p e past apart))
-    (subst (TicketAt at.part (notes s p past).ticket) (sym (told-other p e past apart)) h)
+    subst (λ (n : Notes). TicketAt at.part n.ticket (ticket_reported p (e ∷ past))) (sym (notes-other s p e past apart))
+    (subst (TicketAt at.part (notes s p past).ticket) (sym (reported-other p e past apart)) h)
 
 step-keeps : (s : Setup) (past : Past) (e : Entry) (command : Command) (number : ℕ) (at : Place) (st : Stepping s past e.process e command number at) → TicketIs s past e.process command number at →
     TicketIs s (e ∷ past) e.process command number (place_after (call s e.process command number) at (value_of st.access.how))
 step-keeps s past e command number at st h =
-    subst (λ t. TicketAt (place_after c at v).part t (ticket_told p (e ∷ past))) (sym held)
-    (subst (TicketAt (place_after c at v).part (ticket_by at.part (is_last c at.part at.run) (notes s p past).ticket)) (sym told) (place-on c at v (notes s p past).ticket (ticket_told p past) h))
+    subst (λ t. TicketAt (place_after c at v).part t (ticket_reported p (e ∷ past))) (sym held)
+    (subst (TicketAt (place_after c at v).part (ticket_by at.part (is_last c at.part at.run) (notes s p past).ticket)) (sym reported) (place-on c at v (notes s p past).ticket (ticket_reported p past) h))
   where
     p : ℕ
     p = e.process
@@ -64,8 +64,8 @@ step-keeps s past e command number at st h =
     held = ap (λ (n : Notes). n.ticket) (notes-goes s p e past refl ∙ ap (λ a. notes_after s p (suc (length past)) a (doing s p past) (notes s p past)) st.is
         ∙ ap (λ d. notes_after s p (suc (length past)) (Some st.access) d (notes s p past)) st.does)
 
-    told : ticket_told p (e ∷ past) ≡ fold ticket_after (ticket_told p past) (marks_of c at v)
-    told = told-own e past ∙ ap (fold ticket_after (ticket_told p past)) st.marks ∙ placed-tells (length (history s past)) (ticket_told p past) (marks_of c at v)
+    reported : ticket_reported p (e ∷ past) ≡ fold ticket_after (ticket_reported p past) (marks_of c at v)
+    reported = reported-own e past ∙ ap (fold ticket_after (ticket_reported p past)) st.marks ∙ placed-reports (length (history s past)) (ticket_reported p past) (marks_of c at v)
 
 -- in every record, at each place of a call
 pub tickets : (s : Setup) → IsGood s → (events : List Event) (p : ℕ) → AtPlace (TicketIs s (past_of s events) p) (doing s p (past_of s events))
@@ -74,8 +74,8 @@ tickets s g = place-induction s g (TicketIs s) (others-keep s) (λ past e comman
 -- Inside.
 
 -- the ticket of a process that is inside
-abbrev InsideTold : Setup → Past → ℕ → Type 0
-InsideTold s past p = inside p past ≡ true → ticket_told p past ≡ (notes s p past).ticket
+abbrev InsideReported : Setup → Past → ℕ → Type 0
+InsideReported s past p = inside p past ≡ true → ticket_reported p past ≡ (notes s p past).ticket
 
 -- marks without a ticket, and with which no process enters
 no-ticket : (was : ℕ) (ms : List Mark) → list_any is_waiting ms ≡ false → fold ticket_after was ms ≡ was
@@ -91,9 +91,9 @@ not-entered is (m ∷ ms) h at = not-entered is ms h at
 
 -- an entry with such marks, which leaves the ticket that is held
 quiet-keeps : (s : Setup) (past : Past) (e : Entry) → list_any is_waiting e.marks ≡ false → list_any is_entered e.marks ≡ false → (notes s e.process (e ∷ past)).ticket ≡ (notes s e.process past).ticket →
-    InsideTold s past e.process → InsideTold s (e ∷ past) e.process
+    InsideReported s past e.process → InsideReported s (e ∷ past) e.process
 quiet-keeps s past e no_wait no_enter held h at =
-    told-own e past ∙ no-ticket (ticket_told e.process past) e.marks no_wait ∙ h (not-entered (inside e.process past) e.marks no_enter (sym (inside-own e past) ∙ at)) ∙ sym held
+    reported-own e past ∙ no-ticket (ticket_reported e.process past) e.marks no_wait ∙ h (not-entered (inside e.process past) e.marks no_enter (sym (inside-own e past) ∙ at)) ∙ sym held
 
 -- one that makes no access does
 idle-holds : (s : Setup) (past : Past) (e : Entry) → e.access ≡ None → (notes s e.process (e ∷ past)).ticket ≡ (notes s e.process past).ticket
@@ -110,15 +110,15 @@ closing-holds s past e a command number at is does =
 -- a step, by the place that it leads to
 step-inside : (s : Setup) (past : Past) (e : Entry) (command : Command) (number : ℕ) (at : Place) (st : Stepping s past e.process e command number at) → AtPlace (TicketIs s past e.process) (doing s e.process past) →
     doing s e.process (e ∷ past) ≡ runs command number (place_after (call s e.process command number) at (value_of st.access.how)) → is_inside (doing s e.process (e ∷ past)) ≡ true →
-    ticket_told e.process (e ∷ past) ≡ (notes s e.process (e ∷ past)).ticket
+    ticket_reported e.process (e ∷ past) ≡ (notes s e.process (e ∷ past)).ticket
 step-inside s past e command number at st h then is =
     let to : Place = place_after (call s e.process command number) at (value_of st.access.how) in
-    inside-told to.part (is_fresh to.run) (notes s e.process (e ∷ past)).ticket (ticket_told e.process (e ∷ past))
+    inside-reported to.part (is_fresh to.run) (notes s e.process (e ∷ past)).ticket (ticket_reported e.process (e ∷ past))
     (step-keeps s past e command number at st (subst (AtPlace (TicketIs s past e.process)) st.does h))
     (sym (inside-runs command number to) ∙ ap is_inside (sym then) ∙ is)
 
 own-keeps : (s : Setup) (past : Past) (e : Entry) → Happens s past e.process e (doing s e.process past) (doing s e.process (e ∷ past)) → AtPlace (TicketIs s past e.process) (doing s e.process past) →
-    inside e.process (e ∷ past) ≡ is_inside (doing s e.process (e ∷ past)) → InsideTold s past e.process → InsideTold s (e ∷ past) e.process
+    inside e.process (e ∷ past) ≡ is_inside (doing s e.process (e ∷ past)) → InsideReported s past e.process → InsideReported s (e ∷ past) e.process
 own-keeps s past e (a_call command number i a m k) place within h = quiet-keeps s past e (ap (list_any is_waiting) m) (ap (list_any is_entered) m) (idle-holds s past e a) h
 own-keeps s past e (a_withdrawal command number t w ws run i a m k) place within h = quiet-keeps s past e (ap (list_any is_waiting) m) (ap (list_any is_entered) m) (idle-holds s past e a) h
 own-keeps s past e (a_failure command number i a m k) place within h = quiet-keeps s past e (ap (list_any is_waiting) m) (ap (list_any is_entered) m) (idle-holds s past e a) h
@@ -131,13 +131,13 @@ own-keeps s past e (a_step command number at a flick i o is made m k) place with
     step-inside s past e command number at (record { access = a; flick = flick; does = i; not_over = o; is = is; made = made; marks = m }) place k (sym within ∙ at_last)
 
 -- in every record
-pub insiders : (s : Setup) → IsGood s → (events : List Event) (p : ℕ) → inside p (past_of s events) ≡ true → ticket_told p (past_of s events) ≡ (notes s p (past_of s events)).ticket
-insiders s g = own-induction s (InsideTold s) (λ p h. absurd (true≢false (sym h))) others mine
+pub insiders : (s : Setup) → IsGood s → (events : List Event) (p : ℕ) → inside p (past_of s events) ≡ true → ticket_reported p (past_of s events) ≡ (notes s p (past_of s events)).ticket
+insiders s g = own-induction s (InsideReported s) (λ p h. absurd (true≢false (sym h))) others mine
   where
-    others : (past : Past) (e : Entry) (p : ℕ) → e.process ≢ p → InsideTold s past p → InsideTold s (e ∷ past) p
-    others past e p apart h at = told-other p e past apart ∙ h (sym (inside-other p e past apart) ∙ at) ∙ ap (λ (n : Notes). n.ticket) (sym (notes-other s p e past apart))
+    others : (past : Past) (e : Entry) (p : ℕ) → e.process ≢ p → InsideReported s past p → InsideReported s (e ∷ past) p
+    others past e p apart h at = reported-other p e past apart ∙ h (sym (inside-other p e past apart) ∙ at) ∙ ap (λ (n : Notes). n.ticket) (sym (notes-other s p e past apart))
 
-    mine : (events : List Event) (event : Event) (e : Entry) → entry_of s (past_of s events) event ≡ Some e → InsideTold s (past_of s events) e.process → InsideTold s (e ∷ past_of s events) e.process
+    mine : (events : List Event) (event : Event) (e : Entry) → entry_of s (past_of s events) event ≡ Some e → InsideReported s (past_of s events) e.process → InsideReported s (e ∷ past_of s events) e.process
     mine events event e is h =
         let past : Past = past_of s events in
         own-keeps s past e (accepted s g events event e is).happens (tickets s g events e.process)

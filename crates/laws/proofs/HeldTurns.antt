@@ -10,9 +10,9 @@ use Rattle.model.proofs.Width.{IsGood}
 use Rattle.laws.specs.{cell_held, doing}
 use Rattle.laws.proofs.Frame.{Does, at_rest, lying, running, leaving, settling}
 use Rattle.laws.proofs.FrameCells.{EntryBy, marks_only, makes, on-copy}
-use Rattle.laws.proofs.FrameCuts.{LeftIn, LeftRun, left}
+use Rattle.laws.proofs.FrameCuts.{LeftIn, LeftRun, remaining}
 use Rattle.laws.proofs.FrameEvents.{accepted, does_all}
-use Rattle.laws.proofs.FrameSteps.{entry-by, left-is}
+use Rattle.laws.proofs.FrameSteps.{entry-by, remaining-is}
 use Rattle.laws.proofs.HeldCells.{held_ends, held_writes, may_move}
 use Rattle.laws.proofs.HeldReads.{access-reads, open_read, reads_are, reads_now}
 
@@ -71,6 +71,6 @@ open_at_place s g events a h = go (does_all s g events p)
     go (settling b i k) = absurd (true≢false (sym now ∙ ap (reads_now s p a) k))
     go (running command b r k) =
         let at : Place = place_at s p mine in
-        let left_there = subst (LeftIn s p (left s mine)) k (left-is s g events p) in
-        let read = reads-place (last_call s p mine) at.part at.run a (left s mine) (sym (ap (reads_now s p a) k) ∙ now) left_there in
+        let left_there = subst (LeftIn s p (remaining s mine)) k (remaining-is s g events p) in
+        let read = reads-place (last_call s p mine) at.part at.run a (remaining s mine) (sym (ap (reads_now s p a) k) ∙ now) left_there in
         (command, b, r, read.0, read.1)

@@ -9,7 +9,7 @@ use Rattle.model.specs.declared.events.Event.TheVariants as event
 use Rattle.model.specs.declared.marks.Mark.TheVariants.{Called}
 use Rattle.model.specs.declared.stages.Stage.TheVariants as stages
 use Rattle.model.specs.reader_copies.Runs as copies
-use Rattle.model.proofs.ClosingStanding.{IsChosen, chosen-after, told-again, withdrawn_stands, unit_stands}
+use Rattle.model.proofs.ClosingStanding.{IsChosen, chosen-after, reported-again, withdrawn_stands, unit_stands}
 use Rattle.model.proofs.Local.{running_steps, option_map-some}
 use Rattle.model.proofs.OpenSteps.{place_at, leaving_at, failing_at, closing-plain}
 use Rattle.model.proofs.Staging.{no_start, no_start-placed}
@@ -177,4 +177,4 @@ step_is s g events p flick e h = go (does_all s g events p)
         (λ n is made. leaving-after c (map value_written (since starts mine)) (value_written e) flick)
     go (settling b i k) = closing-step s past p flick e (failing_at s p mine) k ((unit_stands s g events p b i).1 flick) acc.2
         (λ n is made. unit-after c (before is_failed mine) (map value_written (since is_failed mine)) (value_written e) flick
-        (ap (closing_next c (failing_at s p mine)) (sym (ap value_written made)) ∙ told-again s past c (before is_failed mine) (map value_written (since is_failed mine)) flick n is ∙ sym is))
+        (ap (closing_next c (failing_at s p mine)) (sym (ap value_written made)) ∙ reported-again s past c (before is_failed mine) (map value_written (since is_failed mine)) flick n is ∙ sym is))

@@ -77,8 +77,8 @@ takes-inside s past p e d d' (a_restart i a m k) x h = absurd (true≢false (sym
 takes-inside s past p e d d' (a_step command number at a flick i o is made m k) x h =
     let c : Call = call s p command number in
     let bits : List Bool = bits_with at.run (value_of a.how) in
-    let told : list_any is_taken (marks_of c at (value_of a.how)) ≡ true = sym (ap (list_any is_taken) m ∙ placed-taken (length (history s past)) (marks_of c at (value_of a.how))) ∙ h in
-    let tests = both (is_last c at.part at.run) (list_any is_taken (last_marks c at.part bits)) (sym (any-marks is_taken refl c at (value_of a.how)) ∙ told) in
+    let reported : list_any is_taken (marks_of c at (value_of a.how)) ≡ true = sym (ap (list_any is_taken) m ∙ placed-taken (length (history s past)) (marks_of c at (value_of a.how))) ∙ h in
+    let tests = both (is_last c at.part at.run) (list_any is_taken (last_marks c at.part bits)) (sym (any-marks is_taken refl c at (value_of a.how)) ∙ reported) in
     ap is_inside i ∙ part-takes c at.part bits (is_fresh at.run) tests.1
 takes-inside s past p e d d' (a_closing command number at flick n i next is v m k) x h =
     ap is_inside i ∙ unit-takes (call s p command number) command number at flick n next (subst ClosesInside i x) (sym (ap (list_any is_taken) m ∙ placed-taken (length (history s past)) n.marks) ∙ h)

@@ -172,7 +172,7 @@ pub record Enters (s : Setup) (past : Past) (p : ℕ) (e : Entry) : Type 0 where
   pub inside_then : is_inside (doing s p (e ∷ past)) ≡ true
 
 abbrev pub of_entered : IsOfLock is_entered
-of_entered = record { taken = λ k r. refl; left = refl; settled = λ v. refl; down = refl; withdrawn = refl }
+of_entered = record { taken = λ k r. refl; remaining = refl; settled = λ v. refl; down = refl; withdrawn = refl }
 
 entered-to_d : (c : Call) (t : ℕ) (ws : List Wait) → list_any is_entered (entered_if_none ws) ≡ true → is_inside_at (to_d c t ws) true ≡ true
 entered-to_d c t [] h = go (processes c.setup) []

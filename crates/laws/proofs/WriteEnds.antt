@@ -87,11 +87,11 @@ Finished s past p w = (k r : ℕ) → k < length w.bits → r < s.processes → 
 
 -- the bits are held after this number of Steps, if the write has this number of accesses left
 abbrev Finishes : Setup → ℕ → Type 0
-Finishes s left = (events : List Event) (p : ℕ) (w : RegisterWrite) → register_write s p (doing s p (past_of s events)) ≡ Some w → accesses_in_all s.processes w ≡ left + accesses_made s.processes w →
-    Finished s (steps_alone s p left (past_of s events)) p w
+Finishes s remaining = (events : List Event) (p : ℕ) (w : RegisterWrite) → register_write s p (doing s p (past_of s events)) ≡ Some w → accesses_in_all s.processes w ≡ remaining + accesses_made s.processes w →
+    Finished s (steps_alone s p remaining (past_of s events)) p w
 
-finishes_after : (s : Setup) → IsGood s → (left : ℕ) → Finishes s left → Finishes s (suc left)
-finishes_after s g left finishes events p w h all = subst (λ x. Finished s x p w) (sym (steps_first s p left (past_of s events))) (go (ends_next n w) refl)
+finishes_after : (s : Setup) → IsGood s → (remaining : ℕ) → Finishes s remaining → Finishes s (suc remaining)
+finishes_after s g remaining finishes events p w h all = subst (λ x. Finished s x p w) (sym (steps_first s p remaining (past_of s events))) (go (ends_next n w) refl)
   where
     n : ℕ
     n = s.processes
@@ -102,16 +102,16 @@ finishes_after s g left finishes events p w h all = subst (λ x. Finished s x p 
     step : StepsOn s events p w
     step = steps_on s g events p w h
 
-    go : (b : Bool) → ends_next n w ≡ b → Finished s (steps_alone s p left (past_of s then)) p w
+    go : (b : Bool) → ends_next n w ≡ b → Finished s (steps_alone s p remaining (past_of s then)) p w
     go true ends =
         let whole : accesses_in_all n w ≡ accesses_made n (one_further n w) = all_made s (wires s (past_of s events) p) w (written_so_far s g events p w h) ends in
-        let none : left ≡ 0 = omega (arith, all, whole, one_more n w) in
+        let none : remaining ≡ 0 = omega (arith, all, whole, one_more n w) in
         subst (λ k. Finished s (steps_alone s p k (past_of s then)) p w) (sym none) (step.advanced.all ends)
     go false more = finishes then p (one_further n w) (step.goes_on more) (omega (arith, all, one_more n w, as_many n w))
 
-finishes : (s : Setup) → IsGood s → (left : ℕ) → Finishes s left
+finishes : (s : Setup) → IsGood s → (remaining : ℕ) → Finishes s remaining
 finishes s g zero = λ events p w h all. absurd (omega (arith, all, has_more s (wires s (past_of s events) p) w (written_so_far s g events p w h)))
-finishes s g (suc left) = finishes_after s g left (finishes s g left)
+finishes s g (suc remaining) = finishes_after s g remaining (finishes s g remaining)
 
 -- in every record: a write leaves its bits
 pub writes_leave : WritesLeaveTheirBits
@@ -129,11 +129,11 @@ writes_leave s good events p w h k r low below = record {
     then : Past
     then = write_ended s p w (past_of s events)
 
-    left : accesses_in_all n w ≡ (accesses_in_all n w - accesses_made n w) + accesses_made n w
-    left = omega (arith, has_more s (wires s (past_of s events) p) w (written_so_far s g events p w h))
+    remaining : accesses_in_all n w ≡ (accesses_in_all n w - accesses_made n w) + accesses_made n w
+    remaining = omega (arith, has_more s (wires s (past_of s events) p) w (written_so_far s g events p w h))
 
     whole : Closed (wires s then p w.field k r) (bit w.bits k)
-    whole = finishes s g (accesses_in_all n w - accesses_made n w) events p w h left k r low below
+    whole = finishes s g (accesses_in_all n w - accesses_made n w) events p w h remaining k r low below
 
     held : without_read (cell_held s then (copy p w.field r k)) ≡ without_read (cell_after s then (copy p w.field r k))
     held = held-is s then (copy p w.field r k)

@@ -1,17 +1,17 @@
 -- Text that is written part by part.
 use Rattle.std.proofs.Common.{◌≡◌, ℕ, List, ◌∷◌, ◌++◌, codes, ap, append_assoc, sym}
 use Rattle.std.specs.Fmt.{decimal}
-use Rattle.markup.specs.{Attribute, Tag, attributes_text, entering, escaped, lowering, marking, noting, standing, tag_end, tag_name, telling}
+use Rattle.markup.specs.{Attribute, Tag, attributes_text, entering, escaped, lowering, marking, noting, empty_element, tag_end, tag_name, text_element}
 
 module _ (t : Tag) (attributes : List Attribute) where
-  pub standing_parts : codes "<" ++ (tag_name t ++ (attributes_text attributes ++ codes "/>\n")) ≡ standing t attributes
+  pub standing_parts : codes "<" ++ (tag_name t ++ (attributes_text attributes ++ codes "/>\n")) ≡ empty_element t attributes
   standing_parts = ap (λ l. 60 ∷ l) (sym (append_assoc (tag_name t) (attributes_text attributes) (codes "/>\n")))
 
   pub entering_parts : codes "<" ++ (tag_name t ++ (attributes_text attributes ++ codes ">")) ≡ entering t attributes
   entering_parts = ap (λ l. 60 ∷ l) (sym (append_assoc (tag_name t) (attributes_text attributes) (codes ">")))
 
-  pub telling_parts : (text : List ℕ) → codes "<" ++ (tag_name t ++ (attributes_text attributes ++ (codes ">" ++ (escaped text ++ tag_end t)))) ≡ telling t attributes text
-  telling_parts text = ap (λ l. 60 ∷ l) (five (tag_name t) (attributes_text attributes) (codes ">") (escaped text) (tag_end t))
+  pub reporting_parts : (text : List ℕ) → codes "<" ++ (tag_name t ++ (attributes_text attributes ++ (codes ">" ++ (escaped text ++ tag_end t)))) ≡ text_element t attributes text
+  reporting_parts text = ap (λ l. 60 ∷ l) (five (tag_name t) (attributes_text attributes) (codes ">") (escaped text) (tag_end t))
     where
       five : (a b c d e : List ℕ) → a ++ (b ++ (c ++ (d ++ e))) ≡ (((a ++ b) ++ c) ++ d) ++ e
       five a b c d e = simp append_assoc

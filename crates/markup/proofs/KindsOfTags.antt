@@ -1,10 +1,10 @@
 -- The kinds of the tags that are written, and the elements that they leave open.
 use Rattle.std.proofs.Common.{◌≡◌, ℕ, ◌==◌, ◌||◌, Bool, true, false, cond, List, [], ◌∷◌, ◌++◌, codes, flat_map, Some, refl, ap, sym, ◌∙◌, append_assoc, append-nil}
 use Rattle.std.specs.Fmt.{decimal}
-use Rattle.markup.specs.{Attribute, Begins, Ends, Stack, Stands, Tag, after_kind, after_tags, attribute_text, begun, entering, escaped, group, input_field, is_among, key_name, kind_by, kind_of, last_byte, lowering, marking, meant, noting, opens_in, standing, tag_name, telling, text_names}
+use Rattle.markup.specs.{Attribute, Begins, Ends, Stack, Stands, Tag, after_kind, after_tags, attribute_text, begun, entering, escaped, group, input_field, is_among, key_name, kind_by, kind_of, last_byte, lowering, marking, meant, noting, opens_in, empty_element, tag_name, text_element, text_names}
 use Rattle.markup.specs.declared.names.Tag.TheVariants as tag
 use Rattle.markup.proofs.Stacks.{round}
-use Rattle.markup.proofs.Tags.{body_of, calm-append, calm_attributes, ends_of, field_tags, front_of, inner_entering, inner_field, inner_found, inner_lower, inner_standing, lowered_tags, mark_body, marked_tags, none_body, noted_tags, tag_alone, told_tags}
+use Rattle.markup.proofs.Tags.{body_of, calm-append, calm_attributes, ends_of, field_tags, front_of, inner_entering, inner_field, inner_found, inner_lower, inner_standing, lowered_tags, mark_body, marked_tags, none_body, noted_tags, tag_alone, reported_tags}
 
 -- the last byte of two texts
 last_on : (b : ℕ) (xs ys : List ℕ) → last_byte b (xs ++ ys) ≡ last_byte (last_byte b xs) ys
@@ -99,7 +99,7 @@ no_text tag.Heading = refl
 no_text tag.Item = refl
 
 -- the elements that each tag leaves open
-pub standing_opens : (t : Tag) (attributes : List Attribute) (s : Stack) → opens_in (standing t attributes) s ≡ s
+pub standing_opens : (t : Tag) (attributes : List Attribute) (s : Stack) → opens_in (empty_element t attributes) s ≡ s
 standing_opens t attributes s =
     ap (λ tags. after_tags tags s) (tag_alone (body_of t attributes (codes "/>\n")) (none_body t attributes (codes "/>\n") refl))
     ∙ ap (λ k. after_kind k s) (ap kind_by (inner_standing t attributes) ∙ kind_ended t attributes)
@@ -112,9 +112,9 @@ entering_opens t attributes s =
     ap (λ tags. after_tags tags s) (tag_alone (body_of t attributes (codes ">")) (none_body t attributes (codes ">") refl))
     ∙ ap (λ k. after_kind k s) (ap kind_of (sym (append-nil (body_of t attributes (codes ">")))) ∙ begins_body t attributes [])
 
-pub telling_opens : (t : Tag) (attributes : List Attribute) (text : List ℕ) (s : Stack) → opens_in (telling t attributes text) s ≡ s
-telling_opens t attributes text s =
-    ap (λ tags. after_tags tags s) (told_tags t attributes text)
+pub reporting_opens : (t : Tag) (attributes : List Attribute) (text : List ℕ) (s : Stack) → opens_in (text_element t attributes text) s ≡ s
+reporting_opens t attributes text s =
+    ap (λ tags. after_tags tags s) (reported_tags t attributes text)
     ∙ (λ i. after_kind (kind_end t i) (after_kind (begins_body t attributes (escaped text ++ []) i) s))
     ∙ round (tag_name t) s (no_text t)
 

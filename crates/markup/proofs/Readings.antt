@@ -1,10 +1,10 @@
 -- Reading markup that grows.
 use Rattle.std.proofs.Common.{◌≡◌, ℕ, true, List, [], ◌∷◌, ◌++◌, Result, Ok, Err, OnOk, ap, ◌∙◌, append-nil}
-use Rattle.markup.specs.{Attribute, Reading, Stack, Tag, begun, entering, group, input_field, is_at_rest, is_even, is_no_mark, joined, lines_in, lowering, marking, noting, opens_in, reading, standing, tag_name, tags_of, telling, with_mark, with_tags}
-use Rattle.markup.proofs.KindsOfTags.{entering_opens, field_opens, lowering_opens, marking_opens, noting_opens, standing_opens, telling_opens}
+use Rattle.markup.specs.{Attribute, Reading, Stack, Tag, begun, entering, group, input_field, is_at_rest, is_even, is_no_mark, joined, lines_in, lowering, marking, noting, opens_in, reading, empty_element, tag_name, tags_of, text_element, with_mark, with_tags}
+use Rattle.markup.proofs.KindsOfTags.{entering_opens, field_opens, lowering_opens, marking_opens, noting_opens, standing_opens, reporting_opens}
 use Rattle.markup.proofs.Lines.{lines_on}
 use Rattle.markup.proofs.Stacks.{even_same, opens_on}
-use Rattle.markup.proofs.Tags.{entering_lines, entering_rests, field_lines, field_rests, lowering_lines, lowering_rests, marking_lines, marking_rests, noting_lines, noting_rests, standing_lines, standing_rests, telling_lines, telling_rests}
+use Rattle.markup.proofs.Tags.{entering_lines, entering_rests, field_lines, field_rests, lowering_lines, lowering_rests, marking_lines, marking_rests, noting_lines, noting_rests, standing_lines, standing_rests, reporting_lines, reporting_rests}
 
 -- markup at rest continues
 pub reading_on : (old more : List ℕ) → is_at_rest (tags_of old) ≡ true → reading (old ++ more) ≡ joined (reading old) (reading more)
@@ -34,10 +34,10 @@ grows (Err e) new old bytes more is are = tt
 
 -- bytes that are known to be a written text
 module _ (bytes : List ℕ) (t : Tag) (attributes : List Attribute) where
-  pub standing_settles : bytes ≡ standing t attributes → is_no_mark (tag_name t) ≡ true → is_at_rest (tags_of bytes) ≡ true
+  pub standing_settles : bytes ≡ empty_element t attributes → is_no_mark (tag_name t) ≡ true → is_at_rest (tags_of bytes) ≡ true
   standing_settles is h = ap (λ b. is_at_rest (tags_of b)) is ∙ standing_rests t attributes h
 
-  pub standing_read : bytes ≡ standing t attributes → reading bytes ≡ tags_alone (λ stack. stack)
+  pub standing_read : bytes ≡ empty_element t attributes → reading bytes ≡ tags_alone (λ stack. stack)
   standing_read is = ap reading is ∙ (λ i. record { lines = standing_lines t attributes i; opens = λ stack. standing_opens t attributes stack i })
 
   pub entering_settles : bytes ≡ entering t attributes → is_no_mark (tag_name t) ≡ true → is_at_rest (tags_of bytes) ≡ true
@@ -46,11 +46,11 @@ module _ (bytes : List ℕ) (t : Tag) (attributes : List Attribute) where
   pub entering_read : bytes ≡ entering t attributes → reading bytes ≡ tags_alone (begun (tag_name t))
   entering_read is = ap reading is ∙ (λ i. record { lines = entering_lines t attributes i; opens = λ stack. entering_opens t attributes stack i })
 
-  pub telling_settles : (text : List ℕ) → bytes ≡ telling t attributes text → is_at_rest (tags_of bytes) ≡ true
-  telling_settles text is = ap (λ b. is_at_rest (tags_of b)) is ∙ telling_rests t attributes text
+  pub reporting_settles : (text : List ℕ) → bytes ≡ text_element t attributes text → is_at_rest (tags_of bytes) ≡ true
+  reporting_settles text is = ap (λ b. is_at_rest (tags_of b)) is ∙ reporting_rests t attributes text
 
-  pub telling_read : (text : List ℕ) → bytes ≡ telling t attributes text → reading bytes ≡ tags_alone (λ stack. stack)
-  telling_read text is = ap reading is ∙ (λ i. record { lines = telling_lines t attributes text i; opens = λ stack. telling_opens t attributes text stack i })
+  pub reporting_read : (text : List ℕ) → bytes ≡ text_element t attributes text → reading bytes ≡ tags_alone (λ stack. stack)
+  reporting_read text is = ap reading is ∙ (λ i. record { lines = reporting_lines t attributes text i; opens = λ stack. reporting_opens t attributes text stack i })
 
 module _ (bytes : List ℕ) (attributes : List Attribute) where
   pub field_settles : bytes ≡ input_field attributes → is_at_rest (tags_of bytes) ≡ true

@@ -5,7 +5,7 @@ use Rattle.std.proofs.lemmas.List.Folds.{list_all-append}
 use Rattle.std.specs.Fmt.{decimal}
 use Rattle.std.specs.List.{list_all}
 use Rattle.std.specs.Option.{option_map}
-use Rattle.markup.specs.{Attribute, Key, Tag, attribute_text, cut, entering, escaped, inner, input_field, is_at_rest, is_mark, is_no_mark, is_plain, is_settled, key_name, lines_in, lowering, mark_front, marking, meant, noting, standing, tag_end, tag_name, tags_of, telling, titles, unescaped}
+use Rattle.markup.specs.{Attribute, Key, Tag, attribute_text, cut, entering, escaped, inner, input_field, is_at_rest, is_mark, is_no_mark, is_plain, is_settled, key_name, lines_in, lowering, mark_front, marking, meant, noting, empty_element, tag_end, tag_name, tags_of, text_element, titles, unescaped}
 use Rattle.markup.specs.declared.names.Key.TheVariants as key
 use Rattle.markup.specs.declared.names.Tag.TheVariants as tag
 use Rattle.markup.proofs.Escapes.{text_back, text_plain}
@@ -174,12 +174,12 @@ unmarked_body t attributes end h = no_mark_on (front_of t attributes) end (no_ma
 body_lines : (t : Tag) (attributes : List Attribute) (end : List ℕ) → begins_none end ≡ true → lines_in (60 ∷ body_of t attributes end) ≡ []
 body_lines t attributes end h = ap titles (tag_alone (body_of t attributes end) (none_body t attributes end h)) ∙ no_title_alone (body_of t attributes end)
 
-pub standing_rests : (t : Tag) (attributes : List Attribute) → is_no_mark (tag_name t) ≡ true → is_at_rest (tags_of (standing t attributes)) ≡ true
+pub standing_rests : (t : Tag) (attributes : List Attribute) → is_no_mark (tag_name t) ≡ true → is_at_rest (tags_of (empty_element t attributes)) ≡ true
 standing_rests t attributes h =
     ap is_at_rest (tag_alone (body_of t attributes (codes "/>\n")) (none_body t attributes (codes "/>\n") refl))
     ∙ settled_by (body_of t attributes (codes "/>\n")) (front_of t attributes ++ codes "/") (unmarked_body t attributes (codes "/>\n") h) (inner_standing t attributes)
 
-pub standing_lines : (t : Tag) (attributes : List Attribute) → lines_in (standing t attributes) ≡ []
+pub standing_lines : (t : Tag) (attributes : List Attribute) → lines_in (empty_element t attributes) ≡ []
 standing_lines t attributes = body_lines t attributes (codes "/>\n") refl
 
 pub entering_rests : (t : Tag) (attributes : List Attribute) → is_no_mark (tag_name t) ≡ true → is_at_rest (tags_of (entering t attributes)) ≡ true
@@ -228,32 +228,32 @@ text_tags : (t : Tag) (text : List ℕ) → tags_of (escaped text ++ tag_end t) 
 text_tags t text = tags_on (escaped text) (tag_end t) ∙ (λ i. onto_last (tags_none (escaped text) (begins_of (escaped text) (calm_escaped text)) i) [] ++ end_tags t i)
 
 -- a tag around a text
-pub told_tags : (t : Tag) (attributes : List Attribute) (text : List ℕ) → tags_of (telling t attributes text) ≡ (body_of t attributes (codes ">") ++ (escaped text ++ [])) ∷ (47 ∷ (tag_name t ++ codes ">")) ∷ []
-told_tags t attributes text =
+pub reported_tags : (t : Tag) (attributes : List Attribute) (text : List ℕ) → tags_of (text_element t attributes text) ≡ (body_of t attributes (codes ">") ++ (escaped text ++ [])) ∷ (47 ∷ (tag_name t ++ codes ">")) ∷ []
+reported_tags t attributes text =
     ap tags_of (append_assoc (entering t attributes) (escaped text) (tag_end t))
     ∙ tags_on (entering t attributes) (escaped text ++ tag_end t)
     ∙ (λ i. onto_last (tag_alone (body_of t attributes (codes ">")) (none_body t attributes (codes ">") refl) i) (text_front t text i) ++ text_tags t text i)
 
-pub telling_rests : (t : Tag) (attributes : List Attribute) (text : List ℕ) → is_at_rest (tags_of (telling t attributes text)) ≡ true
-telling_rests t attributes text = ap is_at_rest (told_tags t attributes text) ∙ end_settled t
+pub reporting_rests : (t : Tag) (attributes : List Attribute) (text : List ℕ) → is_at_rest (tags_of (text_element t attributes text)) ≡ true
+reporting_rests t attributes text = ap is_at_rest (reported_tags t attributes text) ∙ end_settled t
 
 no_title_before : (body name : List ℕ) → titles (body ∷ (47 ∷ name) ∷ []) ≡ []
 no_title_before body name = ap (λ found. found ++ []) (nothing (is_mark body))
 
-pub telling_lines : (t : Tag) (attributes : List Attribute) (text : List ℕ) → lines_in (telling t attributes text) ≡ []
-telling_lines t attributes text = ap titles (told_tags t attributes text) ∙ no_title_before (body_of t attributes (codes ">") ++ (escaped text ++ [])) (tag_name t ++ codes ">")
+pub reporting_lines : (t : Tag) (attributes : List Attribute) (text : List ℕ) → lines_in (text_element t attributes text) ≡ []
+reporting_lines t attributes text = ap titles (reported_tags t attributes text) ∙ no_title_before (body_of t attributes (codes ">") ++ (escaped text ++ [])) (tag_name t ++ codes ">")
 
 -- a mark and its title
-titled_tags : (title : List ℕ) → tags_of (telling tag.Title [] title ++ codes "\n") ≡ (codes "title>" ++ (escaped title ++ [])) ∷ codes "/title>\n" ∷ []
-titled_tags title = tags_on (telling tag.Title [] title) (codes "\n") ∙ ap (λ tags. onto_last tags (codes "\n") ++ []) (told_tags tag.Title [] title)
+titled_tags : (title : List ℕ) → tags_of (text_element tag.Title [] title ++ codes "\n") ≡ (codes "title>" ++ (escaped title ++ [])) ∷ codes "/title>\n" ∷ []
+titled_tags title = tags_on (text_element tag.Title [] title) (codes "\n") ∙ ap (λ tags. onto_last tags (codes "\n") ++ []) (reported_tags tag.Title [] title)
 
 abbrev pub mark_body : List Attribute → List ℕ
 mark_body attributes = codes "g class=\"m\" role=\"img\"" ++ (flat_map attribute_text attributes ++ codes ">")
 
 pub marked_tags : (attributes : List Attribute) (title : List ℕ) → tags_of (marking attributes title) ≡ (mark_body attributes ++ []) ∷ (codes "title>" ++ (escaped title ++ [])) ∷ codes "/title>\n" ∷ []
 marked_tags attributes title =
-    ap tags_of (append_assoc (mark_front attributes) (telling tag.Title [] title) (codes "\n"))
-    ∙ tags_on (mark_front attributes) (telling tag.Title [] title ++ codes "\n")
+    ap tags_of (append_assoc (mark_front attributes) (text_element tag.Title [] title) (codes "\n"))
+    ∙ tags_on (mark_front attributes) (text_element tag.Title [] title ++ codes "\n")
     ∙ (λ i. onto_last (tag_alone (mark_body attributes) (none-append (flat_map attribute_text attributes) (codes ">") (begins_of (flat_map attribute_text attributes) (calm_attributes attributes)) refl) i) [] ++ titled_tags title i)
 
 pub marking_rests : (attributes : List Attribute) (title : List ℕ) → is_at_rest (tags_of (marking attributes title)) ≡ true
@@ -265,8 +265,8 @@ marking_lines attributes title = ap titles (marked_tags attributes title) ∙ ap
 -- a group other than a mark, and its title
 pub noted_tags : (title : List ℕ) → tags_of (noting title) ≡ codes "g class=\"r\">" ∷ (codes "title>" ++ (escaped title ++ [])) ∷ codes "/title>\n" ∷ []
 noted_tags title =
-    ap tags_of (append_assoc (codes "<g class=\"r\">") (telling tag.Title [] title) (codes "\n"))
-    ∙ tags_on (codes "<g class=\"r\">") (telling tag.Title [] title ++ codes "\n")
+    ap tags_of (append_assoc (codes "<g class=\"r\">") (text_element tag.Title [] title) (codes "\n"))
+    ∙ tags_on (codes "<g class=\"r\">") (text_element tag.Title [] title ++ codes "\n")
     ∙ ap (λ tags. codes "g class=\"r\">" ∷ tags) (titled_tags title)
 
 pub noting_rests : (title : List ℕ) → is_at_rest (tags_of (noting title)) ≡ true

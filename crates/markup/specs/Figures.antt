@@ -1,7 +1,7 @@
 -- The shapes of a picture, and the text of each.
 use Rattle.std.specs.Prelude.{◌≡◌, ℕ, List, [], ◌∷◌, ◌++◌, codes, flat_map, OnOk, Result}
 use Rattle.std.specs.Fmt.{decimal}
-use Rattle.markup.specs.Markup.{Said, marking_by, noting, said_text, standing_by, telling_by}
+use Rattle.markup.specs.Markup.{Said, marking_by, noting, said_text, empty_element_by, text_element_by}
 use Rattle.markup.specs.declared.figures.Point.{Point}
 use Rattle.markup.specs.declared.names.Key.TheVariants as key
 use Rattle.markup.specs.declared.names.Tag.TheVariants as tag
@@ -27,11 +27,11 @@ styled style says = flat_map said_text ((key.Class, style) ∷ says)
 
 -- a shape as text, on a line of its own
 unfoldable pub drawn : Shape → List ℕ
-drawn (Path style along) = standing_by tag.Path (styled style ((key.Path, along) ∷ []))
-drawn (Block style corner width height) = standing_by tag.Rect (styled style (place_said corner ++ (key.Width, decimal width) ∷ (key.Height, decimal height) ∷ []))
-drawn (Pill style corner width) = standing_by tag.Rect (styled style (place_said corner ++ (key.Width, decimal width) ∷ (key.Height, decimal 16) ∷ (key.Rx, decimal 8) ∷ []))
-drawn (Ring style middle) = standing_by tag.Circle (styled style ((key.Cx, decimal middle.x) ∷ (key.Cy, decimal middle.y) ∷ (key.R, decimal 5) ∷ []))
-drawn (Label style at text) = telling_by tag.Text (styled style (place_said at)) text ++ codes "\n"
+drawn (Path style along) = empty_element_by tag.Path (styled style ((key.Path, along) ∷ []))
+drawn (Block style corner width height) = empty_element_by tag.Rect (styled style (place_said corner ++ (key.Width, decimal width) ∷ (key.Height, decimal height) ∷ []))
+drawn (Pill style corner width) = empty_element_by tag.Rect (styled style (place_said corner ++ (key.Width, decimal width) ∷ (key.Height, decimal 16) ∷ (key.Rx, decimal 8) ∷ []))
+drawn (Ring style middle) = empty_element_by tag.Circle (styled style ((key.Cx, decimal middle.x) ∷ (key.Cy, decimal middle.y) ∷ (key.R, decimal 5) ∷ []))
+drawn (Label style at text) = text_element_by tag.Text (styled style (place_said at)) text ++ codes "\n"
 drawn (Mark says line) = marking_by (flat_map said_text says) line
 drawn (Note title) = noting title
 drawn End = codes "</g>\n"

@@ -89,11 +89,11 @@ abbrev pub tag_end : Tag → List ℕ
 tag_end tag = codes "</" ++ tag_name tag ++ codes ">"
 
 -- a tag with nothing in it, and the end of its line
-abbrev pub standing_by : Tag → List ℕ → List ℕ
-standing_by tag attributes = front_by tag attributes ++ codes "/>\n"
+abbrev pub empty_element_by : Tag → List ℕ → List ℕ
+empty_element_by tag attributes = front_by tag attributes ++ codes "/>\n"
 
-abbrev pub standing : Tag → List Attribute → List ℕ
-standing tag attributes = standing_by tag (attributes_text attributes)
+abbrev pub empty_element : Tag → List Attribute → List ℕ
+empty_element tag attributes = empty_element_by tag (attributes_text attributes)
 
 -- a tag whose content follows
 abbrev pub entering_by : Tag → List ℕ → List ℕ
@@ -103,11 +103,11 @@ abbrev pub entering : Tag → List Attribute → List ℕ
 entering tag attributes = entering_by tag (attributes_text attributes)
 
 -- a tag around a text
-abbrev pub telling_by : Tag → List ℕ → List ℕ → List ℕ
-telling_by tag attributes text = entering_by tag attributes ++ escaped text ++ tag_end tag
+abbrev pub text_element_by : Tag → List ℕ → List ℕ → List ℕ
+text_element_by tag attributes text = entering_by tag attributes ++ escaped text ++ tag_end tag
 
-abbrev pub telling : Tag → List Attribute → List ℕ → List ℕ
-telling tag attributes = telling_by tag (attributes_text attributes)
+abbrev pub text_element : Tag → List Attribute → List ℕ → List ℕ
+text_element tag attributes = text_element_by tag (attributes_text attributes)
 
 -- the tag of a mark
 abbrev pub mark_front_by : List ℕ → List ℕ
@@ -118,14 +118,14 @@ mark_front attributes = mark_front_by (attributes_text attributes)
 
 -- a mark and its title, and the end of their line: the mark is not yet ended
 abbrev pub marking_by : List ℕ → List ℕ → List ℕ
-marking_by attributes title = mark_front_by attributes ++ telling tag.Title [] title ++ codes "\n"
+marking_by attributes title = mark_front_by attributes ++ text_element tag.Title [] title ++ codes "\n"
 
 abbrev pub marking : List Attribute → List ℕ → List ℕ
 marking attributes = marking_by (attributes_text attributes)
 
 -- a group other than a mark and its title, and the end of their line: the group is not yet ended
 abbrev pub noting : List ℕ → List ℕ
-noting title = codes "<g class=\"r\">" ++ telling tag.Title [] title ++ codes "\n"
+noting title = codes "<g class=\"r\">" ++ text_element tag.Title [] title ++ codes "\n"
 
 -- a field for input, which has no content
 abbrev pub input_field : List Attribute → List ℕ

@@ -53,7 +53,7 @@ impl Markup {
     {
         let Point { x, y } = from;
         let path = format!(in self.alloc(); "M{x} {y}{rest}")?;
-        self.stand(
+        self.add_empty_element(
             Tag::Path,
             &[class(style), words(Key::Path, path.as_bytes())],
         )
@@ -75,7 +75,7 @@ impl Markup {
         ensures draws { AddsShape result self.old (Block style.now corner width height) self.new }
         ensures read { OnOk result (reading self.new ≡ reading self.old) }
     {
-        self.stand(
+        self.add_empty_element(
             Tag::Rect,
             &[
                 class(style),
@@ -97,7 +97,7 @@ impl Markup {
         ensures draws { AddsShape result self.old (Pill style.now corner width) self.new }
         ensures read { OnOk result (reading self.new ≡ reading self.old) }
     {
-        self.stand(
+        self.add_empty_element(
             Tag::Rect,
             &[
                 class(style),
@@ -120,7 +120,7 @@ impl Markup {
         ensures draws { AddsShape result self.old (Ring style.now middle) self.new }
         ensures read { OnOk result (reading self.new ≡ reading self.old) }
     {
-        self.stand(
+        self.add_empty_element(
             Tag::Circle,
             &[
                 class(style),
@@ -146,7 +146,7 @@ impl Markup {
             number(Key::X, u64::from(at.x)),
             number(Key::Y, u64::from(at.y)),
         ];
-        self.tell(Tag::Text, &attributes, text)?;
+        self.add_text_element(Tag::Text, &attributes, text)?;
         self.constant("\n")
     }
 

@@ -2,7 +2,7 @@
 ghost use Rattle.std.specs.Prelude.{◌≡◌, ◌++◌, [], true, OnOk};
 ghost use Rattle.markup.specs.Elements.{is_even};
 ghost use Rattle.markup.specs.Figures.{AddsShape, Note};
-ghost use Rattle.markup.specs.Markup.{entering, input_field, marking, parts_text, standing, tag_name, telling};
+ghost use Rattle.markup.specs.Markup.{entering, input_field, marking, parts_text, empty_element, tag_name, text_element};
 ghost use Rattle.markup.specs.Readings.{followed_by, group, reading, with_begun, with_entered, with_mark, with_tags_of};
 ghost use Rattle.markup.specs.Titles.{is_at_rest, is_no_mark, lines_in, tags_of};
 
@@ -60,9 +60,9 @@ impl Markup {
     /// # Errors
     ///
     /// Returns [`AllocError`] if memory runs out.
-    pub fn stand(&mut self, tag: Tag, attributes: &[Attribute]) -> Result<(), AllocError>
+    pub fn add_empty_element(&mut self, tag: Tag, attributes: &[Attribute]) -> Result<(), AllocError>
         requires { is_no_mark (tag_name tag) ≡ true }
-        ensures draws { OnOk result (self.new ≡ self.old ++ standing tag attributes.now) }
+        ensures draws { OnOk result (self.new ≡ self.old ++ empty_element tag attributes.now) }
         ensures read { OnOk result (reading self.new ≡ reading self.old) }
     {
         self.add_parts(&[
@@ -96,13 +96,13 @@ impl Markup {
     /// # Errors
     ///
     /// Returns [`AllocError`] if memory runs out.
-    pub fn tell(
+    pub fn add_text_element(
         &mut self,
         tag: Tag,
         attributes: &[Attribute],
         text: &[u8],
     ) -> Result<(), AllocError>
-        ensures draws { OnOk result (self.new ≡ self.old ++ telling tag attributes.now text.now) }
+        ensures draws { OnOk result (self.new ≡ self.old ++ text_element tag attributes.now text.now) }
         ensures read { OnOk result (reading self.new ≡ reading self.old) }
     {
         self.add_parts(&[

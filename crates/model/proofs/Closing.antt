@@ -12,7 +12,7 @@ use Rattle.safe_number.proofs.Bits.{length-bits_of_number}
 use Rattle.plain_store.specs.declared.Answer.TheVariants as answer
 use Rattle.model.specs.declared.marks.Mark.TheVariants.{Left, Answered, Down}
 use Rattle.model.specs.Closings.{Closing, Withdraws, Settles, Frees, Lowers, Quit, Ended, no_ticket, is_unwritten, settled_marks, freeing, closing_next, closing_after}
-use Rattle.model.proofs.Cursors.{Goes, Moved, left_written, left-next, left-new, left-done, write-moves}
+use Rattle.model.proofs.Cursors.{Goes, Moved, left_written, remaining-next, remaining-new, remaining-done, write-moves}
 
 -- the unit's last write, and its two writes
 abbrev pub lowering : Call → Script
@@ -22,14 +22,14 @@ abbrev pub clearing_too : Call → Bool → Script
 clearing_too c is = writing c Ticket (no_ticket c) (cond is (Left ∷ []) []) [] ∷ lowering c
 
 -- the accesses and marks that are left; v is the value that is settled at
-abbrev pub left : Call → Closing → Bool → List Next
-left c (Withdraws w) v = single [] (Answered answer.Withdrawn ∷ []) (map (access_of c.process Ticket) (left_written c.setup.processes (no_ticket c) w))
-left c (Settles field bit begun taken is t) v =
+abbrev pub remaining : Call → Closing → Bool → List Next
+remaining c (Withdraws w) v = single [] (Answered answer.Withdrawn ∷ []) (map (access_of c.process Ticket) (left_written c.setup.processes (no_ticket c) w))
+remaining c (Settles field bit begun taken is t) v =
     single [] (settled_marks begun taken v) (map (access_of c.process field) (map (at_bit bit) (copies.rest_of_settling c.setup.processes t v))) ++ singles (clearing_too c is)
-left c (Frees is w) v = single (cond (is && is_unwritten w) (Left ∷ []) []) [] (map (access_of c.process Ticket) (left_written c.setup.processes (no_ticket c) w)) ++ singles (lowering c)
-left c (Lowers w) v = single [] (Down ∷ []) (map (access_of c.process Choosing) (left_written c.setup.processes (false ∷ []) w))
-left c Quit v = []
-left c Ended v = []
+remaining c (Frees is w) v = single (cond (is && is_unwritten w) (Left ∷ []) []) [] (map (access_of c.process Ticket) (left_written c.setup.processes (no_ticket c) w)) ++ singles (lowering c)
+remaining c (Lowers w) v = single [] (Down ∷ []) (map (access_of c.process Choosing) (left_written c.setup.processes (false ∷ []) w))
+remaining c Quit v = []
+remaining c Ended v = []
 
 -- it goes on, at this value
 abbrev pub Fit : Call → Closing → Bool → Bool → Type 0
@@ -56,7 +56,7 @@ pub record Further (n : ℕ) (bits : List Bool) (w : NumberWrite) : Type 0 where
 
 pub further : (n : ℕ) (bits : List Bool) (w : NumberWrite) → 0 < n → Goes n bits w → Further n bits w
 further n bits w some on = record {
-  none = λ l. left-done n bits to (eqb-true to.bit w.width l ∙ sym same);
+  none = λ l. remaining-done n bits to (eqb-true to.bit w.width l ∙ sym same);
   goes = λ l. let apart : to.bit ≡ w.width → ⊥ = eqb-false to.bit w.width l in record { width = m.width; inside = omega (arith, m.inside, same, apart); going = m.going };
   begun = m.begun;
 }
@@ -75,9 +75,9 @@ pub write-step : (n : ℕ) (bits : List Bool) (w : NumberWrite) (f : ℕ × Made
     single first last (map f (left_written n bits w))
     ≡ (let x : Next = record { access = f (next_written bits w); marks = first ++ cond ((write_moved n bits w).bit == w.width) last [] } in x) ∷ single [] last (map f (left_written n bits (write_moved n bits w)))
 write-step n bits w f first last some on =
-    ap (λ l. single first last (map f l)) (left-next n bits w on)
+    ap (λ l. single first last (map f l)) (remaining-next n bits w on)
     ∙ single-step first last (f (next_written bits w)) (map f (left_written n bits to)) (to.bit == w.width) (λ l. ap (map f) (more.none l))
-    (λ l. omega (arith, length-map (left_written n bits to) f, ap length (left-next n bits to (more.goes l))))
+    (λ l. omega (arith, length-map (left_written n bits to) f, ap length (remaining-next n bits to (more.goes l))))
   where
     to : NumberWrite
     to = write_moved n bits w
@@ -139,11 +139,11 @@ settle-step n t v f bit last h =
 pub ticket_width : (c : Call) → c.setup.ticket_bits ≡ length (no_ticket c)
 ticket_width c = sym (length-bits_of_number c.setup.ticket_bits 0)
 
-pub lowering-new : (c : Call) (v : Bool) → singles (lowering c) ≡ left c (Lowers (new_write 1)) v
-lowering-new c v = append-nil _ ∙ ap (λ l. single [] (Down ∷ []) (map (access_of c.process Choosing) l)) (sym (left-new c.setup.processes (false ∷ []) 1 refl))
+pub lowering-new : (c : Call) (v : Bool) → singles (lowering c) ≡ remaining c (Lowers (new_write 1)) v
+lowering-new c v = append-nil _ ∙ ap (λ l. single [] (Down ∷ []) (map (access_of c.process Choosing) l)) (sym (remaining-new c.setup.processes (false ∷ []) 1 refl))
 
-pub freeing-new : (c : Call) (is v : Bool) → singles (clearing_too c is) ≡ left c (freeing c is) v
-freeing-new c is v = ap (λ l. single (cond is (Left ∷ []) []) [] (map (access_of c.process Ticket) l) ++ singles (lowering c)) (sym (left-new c.setup.processes (no_ticket c) c.setup.ticket_bits (ticket_width c))) ∙ go is
+pub freeing-new : (c : Call) (is v : Bool) → singles (clearing_too c is) ≡ remaining c (freeing c is) v
+freeing-new c is v = ap (λ l. single (cond is (Left ∷ []) []) [] (map (access_of c.process Ticket) l) ++ singles (lowering c)) (sym (remaining-new c.setup.processes (no_ticket c) c.setup.ticket_bits (ticket_width c))) ∙ go is
   where
     go : (is : Bool) → single (cond is (Left ∷ []) []) [] (map (access_of c.process Ticket) (left_written c.setup.processes (no_ticket c) (new_write c.setup.ticket_bits))) ++ singles (lowering c)
         ≡ single (cond (is && true) (Left ∷ []) []) [] (map (access_of c.process Ticket) (left_written c.setup.processes (no_ticket c) (new_write c.setup.ticket_bits))) ++ singles (lowering c)
@@ -152,4 +152,4 @@ freeing-new c is v = ap (λ l. single (cond is (Left ∷ []) []) [] (map (access
 
 -- the accesses that are left begin with the next access, and the rest of them are left after it
 abbrev pub Steps : Call → Closing → Bool → Bool → Type 0
-Steps c at v flick = (n : Next) × (closing_next c at flick ≡ Some n) × (left c at v ≡ n ∷ left c (closing_after c at flick) v) × ((more : Bool) → Fit c (closing_after c at flick) v more)
+Steps c at v flick = (n : Next) × (closing_next c at flick ≡ Some n) × (remaining c at v ≡ n ∷ remaining c (closing_after c at flick) v) × ((more : Bool) → Fit c (closing_after c at flick) v more)

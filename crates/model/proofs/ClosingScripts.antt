@@ -11,9 +11,9 @@ use Rattle.plain_store.specs.{Reply}
 use Rattle.model.specs.declared.marks.Mark.TheVariants.{Taken, Left, Answered, Settled, Down}
 use Rattle.model.specs.declared.stages.Stage.TheVariants as stage
 use Rattle.model.specs.Closings.{Closing, Withdraws, Settles, Frees, Lowers, Quit, Ended, no_ticket, is_last_written, is_unwritten, is_last_settled, settled_marks, withdrawing, freeing, settling_from, failing, closing_next, closing_after, closing_stage, closing_of}
-use Rattle.model.proofs.Cursors.{drop-more, get-drop, Goes, left_written, left-new}
+use Rattle.model.proofs.Cursors.{drop-more, get-drop, Goes, left_written, remaining-new}
 use Rattle.model.proofs.Width.{IsGood}
-use Rattle.model.proofs.Closing.{Fit, Further, Settled-on, Steps, clearing_too, freeing-new, further, left, lowering, lowering-new, settle-step, settles-on, ticket_width, write-step}
+use Rattle.model.proofs.Closing.{Fit, Further, Settled-on, Steps, clearing_too, freeing-new, further, remaining, lowering, lowering-new, settle-step, settles-on, ticket_width, write-step}
 
 abbrev pub goes_on : Closing → Bool
 goes_on Quit = false
@@ -44,7 +44,7 @@ withdraws-step c g w v flick on = (next, refl, write-step n bits w f [] last (om
     more : Further n bits w
     more = further n bits w (omega (arith, g.processes_is)) on
 
-    go : (b : Bool) → (b ≡ true → left_written n bits to ≡ []) → single [] last (map f (left_written n bits to)) ≡ left c (cond b Quit (Withdraws to)) v
+    go : (b : Bool) → (b ≡ true → left_written n bits to ≡ []) → single [] last (map f (left_written n bits to)) ≡ remaining c (cond b Quit (Withdraws to)) v
     go true none = ap (λ l. single [] last (map f l)) (none refl)
     go false none = refl
 
@@ -76,7 +76,7 @@ lowers-step c g w v flick on = (next, refl, write-step n bits w f [] last (omega
     more : Further n bits w
     more = further n bits w (omega (arith, g.processes_is)) on
 
-    go : (b : Bool) → (b ≡ true → left_written n bits to ≡ []) → single [] last (map f (left_written n bits to)) ≡ left c (cond b Ended (Lowers to)) v
+    go : (b : Bool) → (b ≡ true → left_written n bits to ≡ []) → single [] last (map f (left_written n bits to)) ≡ remaining c (cond b Ended (Lowers to)) v
     go true none = ap (λ l. single [] last (map f l)) (none refl)
     go false none = refl
 
@@ -130,7 +130,7 @@ frees-step c g is w v flick on = (
         neither true = refl
         neither false = refl
 
-    go : (b : Bool) → (b ≡ true → left_written n bits to ≡ []) → single [] [] (map f (left_written n bits to)) ++ singles (lowering c) ≡ left c (cond b (Lowers (new_write 1)) (Frees is to)) v
+    go : (b : Bool) → (b ≡ true → left_written n bits to ≡ []) → single [] [] (map f (left_written n bits to)) ++ singles (lowering c) ≡ remaining c (cond b (Lowers (new_write 1)) (Frees is to)) v
     go true none = ap (λ l. single [] [] (map f l) ++ singles (lowering c)) (none refl) ∙ lowering-new c v
     go false none = ap (λ m. single m [] (map f (left_written n bits to)) ++ singles (lowering c)) (sym unmarked)
 
@@ -165,7 +165,7 @@ settles-step c g field bit begun taken is t v flick within e = subst (λ u. Step
     on = settles-on n t u within
 
     go : (b : Bool) → (b ≡ true → copies.rest_of_settling n to u ≡ []) →
-        single [] last (map f (map (at_bit bit) (copies.rest_of_settling n to u))) ++ singles (clearing_too c is) ≡ left c (cond b (freeing c is) (Settles field bit begun taken is to)) u
+        single [] last (map f (map (at_bit bit) (copies.rest_of_settling n to u))) ++ singles (clearing_too c is) ≡ remaining c (cond b (freeing c is) (Settles field bit begun taken is to)) u
     go true none = ap (λ l. single [] last (map f (map (at_bit bit) l)) ++ singles (clearing_too c is)) (none refl) ∙ freeing-new c is u
     go false none = refl
 
@@ -192,10 +192,10 @@ over-after c Quit flick o = refl
 over-after c Ended flick o = refl
 over-after c _ flick o = cc
 
-over-left : (c : Call) (at : Closing) (v : Bool) → goes_on at ≡ false → left c at v ≡ []
-over-left c Quit v o = refl
-over-left c Ended v o = refl
-over-left c _ v o = cc
+over-remaining : (c : Call) (at : Closing) (v : Bool) → goes_on at ≡ false → remaining c at v ≡ []
+over-remaining c Quit v o = refl
+over-remaining c Ended v o = refl
+over-remaining c _ v o = cc
 
 over-fit : (c : Call) (at : Closing) (v flick : Bool) → goes_on at ≡ false → Fit c at v flick
 over-fit c Quit v flick o = tt
@@ -222,12 +222,12 @@ first-more f (g ∷ h ∷ flicks) flick = first-more g (h ∷ flicks) flick ∙ 
 
 -- a script, one for each value that may be settled at, and the machine that starts with it
 pub record Starts (c : Call) (script : Bool → Script) (start : Closing) : Type 0 where
-  pub all : (v : Bool) → singles (script v) ≡ left c start v
+  pub all : (v : Bool) → singles (script v) ≡ remaining c start v
   pub fit : (v : Bool) → Fit c start v v
 
 -- after any flicks the machine has left what the script has
 pub record Stays (c : Call) (script : Bool → Script) (start : Closing) (flicks : List Bool) (flick : Bool) : Type 0 where
-  pub left_is : drop (length flicks) (singles (script (first_flick flicks flick))) ≡ left c (closing_of c start flicks) (first_flick flicks flick)
+  pub remaining_is : drop (length flicks) (singles (script (first_flick flicks flick))) ≡ remaining c (closing_of c start flicks) (first_flick flicks flick)
   pub fit : Fit c (closing_of c start flicks) (first_flick flicks flick) flick
 
 stays-more : (c : Call) → IsGood c.setup → (script : Bool → Script) (start : Closing) (f : Bool) (flicks : List Bool) (flick : Bool) → Stays c script start flicks f → Stays c script start (f ∷ flicks) flick
@@ -242,9 +242,9 @@ stays-more c g script start f flicks flick before = go (goes_on at) refl
     value : first_flick (f ∷ flicks) flick ≡ v
     value = first-more f flicks flick
 
-    with_value : drop (suc (length flicks)) (singles (script v)) ≡ left c (closing_after c at f) v → Fit c (closing_after c at f) v flick → Stays c script start (f ∷ flicks) flick
+    with_value : drop (suc (length flicks)) (singles (script v)) ≡ remaining c (closing_after c at f) v → Fit c (closing_after c at f) v flick → Stays c script start (f ∷ flicks) flick
     with_value l k = record {
-      left_is = subst (λ u. drop (suc (length flicks)) (singles (script u)) ≡ left c (closing_after c at f) u) (sym value) l;
+      remaining_is = subst (λ u. drop (suc (length flicks)) (singles (script u)) ≡ remaining c (closing_after c at f) u) (sym value) l;
       fit = subst (λ u. Fit c (closing_after c at f) u flick) (sym value) k;
     }
 
@@ -252,19 +252,19 @@ stays-more c g script start f flicks flick before = go (goes_on at) refl
     go true o =
         let st = step c g at v f o before.fit in
         let one : suc (length flicks) ≡ length flicks + 1 = omega arith in
-        with_value (ap (λ k. drop k (singles (script v))) one ∙ drop-more (singles (script v)) (left c (closing_after c at f) v) (length flicks) st.0 (before.left_is ∙ st.2)) (st.3 flick)
+        with_value (ap (λ k. drop k (singles (script v))) one ∙ drop-more (singles (script v)) (remaining c (closing_after c at f) v) (length flicks) st.0 (before.remaining_is ∙ st.2)) (st.3 flick)
     go false o = with_value
-        (drop-none (singles (script v)) (length flicks) (before.left_is ∙ over-left c at v o) ∙ sym (over-left c at v o) ∙ ap (λ x. left c x v) (sym (over-after c at f o)))
+        (drop-none (singles (script v)) (length flicks) (before.remaining_is ∙ over-remaining c at v o) ∙ sym (over-remaining c at v o) ∙ ap (λ x. remaining c x v) (sym (over-after c at f o)))
         (subst (λ x. Fit c x v flick) (sym (over-after c at f o)) (over-fit c at v flick o))
 
 stays : (c : Call) → IsGood c.setup → (script : Bool → Script) (start : Closing) → Starts c script start → (flicks : List Bool) (flick : Bool) → Stays c script start flicks flick
-stays c g script start s [] flick = record { left_is = s.all flick; fit = s.fit flick }
+stays c g script start s [] flick = record { remaining_is = s.all flick; fit = s.fit flick }
 stays c g script start s (f ∷ flicks) flick = stays-more c g script start f flicks flick (stays c g script start s flicks f)
 
 -- so the next access of the closing machine is the script's
-pub closing-tells : (c : Call) → IsGood c.setup → (script : Bool → Script) (start : Closing) → Starts c script start → (flicks : List Bool) (flick : Bool) →
+pub closing-reports : (c : Call) → IsGood c.setup → (script : Bool → Script) (start : Closing) → Starts c script start → (flicks : List Bool) (flick : Bool) →
     nth (length flicks) (script (first_flick flicks flick)) ≡ closing_next c (closing_of c start flicks) flick
-closing-tells c g script start s flicks flick = go (goes_on at) refl
+closing-reports c g script start s flicks flick = go (goes_on at) refl
   where
     at : Closing
     at = closing_of c start flicks
@@ -278,21 +278,21 @@ closing-tells c g script start s flicks flick = go (goes_on at) refl
     go : (b : Bool) → goes_on at ≡ b → slice_get (singles (script v)) (length flicks) ≡ closing_next c at flick
     go true o =
         let st = step c g at v flick o here.fit in
-        get-drop (singles (script v)) (left c (closing_after c at flick) v) (length flicks) st.0 (here.left_is ∙ st.2) ∙ sym st.1
-    go false o = get-past (singles (script v)) (length flicks) (here.left_is ∙ over-left c at v o) ∙ sym (over-next c at flick o)
+        get-drop (singles (script v)) (remaining c (closing_after c at flick) v) (length flicks) st.0 (here.remaining_is ∙ st.2) ∙ sym st.1
+    go false o = get-past (singles (script v)) (length flicks) (here.remaining_is ∙ over-remaining c at v o) ∙ sym (over-next c at flick o)
 
 -- the withdrawal's
 pub withdrawal-starts : (c : Call) → IsGood c.setup → Starts c (λ v. withdrawn c) (withdrawing c)
 withdrawal-starts c g = record {
-  all = λ v. append-nil _ ∙ ap (λ l. single [] (Answered answer.Withdrawn ∷ []) (map (access_of c.process Ticket) l)) (sym (left-new c.setup.processes (no_ticket c) c.setup.ticket_bits (ticket_width c)));
+  all = λ v. append-nil _ ∙ ap (λ l. single [] (Answered answer.Withdrawn ∷ []) (map (access_of c.process Ticket) l)) (sym (remaining-new c.setup.processes (no_ticket c) c.setup.ticket_bits (ticket_width c)));
   fit = λ v. new-goes c.setup.processes (no_ticket c) c.setup.ticket_bits (omega (arith, g.processes_is)) (omega (arith, g.ticket_is)) (ticket_width c);
 }
 
 pub withdrawal-stays : (c : Call) → IsGood c.setup → (flicks : List Bool) (flick : Bool) → Stays c (λ v. withdrawn c) (withdrawing c) flicks flick
 withdrawal-stays c g = stays c g (λ v. withdrawn c) (withdrawing c) (withdrawal-starts c g)
 
-pub withdrawal-tells : (c : Call) → IsGood c.setup → (flicks : List Bool) (flick : Bool) → nth (length flicks) (withdrawn c) ≡ closing_next c (closing_of c (withdrawing c) flicks) flick
-withdrawal-tells c g = closing-tells c g (λ v. withdrawn c) (withdrawing c) (withdrawal-starts c g)
+pub withdrawal-reports : (c : Call) → IsGood c.setup → (flicks : List Bool) (flick : Bool) → nth (length flicks) (withdrawn c) ≡ closing_next c (closing_of c (withdrawing c) flicks) flick
+withdrawal-reports c g = closing-reports c g (λ v. withdrawn c) (withdrawing c) (withdrawal-starts c g)
 
 -- the marks of a settling, of a commit bit or of another
 commit-marks : (b begun v : Bool) (r : Reply) → Settled v ∷ cond (b && cond v begun (not begun)) (Taken 0 r ∷ []) [] ≡ settled_marks begun (cond b (Some r) None) v
@@ -323,9 +323,9 @@ unit-starts c g past = starts (unfinished c.setup.processes (last_write past))
 pub unit-stays : (c : Call) → IsGood c.setup → (past : Past) (flicks : List Bool) (flick : Bool) → Stays c (unit_program c past) (failing c past) flicks flick
 unit-stays c g past = stays c g (unit_program c past) (failing c past) (unit-starts c g past)
 
-pub unit-tells : (c : Call) → IsGood c.setup → (past : Past) (flicks : List Bool) (flick : Bool) →
+pub unit-reports : (c : Call) → IsGood c.setup → (past : Past) (flicks : List Bool) (flick : Bool) →
     nth (length flicks) (unit_program c past (first_flick flicks flick)) ≡ closing_next c (closing_of c (failing c past) flicks) flick
-unit-tells c g past = closing-tells c g (unit_program c past) (failing c past) (unit-starts c g past)
+unit-reports c g past = closing-reports c g (unit_program c past) (failing c past) (unit-starts c g past)
 
 -- the marks lead to the stages
 pub closing-stages : (c : Call) (at : Closing) (flick : Bool) (n : Next) → closing_next c at flick ≡ Some n → fold stage_after (closing_stage at) n.marks ≡ closing_stage (closing_after c at flick)

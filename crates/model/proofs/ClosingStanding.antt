@@ -12,7 +12,7 @@ use Rattle.model.specs.declared.marks.Mark.TheVariants.{Called, Failed, Withdrew
 use Rattle.model.specs.declared.stages.Stage.TheVariants as stage
 use Rattle.model.specs.Closings.{Closing, Withdraws, Settles, Frees, Lowers, Quit, Ended, withdrawing, settling_from, failing, freeing, is_last_written, is_last_settled, no_ticket, closing_next, closing_after, closing_stage, closing_of, closing_entry}
 use Rattle.model.proofs.Accepted.{rooms, no_failed}
-use Rattle.model.proofs.ClosingScripts.{goes_on, over-next, first-more, withdrawal-tells, unit-tells}
+use Rattle.model.proofs.ClosingScripts.{goes_on, over-next, first-more, withdrawal-reports, unit-reports}
 use Rattle.model.proofs.Local.{get_some}
 use Rattle.model.proofs.Width.{IsGood}
 
@@ -101,10 +101,10 @@ pub withdrawn_stands : (s : Setup) → IsGood s → (events : List Event) (p : �
     last_start (own p past) ≡ Some Withdrew → stage_in p past ≡ stage.Leaving →
     (closing_stage at ≡ stage.Leaving) × ((flick : Bool) → stepped s past p flick ≡ option_map (closing_entry s past p flick) (closing_next c at flick))
 withdrawn_stands s g events p b st = (
-  stage-kind at (goes c (withdrawn c) at false len ((rooms s g events p).withdrawing b st) (tells false)) ∙ ap (λ k. cond k stage.Settling stage.Leaving) (keeps-kind c (withdrawing c) fs),
+  stage-kind at (goes c (withdrawn c) at false len ((rooms s g events p).withdrawing b st) (reports false)) ∙ ap (λ k. cond k stage.Settling stage.Leaving) (keeps-kind c (withdrawing c) fs),
   λ flick. ap (option_map (entry_made s past p flick)) (ap (λ m. nth len (program_from s p flick mine m)) b)
       ∙ same-entries s past p flick (nth len (withdrawn c)) (λ n h. ap (λ m. marks_at len (program_from s p flick (record { process = p; access = Some (valued s past flick n.access); marks = [] } ∷ mine) m)) b ∙ marks_in (withdrawn c) len n h)
-      ∙ ap (option_map (closing_entry s past p flick)) (tells flick),
+      ∙ ap (option_map (closing_entry s past p flick)) (reports flick),
 )
   where
     past : Past
@@ -125,8 +125,8 @@ withdrawn_stands s g events p b st = (
     at : Closing
     at = closing_of c (withdrawing c) fs
 
-    tells : (flick : Bool) → nth len (withdrawn c) ≡ closing_next c at flick
-    tells flick = ap (λ k. nth k (withdrawn c)) (sym (length-map {B = Bool} (since starts mine) value_written)) ∙ withdrawal-tells c g fs flick
+    reports : (flick : Bool) → nth len (withdrawn c) ≡ closing_next c at flick
+    reports flick = ap (λ k. nth k (withdrawn c)) (sym (length-map {B = Bool} (since starts mine) value_written)) ∙ withdrawal-reports c g fs flick
 
 -- after a failure both marks are the same
 first-failed : (marks : List Mark) → start_in marks ≡ Some Failed → list_any is_failed marks ≡ true
@@ -237,10 +237,10 @@ first-flick s past c mine flick n h = go (unfinished c.setup.processes (last_wri
             either false = refl
 
 -- so a unit's next access is the same if the value that it wrote is the flick
-pub told-again : (s : Setup) (past : Past) (c : Call) (mine : Past) (flicks : List Bool) (flick : Bool) (n : Next) → closing_next c (closing_of c (failing c mine) flicks) flick ≡ Some n →
+pub reported-again : (s : Setup) (past : Past) (c : Call) (mine : Past) (flicks : List Bool) (flick : Bool) (n : Next) → closing_next c (closing_of c (failing c mine) flicks) flick ≡ Some n →
     closing_next c (closing_of c (failing c mine) flicks) (value_written (record { process = c.process; access = Some (valued s past flick n.access); marks = [] })) ≡ Some n
-told-again s past c mine [] flick n h = first-flick s past c mine flick n h
-told-again s past c mine (f ∷ flicks) flick n h = flick-free c (closing_of c (failing c mine) (f ∷ flicks)) (chosen-after c (closing_of c (failing c mine) flicks) f) _ flick ∙ h
+reported-again s past c mine [] flick n h = first-flick s past c mine flick n h
+reported-again s past c mine (f ∷ flicks) flick n h = flick-free c (closing_of c (failing c mine) (f ∷ flicks)) (chosen-after c (closing_of c (failing c mine) flicks) f) _ flick ∙ h
 
 -- the memory unit of a process that failed
 pub unit_stands : (s : Setup) → IsGood s → (events : List Event) (p : ℕ)
@@ -250,9 +250,9 @@ pub unit_stands : (s : Setup) → IsGood s → (events : List Event) (p : ℕ)
     last_start (own p past) ≡ Some Failed → stage_in p past ≡ stage.Settling →
     (closing_stage at ≡ stage.Settling) × ((flick : Bool) → stepped s past p flick ≡ option_map (closing_entry s past p flick) (closing_next c at flick))
 unit_stands s g events p b st = (
-  stage-kind at (goes c (unit_program c cut (first_flick fs false)) at false len ((rooms s g events p).failing b st (first_flick fs false)) (tells false))
+  stage-kind at (goes c (unit_program c cut (first_flick fs false)) at false len ((rooms s g events p).failing b st (first_flick fs false)) (reports false))
       ∙ ap (λ k. cond k stage.Settling stage.Leaving) (keeps-kind c (failing c cut) fs ∙ failing-kind c cut),
-  λ flick. ap (option_map (entry_made s past p flick)) (ap (λ m. nth len (program_from s p flick mine m)) b ∙ tells flick)
+  λ flick. ap (option_map (entry_made s past p flick)) (ap (λ m. nth len (program_from s p flick mine m)) b ∙ reports flick)
       ∙ same-entries s past p flick (closing_next c at flick) (marks flick),
 )
   where
@@ -280,15 +280,15 @@ unit_stands s g events p b st = (
     size : len ≡ length fs
     size = ap length (since-failed mine b) ∙ sym (length-map {B = Bool} (since is_failed mine) value_written)
 
-    tells : (flick : Bool) → nth len (unit_program c cut (first_flick fs flick)) ≡ closing_next c at flick
-    tells flick = ap (λ k. nth k (unit_program c cut (first_flick fs flick))) size ∙ unit-tells c g cut fs flick
+    reports : (flick : Bool) → nth len (unit_program c cut (first_flick fs flick)) ≡ closing_next c at flick
+    reports flick = ap (λ k. nth k (unit_program c cut (first_flick fs flick))) size ∙ unit-reports c g cut fs flick
 
     marks : (flick : Bool) (n : Next) → closing_next c at flick ≡ Some n →
         marks_at len (program s p flick (record { process = p; access = Some (valued s past flick n.access); marks = [] } ∷ mine)) ≡ n.marks
     marks flick n h =
         ap (λ m. marks_at len (program_from s p flick (bare ∷ mine) m)) b
         ∙ ap (λ v. marks_at len (unit_program c cut v)) (first-more (value_written bare) fs flick)
-        ∙ marks_in (unit_program c cut (first_flick fs (value_written bare))) len n (tells (value_written bare) ∙ told-again s past c cut fs flick n h)
+        ∙ marks_in (unit_program c cut (first_flick fs (value_written bare))) len n (reports (value_written bare) ∙ reported-again s past c cut fs flick n h)
       where
         bare : Entry
         bare = record { process = p; access = Some (valued s past flick n.access); marks = [] }

@@ -9,7 +9,7 @@ use Rattle.model.specs.declared.marks.Mark.TheVariants.{Failed, Withdrew}
 use Rattle.model.specs.declared.stages.Stage.TheVariants as stages
 use Rattle.model.proofs.Accepted.{before-plain, no_failed}
 use Rattle.model.proofs.ClosingScripts.{closing-stages}
-use Rattle.model.proofs.ClosingStanding.{withdrawn_stands, unit_stands, told-again, flick-free, chosen-after, IsChosen}
+use Rattle.model.proofs.ClosingStanding.{withdrawn_stands, unit_stands, reported-again, flick-free, chosen-after, IsChosen}
 use Rattle.model.proofs.Local.{since-plain, call-plain, option_map-some}
 use Rattle.model.proofs.OpenSteps.{leaving_at, failing_at, closing-plain, closing-same}
 use Rattle.model.proofs.Staging.{stage-placed, no_start-placed}
@@ -22,7 +22,7 @@ pub record ClosingStep (s : Setup) (past : Past) (p : ℕ) (flick : Bool) (e : E
   pub is : closing_entry s past p flick next ≡ e
   pub access : e.access ≡ Some next.access
   pub plain : has starts e ≡ false
-  pub told : closing_next (last_call s p (own p past)) at (value_written e) ≡ Some next
+  pub reported : closing_next (last_call s p (own p past)) at (value_written e) ≡ Some next
   pub at_stage : fold stage_after (stage p past) e.marks ≡ closing_stage (closing_after (last_call s p (own p past)) at (value_written e))
 
 -- an entry is the next step of a closing, if a step of p adds it and its written value gives the same next access
@@ -37,9 +37,9 @@ closing-step s past p flick e at st stands again h = record {
   is = made.2;
   access = ap (λ (e : Entry). e.access) (sym made.2) ∙ ap Some (closing-same c at flick (read_value (opening_bit s n.access) (moves_of n.access past) flick) n made.1);
   plain = ap (λ (e : Entry). list_any starts e.marks) (sym made.2) ∙ no_start-placed (length (history s past)) n.marks ∙ closing-plain c at flick n made.1;
-  told = told;
+  reported = reported;
   at_stage = ap (λ (e : Entry). fold stage_after (stage p past) e.marks) (sym made.2) ∙ stage-placed (length (history s past)) (stage p past) n.marks
-      ∙ ap (λ u. fold stage_after u n.marks) st ∙ closing-stages c at (value_written e) n told;
+      ∙ ap (λ u. fold stage_after u n.marks) st ∙ closing-stages c at (value_written e) n reported;
 }
   where
     c : Call
@@ -51,8 +51,8 @@ closing-step s past p flick e at st stands again h = record {
     n : Next
     n = made.0
 
-    told : closing_next c at (value_written e) ≡ Some n
-    told = again n made.1 made.2
+    reported : closing_next c at (value_written e) ≡ Some n
+    reported = again n made.1 made.2
 
 -- a value that was chosen stays chosen
 leaving-chosen : (c : Call) (fs : List Bool) → IsChosen (closing_of c (withdrawing c) fs)
@@ -85,7 +85,7 @@ pub unit-step : (s : Setup) → IsGood s → (events : List Event) (p : ℕ) (fl
     last_start (own p past) ≡ Some Failed → stage p past ≡ stages.Settling → stepped s past p flick ≡ Some e → ClosingStep s past p flick e (failing_at s p (own p past))
 unit-step s g events p flick e b st h =
     closing-step s past p flick e (failing_at s p mine) (st ∙ sym stands.0) (stands.1 flick)
-    (λ n i is. ap (closing_next c (failing_at s p mine)) (sym (ap value_written is)) ∙ told-again s past c (before is_failed mine) (map value_written (since is_failed mine)) flick n i) h
+    (λ n i is. ap (closing_next c (failing_at s p mine)) (sym (ap value_written is)) ∙ reported-again s past c (before is_failed mine) (map value_written (since is_failed mine)) flick n i) h
   where
     past : Past
     past = past_of s events

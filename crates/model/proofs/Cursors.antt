@@ -60,14 +60,14 @@ on_bit : (n : ℕ) (bits : List Bool) (width bit m made : ℕ) (v ended : Bool) 
     → let run : Writing = record { value = v; made = made; ended = ended } in
     let w : NumberWrite = cond ended (record { width = width; bit = bit + 1; run = None }) (record { width = width; bit = bit; run = Some run }) in
     left_written n bits w ≡ map (at_bit bit) (drop made (bit_writes n v)) ++ writes_from n (bit + 1) (drop (bit + 1) bits)
-on_bit n bits width bit m made v true fits e left all =
+on_bit n bits width bit m made v true fits e remaining all =
     let whole : made ≡ 2 * n = eqb-true made (2 * n) e in
     let fewer : width - (bit + 1) ≡ m = omega arith in
     ap (left_bits n bits (record { width = width; bit = bit + 1; run = None })) fewer
     ∙ next_bit n bits width (bit + 1) m (omega arith)
     ∙ ap (λ xs. map (at_bit bit) xs ++ writes_from n (bit + 1) (drop (bit + 1) bits)) (sym (drop_past (bit_writes n v) made (omega (arith, length-writes 0 n v))))
-on_bit n bits width bit m made v false fits e left all =
-    ap (left_bits n bits (record { width = width; bit = bit; run = Some (record { value = v; made = made; ended = false }) })) left
+on_bit n bits width bit m made v false fits e remaining all =
+    ap (left_bits n bits (record { width = width; bit = bit; run = Some (record { value = v; made = made; ended = false }) })) remaining
 
 -- a write that has more accesses to make
 pub record Goes (n : ℕ) (bits : List Bool) (w : NumberWrite) : Type 0 where
@@ -76,15 +76,15 @@ pub record Goes (n : ℕ) (bits : List Bool) (w : NumberWrite) : Type 0 where
   pub going : (bit_written bits w).made < 2 * n
 
 -- the next access of a write is the first of those that are left
-pub left-next : (n : ℕ) (bits : List Bool) (w : NumberWrite) → Goes n bits w → left_written n bits w ≡ next_written bits w ∷ left_written n bits (write_moved n bits w)
-left-next n bits w on =
+pub remaining-next : (n : ℕ) (bits : List Bool) (w : NumberWrite) → Goes n bits w → left_written n bits w ≡ next_written bits w ∷ left_written n bits (write_moved n bits w)
+remaining-next n bits w on =
     let run : Writing = bit_written bits w in
     let m : ℕ = w.width - w.bit - 1 in
-    let left : w.width - w.bit ≡ suc m = omega (arith, on.inside) in
+    let remaining : w.width - w.bit ≡ suc m = omega (arith, on.inside) in
     let more : List (ℕ × Made) = writes_from n (w.bit + 1) (drop (w.bit + 1) bits) in
-    ap (left_bits n bits w) left
+    ap (left_bits n bits w) remaining
     ∙ ap (λ xs. map (at_bit w.bit) xs ++ more) (rest-write n run on.going)
-    ∙ ap (λ xs. next_written bits w ∷ xs) (sym (on_bit n bits w.width w.bit m (run.made + 1) run.value (run.made + 1 == 2 * n) (omega (arith, on.going)) refl left (omega (arith, on.width, on.inside))))
+    ∙ ap (λ xs. next_written bits w ∷ xs) (sym (on_bit n bits w.width w.bit m (run.made + 1) run.value (run.made + 1 == 2 * n) (omega (arith, on.going)) refl remaining (omega (arith, on.width, on.inside))))
 
 -- after its next access a write is done, or goes on
 pub record Moved (n : ℕ) (bits : List Bool) (w : NumberWrite) : Type 0 where
@@ -113,12 +113,12 @@ write-moves n bits w some on =
     moved n w.width w.bit (run.made + 1) bits run.value (run.made + 1 == 2 * n) on.width on.inside some (omega (arith, on.going)) refl
 
 -- a write that is done has nothing left
-pub left-done : (n : ℕ) (bits : List Bool) (w : NumberWrite) → w.bit ≡ w.width → left_written n bits w ≡ []
-left-done n bits w all = let none : w.width - w.bit ≡ 0 = omega arith in ap (left_bits n bits w) none
+pub remaining-done : (n : ℕ) (bits : List Bool) (w : NumberWrite) → w.bit ≡ w.width → left_written n bits w ≡ []
+remaining-done n bits w all = let none : w.width - w.bit ≡ 0 = omega arith in ap (left_bits n bits w) none
 
 -- a new write has all of them left
-pub left-new : (n : ℕ) (bits : List Bool) (width : ℕ) → width ≡ length bits → left_written n bits (new_write width) ≡ number_writes n bits
-left-new n bits width same = let all : width - 0 ≡ width = omega arith in ap (left_bits n bits (new_write width)) all ∙ next_bit n bits width 0 width (omega arith)
+pub remaining-new : (n : ℕ) (bits : List Bool) (width : ℕ) → width ≡ length bits → left_written n bits (new_write width) ≡ number_writes n bits
+remaining-new n bits width same = let all : width - 0 ≡ width = omega arith in ap (left_bits n bits (new_write width)) all ∙ next_bit n bits width 0 width (omega arith)
 
 -- the accesses left of a read that has read these bits
 abbrev pub left_read : ℕ → ℕ → List Bool → Bool → List (ℕ × Made)

@@ -77,7 +77,7 @@ reply-known c (Clears a) f k = refl
 reply-known c Over f k = refl
 
 cut-place : (c : Call) (mine : Past) (at : Place) → value_at c at ≡ begun_at c at → Cuts c mine at (read_so_far c.setup (since is_called mine)).finished → failing c mine ≡ cut_at c at (inside c.process mine)
-cut-place c mine at value k = from-torn c mine (unfinished c.setup.processes (last_write mine)) (torn_at c at) (begun_at c at) (pending_at c at.part) k.torn.left (λ t h. k.begun t h ∙ value) (go at.run)
+cut-place c mine at value k = from-torn c mine (unfinished c.setup.processes (last_write mine)) (torn_at c at) (begun_at c at) (pending_at c at.part) k.torn.remaining (λ t h. k.begun t h ∙ value) (go at.run)
   where
     go : (run : Run) (t : TornBit) → torn_at c (record { part = at.part; run = run }) ≡ Some t → reply_with c t.field (read_last c mine) ≡ taken_with t.field (pending_at c at.part)
     go (Writing w) t h = subst (λ f. reply_with c f (read_last c mine) ≡ taken_with f (pending_at c at.part)) (sym (torn-field (written_at c at.part).0 w t h))
@@ -93,7 +93,7 @@ withdrawn-late Quit h = refl
 withdrawn-late Ended h = refl
 
 cut-late : (c : Call) (mine : Past) (at : Closing) → torn_closing at ≡ torn_late at → value_closing c at ≡ begun_closing c at → CutsLate c mine at → failing c mine ≡ cut_closing c at (inside c.process mine)
-cut-late c mine at same value k = from-torn c mine (unfinished c.setup.processes (last_write mine)) (torn_closing at) (begun_closing c at) None (k.torn.left ∙ sym same) (λ t h. k.begun t (sym same ∙ h) ∙ value) (go at)
+cut-late c mine at same value k = from-torn c mine (unfinished c.setup.processes (last_write mine)) (torn_closing at) (begun_closing c at) None (k.torn.remaining ∙ sym same) (λ t h. k.begun t (sym same ∙ h) ∙ value) (go at)
   where
     go : (at : Closing) (t : TornBit) → torn_closing at ≡ Some t → reply_with c t.field (read_last c mine) ≡ taken_with t.field None
     go (Withdraws w) t h = subst (λ f. reply_with c f (read_last c mine) ≡ taken_with f None) (sym (torn-field Ticket w t h)) refl
@@ -153,7 +153,7 @@ rest-cut s g events p st = go (opens_all s g events p)
     c = last_call s p (own p past)
 
     go : Opens s p (own p past) (stage p past) → failing c (own p past) ≡ freeing c (inside p past)
-    go (closed i w t) = from-torn c (own p past) (unfinished s.processes (last_write (own p past))) None false None t.left (λ t h. cc) (λ t h. cc) ∙ ap (freeing c) (inside-own p past)
+    go (closed i w t) = from-torn c (own p past) (unfinished s.processes (last_write (own p past))) None false None t.remaining (λ t h. cc) (λ t h. cc) ∙ ap (freeing c) (inside-own p past)
     go (runs_at d e r w t) = absurd (true≢false (sym r ∙ ap is_running st))
     go (leaves e i w t) = let f : stages.Idle ≡ stages.Leaving = sym st ∙ i in cc
     go (settles e i w r t) = let f : stages.Idle ≡ stages.Settling = sym st ∙ i in cc

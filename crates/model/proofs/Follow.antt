@@ -1,12 +1,12 @@
 -- The place of a process follows from its own accesses: its next access is that of its script.
 use Rattle.std.specs.Prelude.{◌≡◌, ◌⊎◌, refl, ℕ, suc, ◌+◌, ◌*◌, ◌<◌, ◌==◌, Bool, true, false, cond, List, [], ◌∷◌, ◌++◌, length, slice_get, None, Some, ◌≢◌}
 use Rattle.std.proofs.Common.{sym, ◌∙◌, ap, true≢false, arith, append_assoc, append-nil, length-append, eqb-true, ne_eqb, eq-eqb, inl, inr}
-use Rattle.std.proofs.lemmas.Bool.Decides.{eqb_tells}
+use Rattle.std.proofs.lemmas.Bool.Decides.{eqb_reports}
 use Rattle.model.specs.{Access, Call, Field, IsFollowed, Next, Numbers, Over, Part, Portion, Raises, ReadSoFar, Script, doing, ended, ended_with, first_marks, is_over, is_read, last_marks, local_program, part_after, read_at, read_of, reads_of, scripted, single, singles, width, with_access, with_move, write_of, written_at}
 use Rattle.safe_bit.specs.{Move}
 use Rattle.safe_bit.specs.declared.Move.TheVariants.{BeginWrite, EndWrite, BeginRead, EndRead, Settle}
 use Rattle.model.proofs.Singles
-use Rattle.model.proofs.Singles.{get-append, get-left, get-none, length-single, single-access, length-reads_from, Half, begins, ends, read-at, is_write, AllWrites-write_of, AllWrites-get}
+use Rattle.model.proofs.Singles.{get-append, get-remaining, get-none, length-single, single-access, length-reads_from, Half, begins, ends, read-at, is_write, AllWrites-write_of, AllWrites-get}
 use Rattle.model.proofs.Place.{portion, rest, rest-unread, rest-read, rest-write}
 use Rattle.model.proofs.Width.{IsGood, doing-pos}
 
@@ -55,7 +55,7 @@ read-not_over _ h = refl
 pub in_first : (q : Portion) (tail : Script) (k : ℕ) (n : Next) → k < length q.accesses → slice_get (singles (q ∷ tail)) k ≡ Some n → slice_get q.accesses k ≡ Some n.access
 in_first q tail k n l h =
     single-access q.first q.last q.accesses k n
-    (sym (get-left (single q.first q.last q.accesses) (singles tail) k (rw length-single l)) ∙ h)
+    (sym (get-remaining (single q.first q.last q.accesses) (singles tail) k (rw length-single l)) ∙ h)
 
 pub next-in_rest : (c : Call) (r : ReadSoFar) (len : ℕ) (at : Spot) (n : Next) → Stands c r len at → scripted c r.finished len ≡ Some n → slice_get (singles (rest c at.part [])) at.made ≡ Some n
 next-in_rest c r len at n st h =
@@ -168,7 +168,7 @@ step_write c g r len at x v st w o h =
 
 -- the tests of the two ends are the same: the number's last bit, and the part's last access
 pub same_end : (b w m l : ℕ) → 2 * b + 1 ≡ 2 * 0 + m → l ≡ 2 * w → (m + 1 == l) ≡ (b + 1 == w)
-same_end b w m l e f = go (eqb_tells (b + 1) w)
+same_end b w m l e f = go (eqb_reports (b + 1) w)
   where
     go : ((b + 1 == w) ≡ true) × (b + 1 ≡ w) ⊎ ((b + 1 == w) ≡ false) × (b + 1 ≢ w) → (m + 1 == l) ≡ (b + 1 == w)
     go (inl h) = eq-eqb (m + 1) l (omega (arith, h.1)) ∙ sym h.0

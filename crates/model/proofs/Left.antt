@@ -34,17 +34,17 @@ counts m v = go (m % 2 == 0) refl
     go false h = let odd : m % 2 ≢ 0 = eqb-false (m % 2) 0 h in omega (arith, odd)
 
 -- the torn bit of a write after an access, by whether its bit is done
-left-after : (f : Field) (width bit m : ℕ) (v done : Bool)
+remaining-after : (f : Field) (width bit m : ℕ) (v done : Bool)
     → let w : NumberWrite = cond done (record { width = width; bit = bit + 1; run = None }) (record { width = width; bit = bit; run = Some (let r : copies.Writing = record { value = v; made = m + 1; ended = done } in r) }) in
     torn_in f w ≡ cond done None (Some (named f (bit, (let t : copies.Settling = record { made = m + 1; reader = 0; begun = false; value = None } in t))))
-left-after f width bit m v true = refl
-left-after f width bit m v false =
+remaining-after f width bit m v true = refl
+remaining-after f width bit m v false =
     ap (λ b. option_map (named f) (torn_with bit (cond (b || false) None (Some (let t : copies.Settling = record { made = m + 1; reader = 0; begun = false; value = None } in t)))))
     (ne_eqb (m + 1) 0 (λ u. omega (arith, u)))
 
 -- the bit that an access of a write leaves unfinished is the torn bit of the write after it
-pub left-written : (n p : ℕ) (f : Field) (bits : List Bool) (w : NumberWrite) → option_map bit_left (unfinished n (Some (access_of p f (next_written bits w)))) ≡ torn_in f (write_moved n bits w)
-left-written n p f bits w = ap (λ b. option_map bit_left (cond b None (Some x))) (ends-bit n m run.value) ∙ go (m + 1 == 2 * n) ∙ sym (left-after f w.width w.bit m run.value (m + 1 == 2 * n))
+pub remaining-written : (n p : ℕ) (f : Field) (bits : List Bool) (w : NumberWrite) → option_map bit_left (unfinished n (Some (access_of p f (next_written bits w)))) ≡ torn_in f (write_moved n bits w)
+remaining-written n p f bits w = ap (λ b. option_map bit_left (cond b None (Some x))) (ends-bit n m run.value) ∙ go (m + 1 == 2 * n) ∙ sym (remaining-after f w.width w.bit m run.value (m + 1 == 2 * n))
   where
     run : copies.Writing
     run = bit_written bits w
@@ -60,8 +60,8 @@ left-written n p f bits w = ap (λ b. option_map bit_left (cond b None (Some x))
     go false = ap (λ k. Some (named f (w.bit, (let t : copies.Settling = record { made = k; reader = 0; begun = false; value = None } in t)))) (counts m run.value)
 
 -- a write that has come to its end leaves none
-pub left-done : (n : ℕ) (f : Field) (bits : List Bool) (w : NumberWrite) → w.bit < w.width → ((write_moved n bits w).bit == w.width) ≡ true → torn_in f (write_moved n bits w) ≡ None
-left-done n f bits w inside = go ((bit_written bits w).made + 1 == 2 * n)
+pub remaining-done : (n : ℕ) (f : Field) (bits : List Bool) (w : NumberWrite) → w.bit < w.width → ((write_moved n bits w).bit == w.width) ≡ true → torn_in f (write_moved n bits w) ≡ None
+remaining-done n f bits w inside = go ((bit_written bits w).made + 1 == 2 * n)
   where
     go : (b : Bool)
         → let to : NumberWrite = cond b (record { width = w.width; bit = w.bit + 1; run = None }) (record { width = w.width; bit = w.bit; run = Some (let r : copies.Writing = record { value = (bit_written bits w).value; made = (bit_written bits w).made + 1; ended = b } in r) }) in
@@ -80,29 +80,29 @@ value-stays n f bits w t = go ((bit_written bits w).made + 1 == 2 * n)
     go false h = refl
 
 -- a part of which nothing is made leaves none
-pub left-new : (c : Call) (part : Part) → torn_at c (enter c part) ≡ None
-left-new c part = go (is_read part)
+pub remaining-new : (c : Call) (part : Part) → torn_at c (enter c part) ≡ None
+remaining-new c part = go (is_read part)
   where
     go : (b : Bool) → torn_run c part (cond b (Reading [] false) (Writing (new_write (width c.setup (written_at c part).0)))) ≡ None
     go true = refl
     go false = refl
 
 -- the torn bit of a place after an access of a write is that of the write
-pub left-place : (c : Call) (part : Part) (w : NumberWrite) (u : Bool) → w.bit < w.width →
+pub remaining-place : (c : Call) (part : Part) (w : NumberWrite) (u : Bool) → w.bit < w.width →
     torn_in (written_at c part).0 (write_moved c.setup.processes (written_at c part).1 w) ≡ torn_at c (place_after c (record { part = part; run = Writing w }) u)
-left-place c part w u inside = go (is_last c part (Writing w)) refl
+remaining-place c part w u inside = go (is_last c part (Writing w)) refl
   where
     go : (b : Bool) → is_last c part (Writing w) ≡ b → torn_in (written_at c part).0 (write_moved c.setup.processes (written_at c part).1 w)
         ≡ torn_at c (cond b (enter c (part_after c part [])) (record { part = part; run = Writing (write_moved c.setup.processes (written_at c part).1 w) }))
-    go true l = left-done c.setup.processes (written_at c part).0 (written_at c part).1 w inside l ∙ sym (left-new c (part_after c part []))
+    go true l = remaining-done c.setup.processes (written_at c part).0 (written_at c part).1 w inside l ∙ sym (remaining-new c (part_after c part []))
     go false l = refl
 
 -- a read leaves none
-pub left-read : (c : Call) (part : Part) (bits : List Bool) (begun u : Bool) → torn_at c (place_after c (record { part = part; run = Reading bits begun }) u) ≡ None
-left-read c part bits begun u = go (is_last c part (Reading bits begun))
+pub remaining-read : (c : Call) (part : Part) (bits : List Bool) (begun u : Bool) → torn_at c (place_after c (record { part = part; run = Reading bits begun }) u) ≡ None
+remaining-read c part bits begun u = go (is_last c part (Reading bits begun))
   where
     go : (b : Bool) → torn_at c (cond b (enter c (part_after c part (bits_with (Reading bits begun) u))) (record { part = part; run = run_after c part (Reading bits begun) u })) ≡ None
-    go true = left-new c (part_after c part (bits_with (Reading bits begun) u))
+    go true = remaining-new c (part_after c part (bits_with (Reading bits begun) u))
     go false = refl
 
 -- the value that a write is writing, by its cursor

@@ -7,7 +7,7 @@ use Rattle.plain_store.specs.{Command, Setup}
 use Rattle.model.specs.declared.marks.Mark.TheVariants.{Called, Failed, Down, Withdrew}
 use Rattle.model.specs.declared.stages.Stage.TheVariants.{Idle, Leaving, Settling, Down}
 use Rattle.model.proofs.Singles
-use Rattle.model.proofs.Singles.{get-append, get-left, length-single, Half, begins, ends, read-at, is_write, AllWrites-write_of, AllWrites-get}
+use Rattle.model.proofs.Singles.{get-append, get-remaining, length-single, Half, begins, ends, read-at, is_write, AllWrites-write_of, AllWrites-get}
 use Rattle.model.proofs.Place.{portion, rest, rest-read}
 use Rattle.model.proofs.Follow.{Spot, more_bits, moved_on, Stands, next_access, not_over, write-adds_nothing, step}
 use Rattle.model.proofs.Ties.{Tied, tied-next, tied-on}
@@ -78,7 +78,7 @@ made_too c r len at n v st h = go (is_read at.part) refl
     one : (q : Portion) (tail : Script) → at.made < length q.accesses → (m : Next) × (slice_get (singles (q ∷ tail)) at.made ≡ Some m)
     one q tail l =
         let (m, e) = get_some (single q.first q.last q.accesses) at.made (rw length-single l) in
-        (m, get-left (single q.first q.last q.accesses) (singles tail) at.made (rw length-single l) ∙ e)
+        (m, get-remaining (single q.first q.last q.accesses) (singles tail) at.made (rw length-single l) ∙ e)
 
     finished : (val : List Bool) → is_read at.part ≡ true → (m : Next) × (scripted c (r.finished ++ val ∷ []) len ≡ Some m)
     finished val w =

@@ -3,7 +3,7 @@ use Rattle.std.specs.Prelude.{◌≡◌, ◌⊎◌, refl, ℕ, zero, suc, ◌+�
 use Rattle.std.proofs.Common.{sym, ◌∙◌, ap, arith, append-nil, ne_eqb, eq-eqb, inl, inr}
 use Rattle.model.specs.{Access, Call, Clears, Field, Mark, Next, Numbers, Part, Portion, ReadSoFar, Script, doing, ended, ended_with, first_marks, is_over, is_read, last_marks, part_after, read_at, read_of, scripted, single, singles, width, with_access, with_move, write_of, written_at}
 use Rattle.model.proofs.Singles
-use Rattle.model.proofs.Singles.{get-append, get-left, length-single, length-reads_from, Half, begins, ends, read-at, is_write, AllWrites-write_of, AllWrites-get}
+use Rattle.model.proofs.Singles.{get-append, get-remaining, length-single, length-reads_from, Half, begins, ends, read-at, is_write, AllWrites-write_of, AllWrites-get}
 use Rattle.model.proofs.Place.{portion, rest, rest-unread, rest-read, rest-write}
 use Rattle.model.proofs.Follow.{Spot, more_bits, Stands, next_access, not_over, same_end, write-adds_nothing, write-no_bits}
 
@@ -24,7 +24,7 @@ single-marks f l (a ∷ b ∷ tail) (suc k) n h =
     single-marks [] l (b ∷ tail) k n h ∙ rw (same (k + 1) (suc (length tail)) (suc k + 1) (suc (suc (length tail))) (omega arith) refl, none (k == 0), ne_eqb (suc k) 0 (λ u. omega (arith, u))) refl
   where
     same : (i j i' j' : ℕ) → i' ≡ suc i → j' ≡ suc j → (i == j) ≡ (i' == j')
-    same i j i' j' e f = go (Rattle.std.proofs.lemmas.Bool.Decides.eqb_tells i j)
+    same i j i' j' e f = go (Rattle.std.proofs.lemmas.Bool.Decides.eqb_reports i j)
       where
         go : ((i == j) ≡ true) × (i ≡ j) ⊎ ((i == j) ≡ false) × (i ≢ j) → (i == j) ≡ (i' == j')
         go (inl h) = h.0 ∙ sym (eq-eqb i' j' (omega (arith, h.1, e, f)))
@@ -37,7 +37,7 @@ single-marks f l (a ∷ b ∷ tail) (suc k) n h =
 pub marks_in_first : (q : Portion) (tail : Script) (k : ℕ) (n : Next) → k < length q.accesses → slice_get (singles (q ∷ tail)) k ≡ Some n → n.marks ≡ marks_on q.first q.last (length q.accesses) k
 marks_in_first q tail k n l h =
     single-marks q.first q.last q.accesses k n
-    (sym (get-left (single q.first q.last q.accesses) (singles tail) k (rw length-single l)) ∙ h)
+    (sym (get-remaining (single q.first q.last q.accesses) (singles tail) k (rw length-single l)) ∙ h)
 
 pub in_rest : (c : Call) (r : ReadSoFar) (len : ℕ) (at : Spot) (n : Next) (more : Numbers) → Stands c r len at → scripted c (r.finished ++ more) len ≡ Some n → slice_get (singles (rest c at.part more)) at.made ≡ Some n
 in_rest c r len at n more st h =

@@ -36,7 +36,7 @@ pub withdrawn-out : (s : Setup) → IsGood s → (events : List Event) (p : ℕ)
     last_start mine ≡ Some Withdrew → stage p past ≡ stages.Leaving → ((a : Access) → opened mine a ≡ open_closing (last_call s p mine) (leaving_at s p mine) a) →
     CutsLate (last_call s p mine) mine (leaving_at s p mine) → stepped s past p flick ≡ Some e → Out s p mine e (fold stage_after (stage p past) e.marks)
 withdrawn-out s g events p flick e b st w t h =
-    closing-out s past p flick e at step w (withdrawal-leads c g fs value n step.told) (λ then. finish then to refl (keeps-kind c (withdrawing c) (value ∷ fs)))
+    closing-out s past p flick e at step w (withdrawal-leads c g fs value n step.reported) (λ then. finish then to refl (keeps-kind c (withdrawing c) (value ∷ fs)))
   where
     past : Past
     past = past_of s events
@@ -72,11 +72,11 @@ withdrawn-out s g events p flick e b st w t h =
     place = leaving-then s p e mine step.plain
 
     torn : Torn s.processes p (e ∷ mine) (torn_late to)
-    torn = closing-torn c mine e at _ value n (withdrawal-stays c g fs value).fit step.told step.access w (withdraws-writes c at value n (keeps-kind c (withdrawing c) fs) step.told)
+    torn = closing-torn c mine e at _ value n (withdrawal-stays c g fs value).fit step.reported step.access w (withdraws-writes c at value n (keeps-kind c (withdrawing c) fs) step.reported)
 
     cuts : CutsLate (last_call s p (e ∷ mine)) (e ∷ mine) (leaving_at s p (e ∷ mine))
     cuts = subst (λ d. CutsLate d (e ∷ mine) (leaving_at s p (e ∷ mine))) (sym call)
-        (subst (CutsLate c (e ∷ mine)) (sym place) (record { torn = torn; begun = withdrawal-begun c mine e at value n (keeps-kind c (withdrawing c) fs) step.told step.access w t }))
+        (subst (CutsLate c (e ∷ mine)) (sym place) (record { torn = torn; begun = withdrawal-begun c mine e at value n (keeps-kind c (withdrawing c) fs) step.reported step.access w t }))
 
     finish : ((a : Access) → opened (e ∷ mine) a ≡ open_closing c to a) → (x : Closing) → to ≡ x → is_unit to ≡ false → Opens s p (e ∷ mine) (fold stage_after (stage p past) e.marks)
     finish then (Withdraws q) i k = leaves (start-plain e mine step.plain ∙ b) (step.at_stage ∙ ap closing_stage i) (λ a. then a ∙ sym (λ j. open_closing (call j) (place j) a)) cuts
@@ -91,7 +91,7 @@ pub unit-out : (s : Setup) → IsGood s → (events : List Event) (p : ℕ) (fli
     ((b : Access) → last_write (before is_failed mine) ≡ Some b → b.reader < s.processes) →
     stepped s past p flick ≡ Some e → Out s p mine e (fold stage_after (stage p past) e.marks)
 unit-out s g events p flick e b st w r h =
-    closing-out s past p flick e at step w (unit-leads c g cut r fs value n step.told) (λ then. finish then to refl (keeps-kind c (failing c cut) (value ∷ fs) ∙ failing-kind c cut))
+    closing-out s past p flick e at step w (unit-leads c g cut r fs value n step.reported) (λ then. finish then to refl (keeps-kind c (failing c cut) (value ∷ fs) ∙ failing-kind c cut))
   where
     past : Past
     past = past_of s events
@@ -130,7 +130,7 @@ unit-out s g events p flick e b st w r h =
     place = failing-then s p e mine step.plain
 
     torn : IsLate to → Torn s.processes p (e ∷ mine) (torn_late to)
-    torn l = closing-torn c mine e at _ value n (unit-stays c g cut fs value).fit step.told step.access w (late-writes c at value value n step.told l)
+    torn l = closing-torn c mine e at _ value n (unit-stays c g cut fs value).fit step.reported step.access w (late-writes c at value value n step.reported l)
 
     on : ((a : Access) → opened (e ∷ mine) a ≡ open_closing c to a) → closing_stage to ≡ stages.Settling → Opens s p (e ∷ mine) (fold stage_after (stage p past) e.marks)
     on then k = settles (start-plain e mine step.plain ∙ b) (step.at_stage ∙ k) (λ a. then a ∙ sym (λ j. open_closing (call j) (place j) a))

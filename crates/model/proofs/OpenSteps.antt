@@ -18,7 +18,7 @@ use Rattle.model.proofs.Closing.{Fit}
 use Rattle.model.proofs.ClosingStanding.{is_unit}
 use Rattle.model.proofs.Follow.{Spot, moved_on}
 use Rattle.model.proofs.Knows.{Knows, knows-place}
-use Rattle.model.proofs.Left.{left-written, left-new, left-done, value_at, value_closing}
+use Rattle.model.proofs.Left.{remaining-written, remaining-new, remaining-done, value_at, value_closing}
 use Rattle.model.proofs.Local.{Running, start-plain, since-plain, since_called-plain, call-plain, running_steps, over-idle, stage-moved}
 use Rattle.model.proofs.Marking.{spot_marks}
 use Rattle.model.proofs.Opens.{opened, opened-entry, Torn, IsBegun, torn-write, torn-place, begun-write, begun-place, write-kind}
@@ -86,12 +86,12 @@ turn-of mine e y was then h w lead a x k same =
 pub then-of : (mine : Past) (e : Entry) (y : Access) (was then : Access → Bool) → e.access ≡ Some y → ((a : Access) → opened mine a ≡ was a) → Leads was y then → (a : Access) → opened (e ∷ mine) a ≡ then a
 then-of mine e y was then h w lead a = opened-entry a y e mine h ∙ ap (λ b. open_after b (same_bit a y) y.how) (w a) ∙ sym (lead.after a)
 
-over-left : (c : Call) (at : Place) (v : Bool) → is_over at.part ≡ false → is_over (place_after c at v).part ≡ true → torn_at c (place_after c at v) ≡ None
-over-left c at v o h = go (is_last c at.part at.run) h
+over-remaining : (c : Call) (at : Place) (v : Bool) → is_over at.part ≡ false → is_over (place_after c at v).part ≡ true → torn_at c (place_after c at v) ≡ None
+over-remaining c at v o h = go (is_last c at.part at.run) h
   where
     go : (b : Bool) → is_over (cond b (enter c (part_after c at.part (bits_with at.run v))) (record { part = at.part; run = run_after c at.part at.run v })).part ≡ true →
         torn_at c (cond b (enter c (part_after c at.part (bits_with at.run v))) (record { part = at.part; run = run_after c at.part at.run v })) ≡ None
-    go true h = left-new c (part_after c at.part (bits_with at.run v))
+    go true h = remaining-new c (part_after c at.part (bits_with at.run v))
     go false h = absurd (true≢false (sym h ∙ o))
 
 over-closed : (c : Call) (at : Place) (v : Bool) → is_over at.part ≡ false → is_over (place_after c at v).part ≡ true → (a : Access) → open_place c (place_after c at v) a ≡ false
@@ -219,7 +219,7 @@ running-out s g events p flick e command b run w t h = record { turns = turn-of 
 
     go : (d : Bool) → is_over spot.part ≡ d → Opens s p (e ∷ mine) (fold stage_after (stage p past) e.marks)
     go true q = closed (inl (st ∙ over-idle spot.part (spot.made == 0) q)) (λ a. then a ∙ over-closed c at (value_of y.how) o (ap is_over (sym tied.part) ∙ q) a)
-        (subst (Torn s.processes p (e ∷ mine)) (over-left c at (value_of y.how) o (ap is_over (sym tied.part) ∙ q)) torn)
+        (subst (Torn s.processes p (e ∷ mine)) (over-remaining c at (value_of y.how) o (ap is_over (sym tied.part) ∙ q)) torn)
     go false q = runs_at command (start-plain e mine plain ∙ b) (ap is_running st ∙ running-part spot.part (spot.made == 0) q) (λ a. then a ∙ sym (λ i. open_place (call i) (place i) a)) cuts-on
 
 -- no mark of a closing begins a program
@@ -280,7 +280,7 @@ late-after : (c : Call) (f : Field) (bits : List Bool) (w : NumberWrite) (next n
 late-after c f bits w next now inside none same = go (is_last_written c bits w) refl
   where
     go : (b : Bool) → is_last_written c bits w ≡ b → torn_in f (write_moved c.setup.processes bits w) ≡ torn_late (cond b next now)
-    go true l = left-done c.setup.processes f bits w inside l ∙ sym none
+    go true l = remaining-done c.setup.processes f bits w inside l ∙ sym none
     go false l = sym same
 
 -- after an access of a withdrawal, the value that is being written to a torn bit is its write's
@@ -302,15 +302,15 @@ pub closing-torn : (c : Call) (mine : Past) (e : Entry) (at : Closing) (v flick 
 closing-torn c mine e (Withdraws w) v flick n fit h k same is =
     let going : (Rattle.model.specs.Places.bit_written (no_ticket c) w).made < 2 * c.setup.processes = fit.going in
     torn-write c.setup.processes c.process mine e _ (open_closing c (Withdraws w)) _
-    (left-written c.setup.processes c.process Ticket (no_ticket c) w ∙ late-after c Ticket (no_ticket c) w Quit (Withdraws (write_moved c.setup.processes (no_ticket c) w)) fit.inside refl refl) (k ∙ ap (λ o. Some (access_in o)) (sym h)) refl (omega arith) same (write-kind c.process Ticket (no_ticket c) w)
+    (remaining-written c.setup.processes c.process Ticket (no_ticket c) w ∙ late-after c Ticket (no_ticket c) w Quit (Withdraws (write_moved c.setup.processes (no_ticket c) w)) fit.inside refl refl) (k ∙ ap (λ o. Some (access_in o)) (sym h)) refl (omega arith) same (write-kind c.process Ticket (no_ticket c) w)
 closing-torn c mine e (Frees i w) v flick n fit h k same is =
     let going : (Rattle.model.specs.Places.bit_written (no_ticket c) w).made < 2 * c.setup.processes = fit.going in
     torn-write c.setup.processes c.process mine e _ (open_closing c (Frees i w)) _
-    (left-written c.setup.processes c.process Ticket (no_ticket c) w ∙ late-after c Ticket (no_ticket c) w (Lowers (Rattle.safe_number.specs.Runs.new_write 1)) (Frees i (write_moved c.setup.processes (no_ticket c) w)) fit.inside refl refl) (k ∙ ap (λ o. Some (access_in o)) (sym h)) refl (omega arith) same (write-kind c.process Ticket (no_ticket c) w)
+    (remaining-written c.setup.processes c.process Ticket (no_ticket c) w ∙ late-after c Ticket (no_ticket c) w (Lowers (Rattle.safe_number.specs.Runs.new_write 1)) (Frees i (write_moved c.setup.processes (no_ticket c) w)) fit.inside refl refl) (k ∙ ap (λ o. Some (access_in o)) (sym h)) refl (omega arith) same (write-kind c.process Ticket (no_ticket c) w)
 closing-torn c mine e (Lowers w) v flick n fit h k same is =
     let going : (Rattle.model.specs.Places.bit_written (false ∷ []) w).made < 2 * c.setup.processes = fit.going in
     torn-write c.setup.processes c.process mine e _ (open_closing c (Lowers w)) _
-    (left-written c.setup.processes c.process Choosing (false ∷ []) w ∙ late-after c Choosing (false ∷ []) w Ended (Lowers (write_moved c.setup.processes (false ∷ []) w)) fit.inside refl refl) (k ∙ ap (λ o. Some (access_in o)) (sym h)) refl (omega arith) same (write-kind c.process Choosing (false ∷ []) w)
+    (remaining-written c.setup.processes c.process Choosing (false ∷ []) w ∙ late-after c Choosing (false ∷ []) w Ended (Lowers (write_moved c.setup.processes (false ∷ []) w)) fit.inside refl refl) (k ∙ ap (λ o. Some (access_in o)) (sym h)) refl (omega arith) same (write-kind c.process Choosing (false ∷ []) w)
 closing-torn c mine e _ v flick n fit h k same is = absurd is
 
 pub withdraws-writes : (c : Call) (at : Closing) (flick : Bool) (n : Next) → is_unit at ≡ false → closing_next c at flick ≡ Some n → IsWriting at

@@ -8,7 +8,7 @@ use Rattle.safe_bit.specs.declared.Move.TheVariants.{BeginWrite, EndWrite, Begin
 use Rattle.reader_copies.specs.Runs as copies
 use Rattle.model.specs.{Access, Call, Entry, Field, Part, Past, Reading, Run, TornBit, Writing, access_at, access_of, bit_written, ended_with, enter, field_number, is_begin, is_last, is_over, last_write, made_with, moves_of, next_written, open_after, open_run, open_settled, open_written, part_after, place_after, same_bit, torn_at, torn_in, unfinished, value_begun, write_moved, written_at}
 use Rattle.safe_number.specs.{NumberWrite}
-use Rattle.model.proofs.Left.{bit_left, left-written, left-place, left-read, left-new, value-stays, value_at}
+use Rattle.model.proofs.Left.{bit_left, remaining-written, remaining-place, remaining-read, remaining-new, value-stays, value_at}
 use Rattle.model.proofs.PlaceTurns.{same-write}
 use Rattle.model.proofs.Ties.{Tie, over, writes, reads}
 use Rattle.model.proofs.Turns.{parity, and_false, and_true}
@@ -38,7 +38,7 @@ open_torn p (Some b) a = open_settled p b.field b.bit (record { made = made_with
 pub record Torn (n p : ℕ) (mine : Past) (torn : Option TornBit) : Type 0 where
   pub opens : (a : Access) → opened mine a ≡ open_torn p (unfinished n (last_write mine)) a
   pub reader : (b : Access) → last_write mine ≡ Some b → b.reader < n
-  pub left : option_map bit_left (unfinished n (last_write mine)) ≡ torn
+  pub remaining : option_map bit_left (unfinished n (last_write mine)) ≡ torn
 
 -- where a bit is torn, this value was being written to it
 abbrev pub IsBegun : Past → Option TornBit → Bool → Type 0
@@ -136,7 +136,7 @@ ended-torn n p x a h = ap (λ b. open_torn p (cond (not b && (x.reader + 1 == n)
 pub torn-write : (n p : ℕ) (mine : Past) (e : Entry) (x : Access) (was : Access → Bool) (torn : Option TornBit) → option_map bit_left (unfinished n (Some x)) ≡ torn →
     e.access ≡ Some x → x.owner ≡ p → x.reader < n → ((a : Access) → opened mine a ≡ was a) → Writes was x → Torn n p (e ∷ mine) torn
 torn-write n p mine e x was torn l h o r w (begins v k none) = record {
-  left = ap (λ y. option_map bit_left (unfinished n y)) (last-of e mine x (BeginWrite v) h k) ∙ l;
+  remaining = ap (λ y. option_map bit_left (unfinished n y)) (last-of e mine x (BeginWrite v) h k) ∙ l;
   opens = λ a. opened-entry a x e mine h ∙ ap (λ m. open_after (opened mine a) (same_bit a x) m) k ∙ ap (λ b. cond (same_bit a x) true b) (w a ∙ none a) ∙ it (same_bit a x)
       ∙ sym (ap (λ l. open_torn p (unfinished n l) a) (last-of e mine x (BeginWrite v) h k) ∙ begun-torn n p x v a k o);
   reader = λ b u. let f : Some x ≡ Some b = sym (last-of e mine x (BeginWrite v) h k) ∙ u in let g : x ≡ b = cc in subst (λ (y : Access). y.reader < n) g r;
@@ -146,7 +146,7 @@ torn-write n p mine e x was torn l h o r w (begins v k none) = record {
     it true = refl
     it false = refl
 torn-write n p mine e x was torn l h o r w (ends k one) = record {
-  left = ap (λ y. option_map bit_left (unfinished n y)) (last-of e mine x EndWrite h k) ∙ l;
+  remaining = ap (λ y. option_map bit_left (unfinished n y)) (last-of e mine x EndWrite h k) ∙ l;
   opens = λ a. opened-entry a x e mine h ∙ ap (λ m. open_after (opened mine a) (same_bit a x) m) k ∙ ap (λ b. cond (same_bit a x) false b) (w a ∙ one a) ∙ none (same_bit a x)
       ∙ sym (ap (λ l. open_torn p (unfinished n l) a) (last-of e mine x EndWrite h k) ∙ ended-torn n p x a k);
   reader = λ b u. let f : Some x ≡ Some b = sym (last-of e mine x EndWrite h k) ∙ u in let g : x ≡ b = cc in subst (λ (y : Access). y.reader < n) g r;
@@ -159,7 +159,7 @@ torn-write n p mine e x was torn l h o r w (ends k one) = record {
 -- after an entry that writes nothing
 pub torn-kept : (n p : ℕ) (mine : Past) (e : Entry) (torn : Option TornBit) → ((a : Access) → opened (e ∷ mine) a ≡ opened mine a) → last_write (e ∷ mine) ≡ last_write mine → Torn n p mine torn → Torn n p (e ∷ mine) torn
 torn-kept n p mine e torn same last t = record {
-  left = ap (λ l. option_map bit_left (unfinished n l)) last ∙ t.left;
+  remaining = ap (λ l. option_map bit_left (unfinished n l)) last ∙ t.remaining;
   opens = λ a. same a ∙ t.opens a ∙ ap (λ l. open_torn p (unfinished n l) a) (sym last);
   reader = λ b u. t.reader b (sym last ∙ u);
 }
@@ -180,10 +180,10 @@ torn-place c mine e part run made bits v u o (over h) k w t = absurd (true≢fal
 torn-place c mine e part (Writing w) made bits v u o (writes r q tie) k same t =
     let going : (bit_written (written_at c part).1 w).made < 2 * c.setup.processes = tie.goes.going in
     torn-write c.setup.processes c.process mine e (access_of c.process (written_at c part).0 (next_written (written_at c part).1 w)) (open_run c part (Writing w)) _
-    (left-written c.setup.processes c.process (written_at c part).0 (written_at c part).1 w ∙ left-place c part w u tie.goes.inside)
+    (remaining-written c.setup.processes c.process (written_at c part).0 (written_at c part).1 w ∙ remaining-place c part w u tie.goes.inside)
     (k ∙ ap Some (same-write v c.process (written_at c part).0 w.bit (bit_written (written_at c part).1 w))) refl (omega arith) same
     (write-kind c.process (written_at c part).0 (written_at c part).1 w)
-torn-place c mine e part (Reading bits begun) made bits' v u o (reads r tie) k same t = subst (Torn c.setup.processes c.process (e ∷ mine)) (sym (left-read c part bits begun u)) (go begun k)
+torn-place c mine e part (Reading bits begun) made bits' v u o (reads r tie) k same t = subst (Torn c.setup.processes c.process (e ∷ mine)) (sym (remaining-read c part bits begun u)) (go begun k)
   where
     go : (b : Bool) → e.access ≡ Some (ended_with v (access_at c part (Reading bits b))) → Torn c.setup.processes c.process (e ∷ mine) None
     go true k = torn-kept c.setup.processes c.process mine e None (λ a. read-keeps a (ended_with v (access_at c part (Reading bits true))) e mine true v k refl) (last-of e mine (ended_with v (access_at c part (Reading bits true))) (EndRead v) k refl) t
@@ -197,7 +197,7 @@ itself x = λ i. one x.bit i && one x.reader i && one x.owner i && one (field_nu
 
 -- a write that is open has torn a bit
 open-torn : (n p : ℕ) (mine : Past) (torn : Option TornBit) (x : Access) → Torn n p mine torn → opened mine x ≡ true → (t : TornBit) × (torn ≡ Some t)
-open-torn n p mine torn x t o = go (unfinished n (last_write mine)) (sym (t.opens x) ∙ o) t.left
+open-torn n p mine torn x t o = go (unfinished n (last_write mine)) (sym (t.opens x) ∙ o) t.remaining
   where
     go : (y : Option Access) → open_torn p y x ≡ true → option_map bit_left y ≡ torn → (t : TornBit) × (torn ≡ Some t)
     go None h l = absurd (true≢false (sym h))
@@ -244,6 +244,6 @@ begun-place c mine e part (Writing w) made bits v u o (writes r q tie) k same t 
 
     go : (last : Bool) → IsBegun (e ∷ mine) (torn_at c (cond last (enter c (part_after c part [])) (record { part = part; run = Writing (write_moved c.setup.processes new w) })))
         (value_at c (cond last (enter c (part_after c part [])) (record { part = part; run = Writing (write_moved c.setup.processes new w) })))
-    go true t l = let none : None ≡ Some t = sym (left-new c (part_after c part [])) ∙ l in cc
+    go true t l = let none : None ≡ Some t = sym (remaining-new c (part_after c part [])) ∙ l in cc
     go false t l = next t l
-begun-place c mine e part (Reading bits begun) made bits' v u o (reads r tie) k same t b now l = let none : None ≡ Some now = sym (left-read c part bits begun u) ∙ l in cc
+begun-place c mine e part (Reading bits begun) made bits' v u o (reads r tie) k same t b now l = let none : None ≡ Some now = sym (remaining-read c part bits begun u) ∙ l in cc

@@ -14,10 +14,10 @@ pub get-append : {X : Type 0} → (xs ys : List X) (k : ℕ) → slice_get (xs +
 get-append [] ys k = rw zero-add refl
 get-append (x ∷ xs) ys k = rw suc-add (get-append xs ys k)
 
-pub get-left : {X : Type 0} → (xs ys : List X) (k : ℕ) → k < length xs → slice_get (xs ++ ys) k ≡ slice_get xs k
-get-left [] ys k h = absurd (omega arith)
-get-left (x ∷ xs) ys zero h = refl
-get-left (x ∷ xs) ys (suc k) h = get-left xs ys k (omega arith)
+pub get-remaining : {X : Type 0} → (xs ys : List X) (k : ℕ) → k < length xs → slice_get (xs ++ ys) k ≡ slice_get xs k
+get-remaining [] ys k h = absurd (omega arith)
+get-remaining (x ∷ xs) ys zero h = refl
+get-remaining (x ∷ xs) ys (suc k) h = get-remaining xs ys k (omega arith)
 
 pub get-none : {X : Type 0} → (k : ℕ) → slice_get {X = X} [] k ≡ None
 get-none zero = refl

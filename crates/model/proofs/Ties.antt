@@ -9,7 +9,7 @@ use Rattle.safe_number.specs.{NumberWrite, bits_of_number, new_write, number_rea
 use Rattle.safe_number.proofs.Numbers.{length_bits}
 use Rattle.safe_number.proofs.Bits.{length-bits_of_number}
 use Rattle.model.specs.Parts.{Part, Raises, Asks, TakesTicket, Lowers, Refuses, Waits, AsksCommit, AsksStamp, AsksImage, WritesImage, WritesStamp, WritesCommit, Clears, Over, is_read, is_over, read_at, written_at, doing, part_after, stage_of, first_marks, last_marks}
-use Rattle.model.proofs.Cursors.{drop-map, drop-more, get-drop, length-drop, left_written, left_read, left-next, left-new, left-done, write-moves, Goes, Moved, read-begins, read-ends}
+use Rattle.model.proofs.Cursors.{drop-map, drop-more, get-drop, length-drop, left_written, left_read, remaining-next, remaining-new, remaining-done, write-moves, Goes, Moved, read-begins, read-ends}
 use Rattle.model.proofs.Follow.{Spot, moved_on, more_bits, spot_of, stands, not_over, next_access}
 use Rattle.safe_bit.specs.{Move}
 use Rattle.safe_bit.specs.declared.Move.TheVariants.{BeginWrite, EndWrite}
@@ -19,13 +19,13 @@ use Rattle.model.proofs.Width.{IsGood, width-pos}
 -- a write of these bits has made this many accesses of its part
 pub record WriteTie (n : ℕ) (bits : List Bool) (w : NumberWrite) (made : ℕ) : Type 0 where
   pub goes : Goes n bits w
-  pub left : drop made (number_writes n bits) ≡ left_written n bits w
+  pub remaining : drop made (number_writes n bits) ≡ left_written n bits w
   pub fresh : (made == 0) ≡ is_fresh (Writing w)
 
 -- a read that has read these bits has made this many accesses of its part
 pub record ReadTie (reader width : ℕ) (bits : List Bool) (begun : Bool) (made : ℕ) : Type 0 where
   pub inside : length bits < width
-  pub left : drop made (number_reads reader (replicate width false)) ≡ left_read reader width bits begun
+  pub remaining : drop made (number_reads reader (replicate width false)) ≡ left_read reader width bits begun
   pub fresh : (made == 0) ≡ is_fresh (Reading bits begun)
 
 -- a run and an index of a part
@@ -73,10 +73,10 @@ enters c g part = record { part = refl; run = go (is_over part) refl (is_read pa
 
     go : (o : Bool) → is_over part ≡ o → (r : Bool) → is_read part ≡ r → Tie c part (cond r (Reading [] false) (Writing (new_write (width c.setup (written_at c part).0)))) 0 []
     go true o r h = over o
-    go false o true h = reads h (record { inside = width-pos c.setup g (read_at c part).1; left = ap (λ k. number_reads c.process (replicate k false)) (none (width c.setup (read_at c part).1)); fresh = refl })
+    go false o true h = reads h (record { inside = width-pos c.setup g (read_at c part).1; remaining = ap (λ k. number_reads c.process (replicate k false)) (none (width c.setup (read_at c part).1)); fresh = refl })
     go false o false h = writes h refl (record {
       goes = record { width = written-width c part h o; inside = width-pos c.setup g (written_at c part).0; going = omega (arith, g.processes_is) };
-      left = sym (left-new c.setup.processes (written_at c part).1 (width c.setup (written_at c part).0) (written-width c part h o));
+      remaining = sym (remaining-new c.setup.processes (written_at c part).1 (width c.setup (written_at c part).0) (written-width c part h o));
       fresh = refl;
     })
 
@@ -117,7 +117,7 @@ facts-write c g part w made bits v r empty t = record {
   next = ap (λ l. slice_get l made) is ∙ next-of f (number_writes n new) (left_written n new to) made (next_written new w) all;
   last = ap (λ l. made + 1 == length l) is ∙ last-of f (number_writes n new) (left_written n new to) made (next_written new w) (to.bit == w.width) all none some;
   more = write-more v (bit_written new w) bits ∙ empty;
-  on = λ l. writes r refl (record { goes = goes l; left = drop-more (number_writes n new) (left_written n new to) made (next_written new w) all; fresh = ne_eqb (made + 1) 0 (λ u. omega (arith, u)) ∙ sym on.begun });
+  on = λ l. writes r refl (record { goes = goes l; remaining = drop-more (number_writes n new) (left_written n new to) made (next_written new w) all; fresh = ne_eqb (made + 1) 0 (λ u. omega (arith, u)) ∙ sym on.begun });
   fresh = t.fresh;
 }
   where
@@ -137,7 +137,7 @@ facts-write c g part w made bits v r empty t = record {
     is = ap (λ b. cond b (read_of c.setup c.process (read_at c part).0 (read_at c part).1) (write_of c.setup c.process (written_at c part).0 new)) r
 
     all : drop made (number_writes n new) ≡ next_written new w ∷ left_written n new to
-    all = t.left ∙ left-next n new w t.goes
+    all = t.remaining ∙ remaining-next n new w t.goes
 
     on : Moved n new to
     on = write-moves n new w (omega (arith, g.processes_is)) t.goes
@@ -149,10 +149,10 @@ facts-write c g part w made bits v r empty t = record {
     goes l = let apart : to.bit ≡ w.width → ⊥ = eqb-false to.bit w.width l in record { width = on.width; inside = omega (arith, on.inside, same, apart); going = on.going }
 
     none : (to.bit == w.width) ≡ true → left_written n new to ≡ []
-    none l = left-done n new to (eqb-true to.bit w.width l ∙ sym same)
+    none l = remaining-done n new to (eqb-true to.bit w.width l ∙ sym same)
 
     some : (to.bit == w.width) ≡ false → 0 < length (left_written n new to)
-    some l = omega (arith, ap length (left-next n new to (goes l)))
+    some l = omega (arith, ap length (remaining-next n new to (goes l)))
 
 pub length-reads : (reader k m : ℕ) → length (Rattle.safe_number.specs.Accesses.reads_from reader k (replicate m false)) ≡ 2 * m
 length-reads reader k zero = refl
@@ -179,29 +179,29 @@ facts-read c part bits begun made v r t = go begun t
       next = ap (λ l. slice_get l made) is ∙ next-of f xs (left_read c.process size bits true) made (next_read c.process bits false) all;
       last = ap (λ l. made + 1 == length l) is ∙ last-of f xs (left_read c.process size bits true) made (next_read c.process bits false) false all (λ u. absurd (Rattle.std.proofs.Common.true≢false (sym u))) (λ u. omega arith);
       more = refl;
-      on = λ l. reads r (record { inside = t.inside; left = drop-more xs (left_read c.process size bits true) made (next_read c.process bits false) all; fresh = ne_eqb (made + 1) 0 (λ u. omega (arith, u)) });
+      on = λ l. reads r (record { inside = t.inside; remaining = drop-more xs (left_read c.process size bits true) made (next_read c.process bits false) all; fresh = ne_eqb (made + 1) 0 (λ u. omega (arith, u)) });
       fresh = t.fresh;
     }
       where
         all : drop made xs ≡ next_read c.process bits false ∷ left_read c.process size bits true
-        all = t.left ∙ read-begins c.process size bits t.inside
+        all = t.remaining ∙ read-begins c.process size bits t.inside
     go true t = record {
       next = ap (λ l. slice_get l made) is ∙ next-of f xs (left_read c.process size (bits ++ v ∷ []) false) made (next_read c.process bits true) all;
       last = ap (λ l. made + 1 == length l) is ∙ last-of f xs (left_read c.process size (bits ++ v ∷ []) false) made (next_read c.process bits true) (length bits + 1 == size) all none some;
       more = refl;
       on = λ l. reads r (record {
         inside = inside l;
-        left = drop-more xs (left_read c.process size (bits ++ v ∷ []) false) made (next_read c.process bits true) all;
+        remaining = drop-more xs (left_read c.process size (bits ++ v ∷ []) false) made (next_read c.process bits true) all;
         fresh = ne_eqb (made + 1) 0 (λ u. omega (arith, u)) ∙ sym (ne_eqb (length (bits ++ v ∷ [])) 0 (λ u. omega (arith, u, length_push bits v)));
       });
       fresh = t.fresh;
     }
       where
         all : drop made xs ≡ next_read c.process bits true ∷ left_read c.process size (bits ++ v ∷ []) false
-        all = t.left ∙ read-ends c.process size bits v
+        all = t.remaining ∙ read-ends c.process size bits v
 
-        left : length (left_read c.process size (bits ++ v ∷ []) false) ≡ 2 * (size - length (bits ++ v ∷ []))
-        left = length-reads c.process (length (bits ++ v ∷ [])) (size - length (bits ++ v ∷ []))
+        remaining : length (left_read c.process size (bits ++ v ∷ []) false) ≡ 2 * (size - length (bits ++ v ∷ []))
+        remaining = length-reads c.process (length (bits ++ v ∷ [])) (size - length (bits ++ v ∷ []))
 
         inside : (length bits + 1 == size) ≡ false → length (bits ++ v ∷ []) < size
         inside l = let apart : length bits + 1 ≡ size → ⊥ = eqb-false (length bits + 1) size l in omega (arith, t.inside, length_push bits v, apart)
@@ -213,7 +213,7 @@ facts-read c part bits begun made v r t = go begun t
             ap (λ k. Rattle.safe_number.specs.Accesses.reads_from c.process (length (bits ++ v ∷ [])) (replicate k false)) nothing
 
         some : (length bits + 1 == size) ≡ false → 0 < length (left_read c.process size (bits ++ v ∷ []) false)
-        some l = omega (arith, left, inside l)
+        some l = omega (arith, remaining, inside l)
 
 pub facts : (c : Call) → IsGood c.setup → (part : Part) (run : Run) (made : ℕ) (bits : List Bool) (v : Bool) → is_over part ≡ false → Tie c part run made bits → Facts c part run made bits v
 facts c g part run made bits v o (over h) = absurd (Rattle.std.proofs.Common.true≢false (sym h ∙ o))

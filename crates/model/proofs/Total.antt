@@ -6,7 +6,7 @@ use Rattle.plain_store.specs.declared.Answer.TheVariants.{Withdrawn}
 use Rattle.model.specs.{Mark, Next, Past, Portion, Script, Stage, doing, inside, is_over, is_read, last_write, marks_at, scripted, settle, single, singles, stage_after, unfinished, unit_program, withdrawn, writing}
 use Rattle.model.specs.declared.marks.Mark.TheVariants.{Answered, Left, Down}
 use Rattle.model.specs.declared.stages.Stage.TheVariants.{Idle, Leaving, Settling, Down}
-use Rattle.model.proofs.Singles.{get-append, get-left, length-single}
+use Rattle.model.proofs.Singles.{get-append, get-remaining, length-single}
 use Rattle.model.proofs.Place.{portion, rest, rest-unread, rest-write}
 use Rattle.model.proofs.Follow.{Spot, Stands}
 use Rattle.model.proofs.Marking.{marks_on, single-marks}
@@ -22,7 +22,7 @@ runs_on c r len at st o = go (is_read at.part) refl
     one : (q : Portion) (tail : Script) → at.made < length q.accesses → (m : Next) × (slice_get (singles (q ∷ tail)) at.made ≡ Some m)
     one q tail l =
         let (m, e) = get_some (single q.first q.last q.accesses) at.made (rw length-single l) in
-        (m, get-left (single q.first q.last q.accesses) (singles tail) at.made (rw length-single l) ∙ e)
+        (m, get-remaining (single q.first q.last q.accesses) (singles tail) at.made (rw length-single l) ∙ e)
 
     back : (m : Next) → slice_get (singles (rest c at.part [])) at.made ≡ Some m → scripted c r.finished len ≡ Some m
     back m h = ap (λ f. scripted c f len) (sym (append-nil r.finished)) ∙ ap (λ l. slice_get l len) (st.script [])

@@ -45,10 +45,10 @@ waiting-closed c part run made bits f o h (over q) a = absurd (true≢false (sym
 waiting-closed c part run made bits f o h (writes r e t) a = absurd (waiting-part part f r h)
 waiting-closed c part run made bits f o h (reads r t) a = refl
 
-waiting-left : (c : Call) (part : Part) (run : Run) (made : ℕ) (bits : List Bool) (f : Bool) → is_over part ≡ false → stage_of part f ≡ Waiting → Tie c part run made bits → torn_run c part run ≡ None
-waiting-left c part run made bits f o h (over q) = absurd (true≢false (sym q ∙ o))
-waiting-left c part run made bits f o h (writes r e t) = absurd (waiting-part part f r h)
-waiting-left c part run made bits f o h (reads r t) = refl
+waiting-remaining : (c : Call) (part : Part) (run : Run) (made : ℕ) (bits : List Bool) (f : Bool) → is_over part ≡ false → stage_of part f ≡ Waiting → Tie c part run made bits → torn_run c part run ≡ None
+waiting-remaining c part run made bits f o h (over q) = absurd (true≢false (sym q ∙ o))
+waiting-remaining c part run made bits f o h (writes r e t) = absurd (waiting-part part f r h)
+waiting-remaining c part run made bits f o h (reads r t) = refl
 
 -- the copies that the last write has left open are those that the unit has open at its begin
 torn-settling : (c : Call) (mine : Past) (torn : Option Access) (a : Access) → open_torn c.process torn a ≡ open_closing c (settling_from c mine torn) a
@@ -68,7 +68,7 @@ failed-opens s p mine torn t = settles refl refl (λ a. t.opens a ∙ torn-settl
 
 -- nothing is open, and a mark is added
 kept : (p : ℕ) (n : ℕ) (mine : Past) (m : Mark) (torn : Option TornBit) → Torn n p mine torn → Torn n p (record { process = p; access = None; marks = m ∷ [] } ∷ mine) torn
-kept p n mine m torn t = record { opens = t.opens; reader = t.reader; left = t.left }
+kept p n mine m torn t = record { opens = t.opens; reader = t.reader; remaining = t.remaining }
 
 no_turn : (mine : Past) (p : ℕ) (m : Mark) (a x : Access) → (let e : Entry = record { process = p; access = None; marks = m ∷ [] } in e).access ≡ Some x → same_bit a x ≡ true → Turn (opened mine a) x.how
 no_turn mine p m a x h same = let f : None ≡ Some x = h in cc
@@ -125,11 +125,11 @@ added-out s g events (Withdraw p) e h (runs_at command b r w t) a =
     let at = at_place s g events p command b r in
     let waits : stage_of (place_at s p (own p past)).part (at.at.made == 0) ≡ Waiting = ap (λ part. stage_of part (at.at.made == 0)) (sym at.tied.part) ∙ sym at.stage ∙ is-waiting p (stage p past) h in
     let none : (a : Access) → opened (own p past) a ≡ false = λ a. w a ∙ waiting-closed c (place_at s p (own p past)).part (place_at s p (own p past)).run at.at.made at.at.bits (at.at.made == 0) (ap is_over (sym at.tied.part) ∙ at.not_over) waits at.tied.run a in
-    let left : torn_at c (place_at s p (own p past)) ≡ None = waiting-left c (place_at s p (own p past)).part (place_at s p (own p past)).run at.at.made at.at.bits (at.at.made == 0) (ap is_over (sym at.tied.part) ∙ at.not_over) waits at.tied.run in
+    let remaining : torn_at c (place_at s p (own p past)) ≡ None = waiting-remaining c (place_at s p (own p past)).part (place_at s p (own p past)).run at.at.made at.at.bits (at.at.made == 0) (ap is_over (sym at.tied.part) ∙ at.not_over) waits at.tied.run in
     let d : record { process = p; access = None; marks = Withdrew ∷ [] } ≡ e = cc in
     subst (λ (e : Entry). Out s p (own p past) e (fold stage_after (stage p past) e.marks)) d (record {
       turns = no_turn (own p past) p Withdrew;
-      opens = leaves refl refl (λ a. none a ∙ sym (new-closed p Rattle.model.specs.declared.access.Field.TheVariants.Ticket (Rattle.model.specs.Closings.no_ticket c) s.ticket_bits a)) (record { torn = kept p s.processes (own p past) Withdrew None (subst (Torn s.processes p (own p past)) left t.torn); begun = λ t h. cc });
+      opens = leaves refl refl (λ a. none a ∙ sym (new-closed p Rattle.model.specs.declared.access.Field.TheVariants.Ticket (Rattle.model.specs.Closings.no_ticket c) s.ticket_bits a)) (record { torn = kept p s.processes (own p past) Withdrew None (subst (Torn s.processes p (own p past)) remaining t.torn); begun = λ t h. cc });
     })
 added-out s g events (Restart p) e h (closed (inl i) w t) a = let f : refused_at (Restart p) Idle ≡ None = ap (refused_at (Restart p)) (sym i) ∙ h in cc
 added-out s g events (Restart p) e h (closed (inr i) w t) a = let d : record { process = p; access = None; marks = Restarted ∷ [] } ≡ e = cc in
@@ -161,7 +161,7 @@ opens_more s g events event p ih (Some e) h = at (e.process == p) refl
 
 -- in every record
 pub opens_all : (s : Setup) → IsGood s → (events : List Event) (p : ℕ) → Opens s p (own p (past_of s events)) (stage p (past_of s events))
-opens_all s g [] p = closed (inl refl) (λ a. refl) (record { opens = λ a. refl; reader = λ b u. cc; left = refl })
+opens_all s g [] p = closed (inl refl) (λ a. refl) (record { opens = λ a. refl; reader = λ b u. cc; remaining = refl })
 opens_all s g (event ∷ events) p = opens_more s g events event p (opens_all s g events) (entry_of s (past_of s events) event) refl
 
 owner-of : (b r o f : Bool) → (b && r && o && f) ≡ true → o ≡ true

@@ -88,11 +88,11 @@ pub record StandsAt (s : Setup) (taken : List Taken) (c : Call) (r : Reply) (k :
   pub reply : r ≡ reply_to (store_after s (take k taken)) c.command (caller c)
 
 -- If a call is answered with a store reply, the history contains its command with this reply.
-abbrev pub StandsInHistory : Setup → Past → Entry → Type 0
-StandsInHistory s past e = (r : Reply) → Contains e.marks (Answered (answer.Reply r)) → (k : ℕ) × StandsAt s (history s (e ∷ past)) (call_of s past e) r k
+abbrev pub IsInHistory : Setup → Past → Entry → Type 0
+IsInHistory s past e = (r : Reply) → Contains e.marks (Answered (answer.Reply r)) → (k : ℕ) × StandsAt s (history s (e ∷ past)) (call_of s past e) r k
 
-abbrev pub AnswersStandInHistory : Type 0
-AnswersStandInHistory = EachEntryGiven StandsInHistory
+abbrev pub AnswersAreInHistory : Type 0
+AnswersAreInHistory = EachEntryGiven IsInHistory
 
 -- A call, cut or not, is taken at most once.
 abbrev pub CallsTakeOnce : Past → Type 0
@@ -122,7 +122,7 @@ pub record OneHistory : Type 0 where
   pub taken : TakenInHistory
   pub answers : AnswersAreTaken
   pub whole_calls : AnsweredCallsTakeNoMore
-  pub stand : AnswersStandInHistory
+  pub stand : AnswersAreInHistory
   pub once : TakenOnce
   pub cut : CutCallsAreNotAnswered
   pub order : KeepsOrder
@@ -246,20 +246,20 @@ has_change p test store (t ∷ history) =
     || has_change p test (after store t.command (record { process = t.process; number = t.number })) history
 
 -- In version 2, let `Ask` be answered, and let no change of its process that is later than its call number m precede it. Then call m was taken as a change exactly if the answer is `Last(m)`.
-abbrev pub TellsOfCutCalls : Setup → Past → Type 0
-TellsOfCutCalls s past = s.version ≡ 2 → (k m : ℕ) (t : Taken) → slice_get (history s past) k ≡ Some t → t.command ≡ Ask → 0 < m → m < t.number →
+abbrev pub ReportsOfCutCalls : Setup → Past → Type 0
+ReportsOfCutCalls s past = s.version ≡ 2 → (k m : ℕ) (t : Taken) → slice_get (history s past) k ≡ Some t → t.command ≡ Ask → 0 < m → m < t.number →
     IsFalse (has_change t.process (nat_lt m) (opening_store s) (take k (history s past))) →
     IsTrue (has_change t.process (λ n. n == m) (opening_store s) (history s past)) ↔ (t.reply ≡ Last m)
 
-abbrev pub AskTellsOfCutCalls : Type 0
-AskTellsOfCutCalls = EachPastGiven TellsOfCutCalls
+abbrev pub AskReportsOfCutCalls : Type 0
+AskReportsOfCutCalls = EachPastGiven ReportsOfCutCalls
 
 -- The main theorem, of one entry and the past that it is added to. The processes go inside one at a time, and not before a waiting process whose doorway ended before their own began. Their replies are those of one thread that takes the commands of one history. The data that they read is whole. The answers `TicketsFull`, `StampsFull` and the replies to `Ask` are true.
 pub record KeepsHeadline (s : Setup) (past : Past) (e : Entry) : Type 0 where
   pub alone : IsAlone (e ∷ past)  -- no two are inside together, a failed one among them until its unit lets go
   pub overtakes : OvertakesNobody past e  -- no process enters past one that waits and had finished its doorway before the other began its own
   pub place : TakesItsPlace s past e  -- a command that is taken has its position, and the sequential store's reply there
-  pub stands : StandsInHistory s past e  -- a store answer is in the history, with its process, command, reply and number
+  pub stands : IsInHistory s past e  -- a store answer is in the history, with its process, command, reply and number
   pub answers : CallsTakeWhatTheyAnswer (e ∷ past)  -- it is the reply of the one command of its call
   pub cut : AnswersNoCutCall past e  -- a call that was cut is never answered
   pub once : CallsTakeOnce (e ∷ past)  -- and is taken at most once
@@ -270,7 +270,7 @@ pub record KeepsHeadline (s : Setup) (past : Past) (e : Entry) : Type 0 where
   pub tickets : NamesTheLowest s past e  -- and with `TicketsFull` only if one did, of the lowest process whose read did
   pub stamps : IsAfterAllChanges s past e  -- `StampsFull` is answered only to a change, after as many as the greatest stamp
   pub asks : AsksTheLatestChange s (e ∷ past)  -- `Ask` returns the number of the asker's latest change before its position, or 0
-  pub tells : TellsOfCutCalls s (e ∷ past)  -- so `Ask` reports of a call that was cut whether it was taken as a change
+  pub reports : ReportsOfCutCalls s (e ∷ past)  -- so `Ask` reports of a call that was cut whether it was taken as a change
 
 -- The main theorem: each entry of every record keeps it.
 abbrev pub Headline : Type 0

@@ -54,13 +54,13 @@ SingleWriter = (s : Setup) → checked s ≡ Ok tt → (events : List Event) (ev
     (a : Access) → e.access ≡ Some a → IsWrite a.how → a.owner ≡ e.process
 
 -- for every call and all its accesses, the machine's next access is the script's
-abbrev pub PlaceTellsNext : Type 0
-PlaceTellsNext = (c : Call) → checked c.setup ≡ Ok tt → (accesses : List Access) → IsFollowed c accesses →
+abbrev pub PlaceReportsNext : Type 0
+PlaceReportsNext = (c : Call) → checked c.setup ≡ Ok tt → (accesses : List Access) → IsFollowed c accesses →
     option_map (λ (n : Next). n.access) (scripted c (reads_of c accesses).finished (length accesses)) ≡ next_access c (place_of c accesses)
 
 -- the marks of the place machine are the script's, once the access is made
-abbrev pub PlaceTellsMarks : Type 0
-PlaceTellsMarks = (c : Call) → checked c.setup ≡ Ok tt → (accesses : List Access) → IsFollowed c accesses → (n : Next) (v : Bool) →
+abbrev pub PlaceReportsMarks : Type 0
+PlaceReportsMarks = (c : Call) → checked c.setup ≡ Ok tt → (accesses : List Access) → IsFollowed c accesses → (n : Next) (v : Bool) →
     scripted c (reads_of c accesses).finished (length accesses) ≡ Some n →
     marks_at (length accesses) (local_program c (reads_of c (ended_with v n.access ∷ accesses)).finished) ≡ marks_of c (place_of c accesses) (value_of (ended v n.access.how))
 
@@ -75,13 +75,13 @@ RunsFromItsPlace = (s : Setup) → checked s ≡ Ok tt → (events : List Event)
     × ((flick : Bool) → stepped s past p flick ≡ Some (entry_at s past p flick c (place_of c (accesses_of (since starts (own p past))))))
 
 -- for every withdrawn call: the machine's next access and marks are the script's
-abbrev pub WithdrawalTellsNext : Type 0
-WithdrawalTellsNext = (c : Call) → checked c.setup ≡ Ok tt → (flicks : List Bool) (flick : Bool) →
+abbrev pub WithdrawalReportsNext : Type 0
+WithdrawalReportsNext = (c : Call) → checked c.setup ≡ Ok tt → (flicks : List Bool) (flick : Bool) →
     nth (length flicks) (withdrawn c) ≡ closing_next c (closing_of c (withdrawing c) flicks) flick
 
 -- for every call that was cut, whatever its process did before: the machine's next access and marks are those of the memory unit's script
-abbrev pub UnitTellsNext : Type 0
-UnitTellsNext = (c : Call) → checked c.setup ≡ Ok tt → (past : Past) (flicks : List Bool) (flick : Bool) →
+abbrev pub UnitReportsNext : Type 0
+UnitReportsNext = (c : Call) → checked c.setup ≡ Ok tt → (past : Past) (flicks : List Bool) (flick : Bool) →
     nth (length flicks) (unit_program c past (first_flick flicks flick)) ≡ closing_next c (closing_of c (failing c past) flicks) flick
 
 -- in every record, a process that withdrew continues from its place
@@ -103,8 +103,8 @@ UnitGoesOnFromItsPlace = (s : Setup) → checked s ≡ Ok tt → (events : List 
     (closing_stage at ≡ Settling) × ((flick : Bool) → stepped s past p flick ≡ option_map (closing_entry s past p flick) (closing_next c at flick))
 
 -- the marks of the closing machine lead to its stages
-abbrev pub ClosingTellsStage : Type 0
-ClosingTellsStage = (c : Call) (at : Closing) (flick : Bool) (n : Next) → closing_next c at flick ≡ Some n → fold stage_after (closing_stage at) n.marks ≡ closing_stage (closing_after c at flick)
+abbrev pub ClosingReportsStage : Type 0
+ClosingReportsStage = (c : Call) (at : Closing) (flick : Bool) (n : Next) → closing_next c at flick ≡ Some n → fold stage_after (closing_stage at) n.marks ≡ closing_stage (closing_after c at flick)
 
 -- in every record, if a process fails that runs its call, its memory unit starts from the place of the call
 abbrev pub CallIsCutAtItsPlace : Type 0

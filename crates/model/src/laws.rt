@@ -1,6 +1,6 @@
 //! The laws of every record of a list of events, and of the place machine next to the script. Each law is
 //! a function with an empty body, whose contract is the law.
-ghost use Rattle.model.specs.Laws.{OwnEntry, OthersStay, AcceptedAdds, RefusedAddsNothing, SingleWriter, PlaceTellsNext, PlaceTellsMarks, RunsFromItsPlace, WithdrawalTellsNext, UnitTellsNext, ClosingTellsStage, WithdrawsFromItsPlace, UnitGoesOnFromItsPlace, CallIsCutAtItsPlace, WithdrawalIsCutAtItsPlace, RestIsNotCut, TornBitOfCallIsThere, TornCommitIsPending, TornBitOfWithdrawalIsThere, UnoverlappedReadGivesTheBit, WriteOfBytesGoesByBits, BytesAreMadeByTheirBits, PlaceStartsClosed, PlaceGoesInTurn, WithdrawalGoesInTurn, UnitGoesInTurn, WritesComeInTurn, CellsAnswerTheSafeRule};
+ghost use Rattle.model.specs.Laws.{OwnEntry, OthersStay, AcceptedAdds, RefusedAddsNothing, SingleWriter, PlaceReportsNext, PlaceReportsMarks, RunsFromItsPlace, WithdrawalReportsNext, UnitReportsNext, ClosingReportsStage, WithdrawsFromItsPlace, UnitGoesOnFromItsPlace, CallIsCutAtItsPlace, WithdrawalIsCutAtItsPlace, RestIsNotCut, TornBitOfCallIsThere, TornCommitIsPending, TornBitOfWithdrawalIsThere, UnoverlappedReadGivesTheBit, WriteOfBytesGoesByBits, BytesAreMadeByTheirBits, PlaceStartsClosed, PlaceGoesInTurn, WithdrawalGoesInTurn, UnitGoesInTurn, WritesComeInTurn, CellsAnswerTheSafeRule};
 
 /// An event adds to the entries of its own process alone. One that is not refused adds exactly one entry,
 /// and a refused one adds none.
@@ -19,8 +19,8 @@ pub fn single_writer()
 /// For every call and every list of own accesses, the next access and the marks that the place machine
 /// gives are those of the script. In every record a process that runs its call continues from its place.
 pub fn places_follow_scripts()
-    ensures next { PlaceTellsNext }
-    ensures marks { PlaceTellsMarks }
+    ensures next { PlaceReportsNext }
+    ensures marks { PlaceReportsMarks }
     ensures every_record { RunsFromItsPlace }
 {}
 
@@ -29,9 +29,9 @@ pub fn places_follow_scripts()
 /// lead to the machine's stages. In every record a process that withdrew, and the memory unit of one that
 /// failed, continues from its place.
 pub fn closings_follow_scripts()
-    ensures withdrawal { WithdrawalTellsNext }
-    ensures unit { UnitTellsNext }
-    ensures stage { ClosingTellsStage }
+    ensures withdrawal { WithdrawalReportsNext }
+    ensures unit { UnitReportsNext }
+    ensures stage { ClosingReportsStage }
     ensures withdrawn_in_record { WithdrawsFromItsPlace }
     ensures unit_in_record { UnitGoesOnFromItsPlace }
 {}

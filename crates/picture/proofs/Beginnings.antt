@@ -6,10 +6,10 @@ use Rattle.picture.specs.{queue_said, store_said}
 use Rattle.picture.proofs.Drawn.{one_drawn}
 
 -- the attributes of a mark: behind its place and its source, what else it says
-pub attributes_said : (place source : Attribute) (more : List Attribute) (x y : Said) (queue : List ℕ) (change told : Option TakenChange) (last is_last : Bool) →
-    attribute_text place ≡ said_text x → attribute_text source ≡ said_text y → flat_map attribute_text more ≡ flat_map said_text (store_said change ++ queue_said last queue) → change ≡ told → last ≡ is_last →
-    flat_map attribute_text (place ∷ source ∷ more) ≡ flat_map said_text (x ∷ y ∷ (store_said told ++ queue_said is_last queue))
-attributes_said place source more x y queue change told last is_last p q said same so = λ i. p i ++ (q i ++ (said ∙ (λ j. flat_map said_text (store_said (same j) ++ queue_said (so j) queue))) i)
+pub attributes_said : (place source : Attribute) (more : List Attribute) (x y : Said) (queue : List ℕ) (change reported : Option TakenChange) (last is_last : Bool) →
+    attribute_text place ≡ said_text x → attribute_text source ≡ said_text y → flat_map attribute_text more ≡ flat_map said_text (store_said change ++ queue_said last queue) → change ≡ reported → last ≡ is_last →
+    flat_map attribute_text (place ∷ source ∷ more) ≡ flat_map said_text (x ∷ y ∷ (store_said reported ++ queue_said is_last queue))
+attributes_said place source more x y queue change reported last is_last p q said same so = λ i. p i ++ (q i ++ (said ∙ (λ j. flat_map said_text (store_said (same j) ++ queue_said (so j) queue))) i)
 
 -- its place and its source alone
 pub two_said : (place source : Attribute) (x y : Said) → attribute_text place ≡ said_text x → attribute_text source ≡ said_text y → flat_map attribute_text (place ∷ source ∷ []) ≡ flat_map said_text (x ∷ y ∷ [])

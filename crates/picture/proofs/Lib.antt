@@ -3,7 +3,7 @@ mod Beginnings
 mod Drawn
 mod Steps
 mod Texts
-mod Tellings
+mod Reportings
 mod Held
 mod Framing
 mod Pagings

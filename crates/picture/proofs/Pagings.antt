@@ -5,12 +5,12 @@ use Rattle.std.proofs.Math.Seq.{take-append_seam}
 use Rattle.std.proofs.lemmas.List.{length-map}
 use Rattle.markup.specs.{drawings}
 use Rattle.model.specs.{Mark}
-use Rattle.picture.specs.{Accesses, Bands, BeginsColumn, DrawsBand, GivesLast, Item, Judges, MakesRoom, Passes, Places, Plan, Puts, Reads, SeenPage, SetsOpening, ShownVerdict, TakesItem, Tells, accesses_behind, accesses_in, accesses_left, band_text, bands_drawn, bands_of, begun_by, behind_columns, columns_of, filled, framed, full_bytes, height_with, heights, heights_drawn, heights_of, held_in_64, judged_shapes, judged_with, layout_in, line_by, newest, newest_at, older, opening_by, page_by, page_holding, page_of, placing_before, placing_in, room_by, state_after, verdict_in, whole_bytes, with_line, with_placed, with_put, with_room}
+use Rattle.picture.specs.{Accesses, Bands, BeginsColumn, DrawsBand, GivesLast, Item, Judges, MakesRoom, Passes, Places, Plan, Puts, Reads, SeenPage, SetsOpening, ShownVerdict, TakesItem, Reports, accesses_behind, accesses_in, accesses_left, band_text, bands_drawn, bands_of, begun_by, behind_columns, columns_of, filled, framed, full_bytes, height_with, heights, heights_drawn, heights_of, held_in_64, judged_shapes, judged_with, layout_in, line_by, newest, newest_at, older, opening_by, page_by, page_holding, page_of, placing_before, placing_in, room_by, state_after, verdict_in, whole_bytes, with_line, with_placed, with_put, with_room}
 use Rattle.picture.specs.Bandings.{opening_length, opens_with}
-use Rattle.picture_layout.specs.{Column, Layout, OverlappedRead, Placing, RunLine, Saying, Seen, SeenAccesses, ShownAccess, State, TakenChange, accesses_after, accesses_at, alone, change_told, column_of_access, column_of_read, drawn_apart, end_of_words, freed_by, has_room_at, joined, joins, last_of, layout_of, moved_to, place_of, placing_at_first, put_at, seen, state_lock_marked, state_marked, state_told, stretched_all, widened}
+use Rattle.picture_layout.specs.{Column, Layout, OverlappedRead, WordEnds, RunLine, LineContent, Seen, SeenAccesses, ShownAccess, State, TakenChange, accesses_after, accesses_at, alone, change_reported, column_of_access, column_of_read, drawn_apart, end_of_words, freed_by, has_room_at, joined, joins, last_of, layout_of, moved_to, place_of, placing_at_first, put_at, seen, state_lock_marked, state_marked, state_reported, stretched_all, widened}
 use Rattle.picture_layout.specs.trace.{LockMark}
 use Rattle.picture_layout.specs.trace.declared.marks.LockMark.TheVariants as lock
-use Rattle.picture_layout.specs.declared.told.Saying.TheVariants.{Ended, LockEnded, LockMarked, Marked, Refused, Shown, Tired}
+use Rattle.picture_layout.specs.declared.line_contents.LineContent.TheVariants.{Ended, LockEnded, LockMarked, Marked, Refused, Shown, Tired}
 
 -- a column is put behind the others
 abbrev pub put_page : Seen → SeenPage → SeenPage
@@ -23,7 +23,7 @@ pub puts_column : (column : Seen) (old new : SeenPage) → new ≡ put_page colu
 puts_column column old new is plan state pending last_at bands holds =
     is ∙ ap (put_page column) holds ∙ (λ i. record (page_holding plan state pending last_at (with_put plan.opening column bands)) { placing = put_placing plan.opening column bands i })
 
-pub put_parts : (column placed : Seen) (x : ℕ) (old : SeenPage) (placing : Placing) (columns : List Seen) → columns ≡ old.columns ++ placed ∷ [] → placed ≡ moved_to column x → placing ≡ put_at old.placing column x → x ≡ (place_of old.placing column).x →
+pub put_parts : (column placed : Seen) (x : ℕ) (old : SeenPage) (placing : WordEnds) (columns : List Seen) → columns ≡ old.columns ++ placed ∷ [] → placed ≡ moved_to column x → placing ≡ put_at old.placing column x → x ≡ (place_of old.placing column).x →
     Puts column old (record old { columns = columns; placing = placing })
 put_parts column placed x old placing columns are stands put at = puts_column column old (record old { columns = columns; placing = placing })
     ((λ i. record old { columns = (are ∙ ap (λ (c : Seen). old.columns ++ c ∷ []) stands) i; placing = put i })
@@ -76,7 +76,7 @@ stretched_within len items now fits is =
     ap (λ n. take n (now ++ drop (length now) items)) (sym same) ∙ take-append_seam now (drop (length now) items)
 
 -- and so by the parts of the page and of the band
-pub draws_parts : (is_last : Bool) (verdict : Option ShownVerdict) (old : SeenPage) (opens shown : List ℕ) (behind : State × ℕ) (placing : Placing) (columns apart : List Seen) (at left : SeenAccesses) (layout : Layout) (bands height : ℕ) (markup : List ℕ) →
+pub draws_parts : (is_last : Bool) (verdict : Option ShownVerdict) (old : SeenPage) (opens shown : List ℕ) (behind : State × ℕ) (placing : WordEnds) (columns apart : List Seen) (at left : SeenAccesses) (layout : Layout) (bands height : ℕ) (markup : List ℕ) →
     opens ≡ [] → shown ≡ old.opens → behind ≡ behind_columns old.columns (old.before, old.before_at) → placing ≡ placing_at_first 0 → columns ≡ [] → apart ≡ stretched_all old.columns →
     at ≡ accesses_at old.accesses apart → left ≡ accesses_after at apart → layout ≡ layout_of old.state.processes at apart is_last →
     bands ≡ held_in_64 (old.bands + 1) → height ≡ held_in_64 (old.height + (height_with verdict layout.height + 16)) →
@@ -133,18 +133,18 @@ lock_marked_processes false state p mark = refl
 lock_marked_processes true state p lock.Wait = refl
 lock_marked_processes true state p mark = refl
 
-told_processes : (state : State) (saying : Saying) → (state_told state saying).processes ≡ state.processes
-told_processes state (Marked p mark change) = marked_processes (nat_lt p state.processes) state p mark
-told_processes state (Refused p refusal) = refl
-told_processes state (Tired p) = refl
-told_processes state (Shown words) = refl
-told_processes state (Ended events taken refused) = refl
-told_processes state (LockMarked p mark) = lock_marked_processes (nat_lt p state.processes) state p mark
-told_processes state (LockEnded entries) = refl
+reported_processes : (state : State) (line_content : LineContent) → (state_reported state line_content).processes ≡ state.processes
+reported_processes state (Marked p mark change) = marked_processes (nat_lt p state.processes) state p mark
+reported_processes state (Refused p refusal) = refl
+reported_processes state (Tired p) = refl
+reported_processes state (Shown words) = refl
+reported_processes state (Ended events taken refused) = refl
+reported_processes state (LockMarked p mark) = lock_marked_processes (nat_lt p state.processes) state p mark
+reported_processes state (LockEnded entries) = refl
 
 pub processes_after : (state : State) (items : List Item) → (state_after state items).processes ≡ state.processes
 processes_after state [] = refl
-processes_after state (Tells line ∷ before) = told_processes (state_after state before) line.saying ∙ processes_after state before
+processes_after state (Reports line ∷ before) = reported_processes (state_after state before) line.line_content ∙ processes_after state before
 processes_after state (Reads read ∷ before) = processes_after state before
 processes_after state (Accesses access ∷ before) = processes_after state before
 processes_after state (Judges at verdict ∷ before) = processes_after state before
@@ -158,7 +158,7 @@ unjudged old plan items none holds = holds ∙ (λ i. record (page_by plan (stat
 
 -- a line joins the column that is not placed yet
 abbrev pub joined_page : RunLine → Seen → SeenPage → SeenPage
-joined_page line column page = record page { state = state_told page.state line.saying; pending = Some (joined column line (freed_by page.state line.saying) (state_told page.state line.saying)) }
+joined_page line column page = record page { state = state_reported page.state line.line_content; pending = Some (joined column line (freed_by page.state line.line_content) (state_reported page.state line.line_content)) }
 
 -- it does not join one
 abbrev pub JoinsNone : RunLine → Option Seen → Type 0
@@ -174,8 +174,8 @@ none_to_join line pending none column is = absurd (none_newest column pending no
 -- what a line does to a page with these columns
 abbrev OnwardBy : Plan → State → List Seen → RunLine → Option (List ℕ) → SeenPage → Type 0
 OnwardBy plan state columns line full new =
-    (new ≡ page_by plan (state_told state line.saying) (with_line plan.at line (freed_by state line.saying) (state_told state line.saying) columns))
-    × (full_bytes plan (bands_of plan.opening (older (with_line plan.at line (freed_by state line.saying) (state_told state line.saying) columns))).full ≡ full_bytes plan (bands_of plan.opening (older columns)).full ++ band_text full)
+    (new ≡ page_by plan (state_reported state line.line_content) (with_line plan.at line (freed_by state line.line_content) (state_reported state line.line_content) columns))
+    × (full_bytes plan (bands_of plan.opening (older (with_line plan.at line (freed_by state line.line_content) (state_reported state line.line_content) columns))).full ≡ full_bytes plan (bands_of plan.opening (older columns)).full ++ band_text full)
 
 joins_by : (line : RunLine) (column : Seen) (old new : SeenPage) (plan : Plan) (state : State) (columns : List Seen) → old.pending ≡ Some column → joins column line ≡ true → new ≡ joined_page line column old → old ≡ page_by plan state columns → OnwardBy plan state columns line None new
 joins_by line column old new plan state [] one joins is holds = absurd (none_newest column old.pending (ap (λ (p : SeenPage). p.pending) holds) one)
@@ -183,17 +183,17 @@ joins_by line column old new plan state (other ∷ before) one does is holds =
     let same : column ≡ other = same_column column other old.pending one (ap (λ (p : SeenPage). p.pending) holds) in
     let has : joins other line ≡ true = ap (λ (c : Seen). joins c line) (sym same) ∙ does in (
       is ∙ (λ i. joined_page line (same i) (holds i))
-          ∙ ap (λ (b : Bool). page_by plan (state_told state line.saying) (line_by b plan.at line (freed_by state line.saying) (state_told state line.saying) other before)) (sym has),
-      ap (λ (b : Bool). full_bytes plan (bands_of plan.opening (older (line_by b plan.at line (freed_by state line.saying) (state_told state line.saying) other before))).full) has
+          ∙ ap (λ (b : Bool). page_by plan (state_reported state line.line_content) (line_by b plan.at line (freed_by state line.line_content) (state_reported state line.line_content) other before)) (sym has),
+      ap (λ (b : Bool). full_bytes plan (bands_of plan.opening (older (line_by b plan.at line (freed_by state line.line_content) (state_reported state line.line_content) other before))).full) has
           ∙ sym (append-nil (full_bytes plan (bands_of plan.opening before).full)),
     )
 
-pub joins_pending : (line : RunLine) (column : Seen) (old new : SeenPage) → old.verdict ≡ None → old.pending ≡ Some column → joins column line ≡ true → new ≡ joined_page line column old → TakesItem (Tells line) old None new
+pub joins_pending : (line : RunLine) (column : Seen) (old new : SeenPage) → old.verdict ≡ None → old.pending ≡ Some column → joins column line ≡ true → new ≡ joined_page line column old → TakesItem (Reports line) old None new
 joins_pending line column old new none one does is plan items holds = joins_by line column old new plan (state_after plan.state items) (columns_of plan items) one does is (unjudged old plan items none holds)
 
 -- or has a column of its own
-abbrev pub told_page : RunLine → SeenPage → SeenPage
-told_page line page = record page { state = state_told page.state line.saying }
+abbrev pub reported_page : RunLine → SeenPage → SeenPage
+reported_page line page = record page { state = state_reported page.state line.line_content }
 
 abbrev pub begun_page : RunLine → Option ℕ → State → SeenPage → SeenPage
 begun_page line frees after placed = record placed { pending = Some (alone line (line.at - placed.last_at) frees after); last_at = line.at }
@@ -202,16 +202,16 @@ begins_line : (at : ℕ) (line : RunLine) (frees : Option ℕ) (after : State) (
 begins_line at line frees after [] other = refl
 begins_line at line frees after (column ∷ before) other = ap (λ (b : Bool). line_by b at line frees after column before) (sym (other column refl))
 
-pub begins_alone : (line : RunLine) (old told new : SeenPage) (frees : Option ℕ) (full : Option (List ℕ)) → old.verdict ≡ None → JoinsNone line old.pending → told ≡ told_page line old → frees ≡ freed_by old.state line.saying → BeginsColumn line frees told full new → TakesItem (Tells line) old full new
-begins_alone line old told new frees full none other says free begun plan items is =
+pub begins_alone : (line : RunLine) (old reported new : SeenPage) (frees : Option ℕ) (full : Option (List ℕ)) → old.verdict ≡ None → JoinsNone line old.pending → reported ≡ reported_page line old → frees ≡ freed_by old.state line.line_content → BeginsColumn line frees reported full new → TakesItem (Reports line) old full new
+begins_alone line old reported new frees full none other says free begun plan items is =
     let holds : old ≡ page_by plan (state_after plan.state items) (columns_of plan items) = unjudged old plan items none is in
     let before : State = state_after plan.state items in
-    let state : State = state_told before line.saying in
-    let freed : Option ℕ = freed_by before line.saying in
+    let state : State = state_reported before line.line_content in
+    let freed : Option ℕ = freed_by before line.line_content in
     let columns : List Seen = columns_of plan items in
-    let put = begun.places plan state (newest_at plan.at columns) columns (told_processes before line.saying ∙ processes_after plan.state items) (says ∙ ap (told_page line) holds) in
+    let put = begun.places plan state (newest_at plan.at columns) columns (reported_processes before line.line_content ∙ processes_after plan.state items) (says ∙ ap (reported_page line) holds) in
     let begins : begun_by plan.at line freed state columns ≡ with_line plan.at line freed state columns = begins_line plan.at line freed state columns (subst (λ (p : SeenPage). JoinsNone line p.pending) holds other) in (
-      begun.is ∙ (λ i. begun_page line (free i) (says i).state begun.placed) ∙ (λ i. begun_page line (freed_by (holds i).state line.saying) (state_told (holds i).state line.saying) (put.0 i)) ∙ ap (page_by plan state) begins,
+      begun.is ∙ (λ i. begun_page line (free i) (says i).state begun.placed) ∙ (λ i. begun_page line (freed_by (holds i).state line.line_content) (state_reported (holds i).state line.line_content) (put.0 i)) ∙ ap (page_by plan state) begins,
       ap (λ (l : List Seen). full_bytes plan (bands_of plan.opening (older l)).full) (sym begins) ∙ put.1,
     )
 
@@ -281,22 +281,22 @@ abbrev pub at_edge : State → SeenPage → SeenPage
 at_edge state page = record page { state = state; before = state }
 
 -- the plan after a line that changes the store, or does not
-abbrev pub plan_after : Plan → Saying → Option TakenChange → Plan
-plan_after plan saying change = record plan { state = state_told plan.state saying; opening = opening_by plan.opening change }
+abbrev pub plan_after : Plan → LineContent → Option TakenChange → Plan
+plan_after plan line_content change = record plan { state = state_reported plan.state line_content; opening = opening_by plan.opening change }
 
-edge_after : (line : RunLine) (old new : SeenPage) (state : State) (plan : Plan) → state ≡ state_told old.state line.saying → new ≡ at_edge state old → old ≡ page_of plan [] → new ≡ page_of (plan_after plan line.saying None) []
-edge_after line old new state plan told is holds = is ∙ ap (λ (s : State). at_edge s old) told ∙ ap (λ (p : SeenPage). at_edge (state_told p.state line.saying) p) holds
+edge_after : (line : RunLine) (old new : SeenPage) (state : State) (plan : Plan) → state ≡ state_reported old.state line.line_content → new ≡ at_edge state old → old ≡ page_of plan [] → new ≡ page_of (plan_after plan line.line_content None) []
+edge_after line old new state plan reported is holds = is ∙ ap (λ (s : State). at_edge s old) reported ∙ ap (λ (p : SeenPage). at_edge (state_reported p.state line.line_content) p) holds
 
-pub passes_line : (line : RunLine) (old new : SeenPage) (state : State) → change_told line.saying ≡ None → state ≡ state_told old.state line.saying → new ≡ at_edge state old → Passes (Tells line) old new
-passes_line line old new state none told is plan holds =
-    edge_after line old new state plan told is holds
-    ∙ ap (λ (c : Option TakenChange). page_of (plan_after plan line.saying c) []) (sym none)
+pub passes_line : (line : RunLine) (old new : SeenPage) (state : State) → change_reported line.line_content ≡ None → state ≡ state_reported old.state line.line_content → new ≡ at_edge state old → Passes (Reports line) old new
+passes_line line old new state none reported is plan holds =
+    edge_after line old new state plan reported is holds
+    ∙ ap (λ (c : Option TakenChange). page_of (plan_after plan line.line_content c) []) (sym none)
 
-pub passes_change : (line : RunLine) (change : TakenChange) (words : List ℕ) (old at new : SeenPage) (state : State) → change_told line.saying ≡ Some change → words ≡ change.store.items → state ≡ state_told old.state line.saying → at ≡ at_edge state old → SetsOpening words at new → Passes (Tells line) old new
-passes_change line change words old at new state some are told is sets plan holds =
-    sets (plan_after plan line.saying None) (edge_after line old at state plan told is holds)
-    ∙ ap (λ (w : List ℕ). page_of (record (plan_after plan line.saying None) { opening = w }) []) are
-    ∙ ap (λ (c : Option TakenChange). page_of (plan_after plan line.saying c) []) (sym some)
+pub passes_change : (line : RunLine) (change : TakenChange) (words : List ℕ) (old at new : SeenPage) (state : State) → change_reported line.line_content ≡ Some change → words ≡ change.store.items → state ≡ state_reported old.state line.line_content → at ≡ at_edge state old → SetsOpening words at new → Passes (Reports line) old new
+passes_change line change words old at new state some are reported is sets plan holds =
+    sets (plan_after plan line.line_content None) (edge_after line old at state plan reported is holds)
+    ∙ ap (λ (w : List ℕ). page_of (record (plan_after plan line.line_content None) { opening = w }) []) are
+    ∙ ap (λ (c : Option TakenChange). page_of (plan_after plan line.line_content c) []) (sym some)
 
 -- an access
 abbrev pub after_access : ShownAccess → SeenPage → SeenPage
@@ -313,7 +313,7 @@ access_left access state columns before at left are begun passed =
 abbrev pub opening_set : List ℕ → SeenPage → SeenPage
 opening_set words page = record page { opens = opens_with words; placing = placing_at_first (opening_length words) }
 
-pub sets_words : (words opens : List ℕ) (placing : Placing) (old : SeenPage) → opens ≡ opens_with words → placing ≡ placing_at_first (opening_length words) →
+pub sets_words : (words opens : List ℕ) (placing : WordEnds) (old : SeenPage) → opens ≡ opens_with words → placing ≡ placing_at_first (opening_length words) →
     SetsOpening words old (record old { opens = opens; placing = placing })
 sets_words words opens placing old says placed plan holds =
     (λ i. record old { opens = says i; placing = placed i }) ∙ ap (opening_set words) holds

@@ -3,11 +3,11 @@ use Rattle.std.proofs.Common.{◌≡◌, ◌-◌, ℕ, Bool, true, false, ◌&&�
 use Rattle.std.proofs.lemmas.Grind.{fold-append}
 use Rattle.std.specs.List.{AllByRecursion}
 use Rattle.model.specs.{Mark, Stage}
-use Rattle.picture.specs.{Accesses, BarsAreStages, Item, Judges, Plan, Reads, ShowsStages, Tells, WindowPlan, begun_in, columns_of, item_if, items_taken, line_by, newest_at, passed, passed_if, plan_at, precedes, sayings, shows_item, state_after, with_line, within}
-use Rattle.picture_layout.specs.{RunLine, Saying, Seen, State, alone, at_first, column_of_access, column_of_read, freed_by, joined, joins, like, nothing_told, stage_among, stages_after, stages_marked, stages_told, state_lock_marked, state_marked, state_told}
+use Rattle.picture.specs.{Accesses, BarsAreStages, Item, Judges, Plan, Reads, ShowsStages, Reports, WindowPlan, begun_in, columns_of, item_if, items_taken, line_by, newest_at, passed, passed_if, plan_at, precedes, line_contents, shows_item, state_after, with_line, within}
+use Rattle.picture_layout.specs.{RunLine, LineContent, Seen, State, alone, at_first, column_of_access, column_of_read, freed_by, joined, joins, like, nothing_reported, stage_among, stages_after, stages_marked, stages_reported, state_lock_marked, state_marked, state_reported}
 use Rattle.picture_layout.specs.trace.{LockMark}
 use Rattle.picture_layout.specs.trace.declared.marks.LockMark.TheVariants as lock
-use Rattle.picture_layout.specs.declared.told.Saying.TheVariants.{Ended, LockEnded, LockMarked, Marked, Refused, Shown, Tired}
+use Rattle.picture_layout.specs.declared.line_contents.LineContent.TheVariants.{Ended, LockEnded, LockMarked, Marked, Refused, Shown, Tired}
 use Rattle.picture.proofs.Pagings.{processes_after}
 use Rattle.picture.proofs.Windowing.{hides, none_shown}
 use Rattle.picture_layout.proofs.Stages.{stages_are}
@@ -22,22 +22,22 @@ lock_marked_stages false state p mark = refl
 lock_marked_stages true state p lock.Wait = refl
 lock_marked_stages true state p mark = refl
 
-told_stages : (state : State) (saying : Saying) → (state_told state saying).stages ≡ stages_told state.processes state.stages saying
-told_stages state (Marked p mark change) = marked_stages (nat_lt p state.processes) state p mark
-told_stages state (Refused p refusal) = refl
-told_stages state (Tired p) = refl
-told_stages state (Shown words) = refl
-told_stages state (Ended events taken refused) = refl
-told_stages state (LockMarked p mark) = lock_marked_stages (nat_lt p state.processes) state p mark
-told_stages state (LockEnded entries) = refl
+reported_stages : (state : State) (line_content : LineContent) → (state_reported state line_content).stages ≡ stages_reported state.processes state.stages line_content
+reported_stages state (Marked p mark change) = marked_stages (nat_lt p state.processes) state p mark
+reported_stages state (Refused p refusal) = refl
+reported_stages state (Tired p) = refl
+reported_stages state (Shown words) = refl
+reported_stages state (Ended events taken refused) = refl
+reported_stages state (LockMarked p mark) = lock_marked_stages (nat_lt p state.processes) state p mark
+reported_stages state (LockEnded entries) = refl
 
 -- and after all
-stages_of : (n : ℕ) (items : List Item) → (state_after (at_first n) items).stages ≡ stages_after n (sayings items)
+stages_of : (n : ℕ) (items : List Item) → (state_after (at_first n) items).stages ≡ stages_after n (line_contents items)
 stages_of n [] = refl
-stages_of n (Tells line ∷ before) =
-    told_stages (state_after (at_first n) before) line.saying
-    ∙ (λ i. stages_told (processes_after (at_first n) before i) (stages_of n before i) line.saying)
-    ∙ sym (fold-append (stages_told n) nothing_told (sayings before) (line.saying ∷ []))
+stages_of n (Reports line ∷ before) =
+    reported_stages (state_after (at_first n) before) line.line_content
+    ∙ (λ i. stages_reported (processes_after (at_first n) before i) (stages_of n before i) line.line_content)
+    ∙ sym (fold-append (stages_reported n) nothing_reported (line_contents before) (line.line_content ∷ []))
 stages_of n (Reads read ∷ before) = stages_of n before
 stages_of n (Accesses access ∷ before) = stages_of n before
 stages_of n (Judges at verdict ∷ before) = stages_of n before
@@ -49,7 +49,7 @@ shows_now n items column after = record {
   before = items;
   are = refl;
   after = after;
-  stages = λ past say p is within. ap (λ (s : State). stage_among s.stages p) after ∙ ap (λ (l : List Stage). stage_among l p) (stages_of n items) ∙ stages_are n (sayings items) past say p is within;
+  stages = λ past say p is within. ap (λ (s : State). stage_among s.stages p) after ∙ ap (λ (l : List Stage). stage_among l p) (stages_of n items) ∙ stages_are n (line_contents items) past say p is within;
 }
 
 -- and one before it
@@ -71,28 +71,28 @@ all_before n item items (column ∷ columns) all = (shows_before n item items co
 
 -- a line more, where the state before it is the one after the items that were taken in
 module _ (n : ℕ) (at : ℕ) (line : RunLine) (state : State) (taken : List Item) (same : state ≡ state_after (at_first n) taken) where
-  line_after : state_told state line.saying ≡ state_after (at_first n) (Tells line ∷ taken)
-  line_after = ap (λ (s : State). state_told s line.saying) same
+  line_after : state_reported state line.line_content ≡ state_after (at_first n) (Reports line ∷ taken)
+  line_after = ap (λ (s : State). state_reported s line.line_content) same
 
   line_by_shows : (b : Bool) (column : Seen) (columns : List Seen) → AllShow n taken (column ∷ columns) →
-      AllShow n (Tells line ∷ taken) (line_by b at line (freed_by state line.saying) (state_told state line.saying) column columns)
+      AllShow n (Reports line ∷ taken) (line_by b at line (freed_by state line.line_content) (state_reported state line.line_content) column columns)
   line_by_shows true column columns all =
-      let last : Seen = joined column line (freed_by state line.saying) (state_told state line.saying) in
-      (shows_now n (Tells line ∷ taken) last line_after, all_before n (Tells line) taken columns all.1)
+      let last : Seen = joined column line (freed_by state line.line_content) (state_reported state line.line_content) in
+      (shows_now n (Reports line ∷ taken) last line_after, all_before n (Reports line) taken columns all.1)
   line_by_shows false column columns all =
-      let last : Seen = alone line (line.at - column.at) (freed_by state line.saying) (state_told state line.saying) in
-      (shows_now n (Tells line ∷ taken) last line_after, all_before n (Tells line) taken (column ∷ columns) all)
+      let last : Seen = alone line (line.at - column.at) (freed_by state line.line_content) (state_reported state line.line_content) in
+      (shows_now n (Reports line ∷ taken) last line_after, all_before n (Reports line) taken (column ∷ columns) all)
 
   line_shows : (columns : List Seen) → AllShow n taken columns →
-      AllShow n (Tells line ∷ taken) (with_line at line (freed_by state line.saying) (state_told state line.saying) columns)
+      AllShow n (Reports line ∷ taken) (with_line at line (freed_by state line.line_content) (state_reported state line.line_content) columns)
   line_shows [] all =
-      let column : Seen = alone line (line.at - at) (freed_by state line.saying) (state_told state line.saying) in
-      (shows_now n (Tells line ∷ taken) column line_after, tt)
+      let column : Seen = alone line (line.at - at) (freed_by state line.line_content) (state_reported state line.line_content) in
+      (shows_now n (Reports line ∷ taken) column line_after, tt)
   line_shows (column ∷ columns) all = line_by_shows (joins column line) column columns all
 
 -- an item more that is shown
 item_shows : (n : ℕ) (item : Item) (plan : Plan) (items taken : List Item) → state_after plan.state items ≡ state_after (at_first n) taken → AllShow n taken (columns_of plan items) → AllShow n (item ∷ taken) (columns_of plan (item ∷ items))
-item_shows n (Tells line) plan items taken same all = line_shows n plan.at line (state_after plan.state items) taken same (columns_of plan items) all
+item_shows n (Reports line) plan items taken same all = line_shows n plan.at line (state_after plan.state items) taken same (columns_of plan items) all
 item_shows n (Reads read) plan items taken same all =
     let last : Seen = column_of_read read (read.end - newest_at plan.at (columns_of plan items)) (state_after plan.state items) in
     (shows_now n (Reads read ∷ taken) last same, all_before n (Reads read) taken (columns_of plan items) all)
@@ -103,13 +103,13 @@ item_shows n (Judges at verdict) plan items taken same all = all_before n (Judge
 
 -- the state after one more, by the state after those before it
 item_state : (n : ℕ) (item : Item) (state : State) (items taken : List Item) → state_after state items ≡ state_after (at_first n) taken → state_after state (item ∷ items) ≡ state_after (at_first n) (item ∷ taken)
-item_state n (Tells line) state items taken same = ap (λ (s : State). state_told s line.saying) same
+item_state n (Reports line) state items taken same = ap (λ (s : State). state_reported s line.line_content) same
 item_state n (Reads read) state items taken same = same
 item_state n (Accesses access) state items taken same = same
 item_state n (Judges at verdict) state items taken same = same
 
 passed_state : (n : ℕ) (item : Item) (plan : Plan) (taken : List Item) → plan.state ≡ state_after (at_first n) taken → (passed plan item).state ≡ state_after (at_first n) (item ∷ taken)
-passed_state n (Tells line) plan taken same = ap (λ (s : State). state_told s line.saying) same
+passed_state n (Reports line) plan taken same = ap (λ (s : State). state_reported s line.line_content) same
 passed_state n (Reads read) plan taken same = same
 passed_state n (Accesses access) plan taken same = same
 passed_state n (Judges at verdict) plan taken same = same

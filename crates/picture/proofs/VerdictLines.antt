@@ -4,7 +4,7 @@ use Rattle.std.proofs.lemmas.List.{map-append, take_more}
 use Rattle.markup.specs.{Reading, Shape, with_lines}
 use Rattle.picture.specs.{SeenLine, VerdictLine, lines_from, lines_height, seen_line, title_of, verdict_line}
 use Rattle.picture.proofs.Drawn.{drop_next}
-use Rattle.picture.proofs.Tellings.{lines_more}
+use Rattle.picture.proofs.Reportings.{lines_more}
 
 -- the titles of some lines
 abbrev pub titles_in : List VerdictLine → List (List ℕ)

@@ -2,18 +2,18 @@
 use Rattle.std.proofs.Common.{◌≡◌, ◌<◌, ◌-◌, ℕ, Bool, true, false, ◌&&◌, ◌||◌, not, nat_le, nat_lt, Result, Ok, Err, IfOk, OnOk, List, [], ◌∷◌, ◌++◌, Option, None, Some, refl, ap, sym, subst, ◌∙◌, append-nil, true≢false}
 use Rattle.std.proofs.Math.Dec.{leb-zero}
 use Rattle.std.proofs.lemmas.Bool.{lt-leb, ltb-true}
-use Rattle.picture_layout.specs.{OverlappedRead, RunLine, Saying}
-use Rattle.picture_layout.specs.declared.told.Saying.TheVariants.{Ended, LockEnded, LockMarked, Marked, Refused, Shown, Tired}
+use Rattle.picture_layout.specs.{OverlappedRead, RunLine, LineContent}
+use Rattle.picture_layout.specs.declared.line_contents.LineContent.TheVariants.{Ended, LockEnded, LockMarked, Marked, Refused, Shown, Tired}
 use Rattle.markup.specs.{lines_in}
 use Rattle.picture.specs.Adding.{GivesLines}
-use Rattle.picture.specs.{Accesses, GivesLast, GivesRest, GoesOn, Item, Judges, Passes, Plan, Reads, SeenPage, SeenWindowed, ShownVerdict, TakesIn, TakesItem, Tells, Window, WindowPlan, all_entries, band_text, bands_drawn, bands_told, begun_in, full_drawn, full_told, heights_drawn, heights_told, is_up_to, item_if, judged_with, lines_if, lines_of_band, page_of, passed, passed_if, plan_at, precedes, said_before, shows_end, shows_entry, shows_item, shows_said, titles_if, verdict_if, windowed, within}
+use Rattle.picture.specs.{Accesses, GivesLast, GivesRest, GoesOn, Item, Judges, Passes, Plan, Reads, SeenPage, SeenWindowed, ShownVerdict, TakesIn, TakesItem, Reports, Window, WindowPlan, all_entries, band_text, bands_drawn, bands_reported, begun_in, full_drawn, full_reported, heights_drawn, heights_reported, is_up_to, item_if, judged_with, lines_if, lines_of_band, page_of, passed, passed_if, plan_at, precedes, said_before, shows_end, shows_entry, shows_item, shows_said, titles_if, verdict_if, windowed, within}
 
 -- an entry before the window is not in it
 pub early : (w : Window) (at : ℕ) (b : Bool) → nat_lt at w.from ≡ true → nat_le w.from at && b ≡ false
 early w at b before = ap (λ (c : Bool). c && b) (lt-leb w.from at (ltb-true at w.from before))
 
 -- nor is what a line says before the window
-pub said_hides : (w : Window) (at : ℕ) (saying : Saying) → said_before w at saying ≡ true → shows_said w at saying ≡ false
+pub said_hides : (w : Window) (at : ℕ) (line_content : LineContent) → said_before w at line_content ≡ true → shows_said w at line_content ≡ false
 said_hides w at (Marked p mark change) is = early w at (is_up_to at w.to) is
 said_hides w at (Refused p refusal) is = early w at (shows_end w at) is
 said_hides w at (Tired p) is = early w at (shows_end w at) is
@@ -24,7 +24,7 @@ said_hides w at (LockEnded entries) is = absurd (true≢false (sym is))
 
 -- no item before the window is shown
 pub hides : (w : Window) (item : Item) → precedes w item ≡ true → shows_item w item ≡ false
-hides w (Tells line) is = said_hides w line.at line.saying is
+hides w (Reports line) is = said_hides w line.at line.line_content is
 hides w (Reads read) is = early w read.end (is_up_to read.end w.to) is
 hides w (Accesses access) is = early w access.event (is_up_to access.event w.to) is
 hides w (Judges at verdict) is = absurd (true≢false (sym is))
@@ -109,7 +109,7 @@ shows_one item old new full begun shown same now takes plan items holds =
 pub no_band : (item : Item) (old new : SeenWindowed) → TakesIn item old new → GoesOn item old None new
 no_band item old new takes plan items holds =
     let took = takes plan items holds in
-    (took.0, took.1 ∙ sym (append-nil (full_told plan items)))
+    (took.0, took.1 ∙ sym (append-nil (full_reported plan items)))
 
 -- the end: with the verdict, if the end is shown
 plan_judged : (plan : WindowPlan) (at : ℕ) (verdict : Option ShownVerdict) (items : List Item) → plan_at plan (judged_with at verdict items) ≡ plan_at plan items
@@ -153,7 +153,7 @@ with_none b before lines is = sym (ap (λ (b : Bool). before ++ lines_if b lines
 pub all_entry : (n : ℕ) → shows_entry all_entries n ≡ true
 all_entry n = ap (λ (b : Bool). b && true) (leb-zero n)
 
-pub all_said : (at : ℕ) (saying : Saying) → shows_said all_entries at saying ≡ true
+pub all_said : (at : ℕ) (line_content : LineContent) → shows_said all_entries at line_content ≡ true
 all_said at (Marked p mark change) = all_entry at
 all_said at (Refused p refusal) = all_entry at
 all_said at (Tired p) = all_entry at

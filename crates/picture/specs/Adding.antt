@@ -1,6 +1,6 @@
 -- What a call that goes well adds to markup.
 use Rattle.std.specs.Prelude.{◌≡◌, ◌++◌, ℕ, List, Option, Result, IfOk, OnOk, flat_map}
-use Rattle.picture_layout.specs.{Column, seen_accesses, told_in}
+use Rattle.picture_layout.specs.{Column, seen_accesses, reported_in}
 use Rattle.markup.specs.{Shape, drawings, reading, with_begun, with_lines}
 use Rattle.picture.specs.Bandings.{framed}
 use Rattle.picture.specs.Drawings.{seen_band}
@@ -16,16 +16,16 @@ module _ {A E : Type 0} where
   Draws result old new shapes = OnOk result (new ≡ old ++ drawings shapes)
 
   -- marks with these lines as their titles
-  abbrev pub TellsLines : Result A E → List ℕ → List ℕ → List (List ℕ) → Type 0
-  TellsLines result old new lines = OnOk result (reading new ≡ with_lines lines (reading old))
+  abbrev pub ReportsLines : Result A E → List ℕ → List ℕ → List (List ℕ) → Type 0
+  ReportsLines result old new lines = OnOk result (reading new ≡ with_lines lines (reading old))
 
   -- an element that goes on
   abbrev pub Begins : Result A E → List ℕ → List ℕ → List ℕ → Type 0
   Begins result old new tag = OnOk result (reading new ≡ with_begun tag (reading old))
 
 -- the lines that some columns tell
-abbrev pub all_told : List Column → List (List ℕ)
-all_told columns = flat_map told_in columns
+abbrev pub all_reported : List Column → List (List ℕ)
+all_reported columns = flat_map reported_in columns
 
 -- these lines are given with the band that is full, if one is
 abbrev pub GivesLines : {E : Type 0} → Result (Option (List ℕ)) E → List (List ℕ) → List (List ℕ) → Type 0

@@ -4,7 +4,7 @@ use Rattle.std.specs.Fmt.{decimal}
 use Rattle.markup.specs.{End, drawings, drawn, entering_by, lowering}
 use Rattle.markup.specs.declared.names.Key.TheVariants as key
 use Rattle.markup.specs.declared.names.Tag.TheVariants as tag
-use Rattle.picture_layout.specs.{Layout, OverlappedRead, Placing, RunLine, Seen, SeenAccesses, ShownAccess, State, accesses_after, accesses_at, alone, column_of_access, column_of_read, freed_by, has_room_at, joined, joins, layout_of, moved_to, place_of, placing_at_first, put_at, shortened, state_told, stretched_all}
+use Rattle.picture_layout.specs.{Layout, OverlappedRead, WordEnds, RunLine, Seen, SeenAccesses, ShownAccess, State, accesses_after, accesses_at, alone, column_of_access, column_of_read, freed_by, has_room_at, joined, joins, layout_of, moved_to, place_of, placing_at_first, put_at, shortened, state_reported, stretched_all}
 use Rattle.picture.specs.Drawings.{last_in}
 use Rattle.picture.specs.Sheets.{held_in_64, says, view_of}
 use Rattle.picture.specs.Verdicts.{height_with, judged_shapes}
@@ -15,7 +15,7 @@ use Rattle.shown_verdict.specs.declared.verdicts.ShownVerdict.{ShownVerdict}
 
 -- what a picture is told
 pub data Item : Type 0 where
-  Tells : RunLine → Item  -- a line of the run
+  Reports : RunLine → Item  -- a line of the run
   Reads : OverlappedRead → Item  -- a read that a write overlapped
   Accesses : ShownAccess → Item  -- what an entry does to an access
   Judges : ℕ → ShownVerdict → Item  -- a verdict, after this number of entries; it is the last item
@@ -32,7 +32,7 @@ pub record Plan : Type 0 where
 -- the state of all processes after items, by the state before them
 abbrev pub state_after : State → List Item → State
 state_after state [] = state
-state_after state (Tells line ∷ before) = state_told (state_after state before) line.saying
+state_after state (Reports line ∷ before) = state_reported (state_after state before) line.line_content
 state_after state (Reads read ∷ before) = state_after state before
 state_after state (Accesses access ∷ before) = state_after state before
 state_after state (Judges at verdict ∷ before) = state_after state before
@@ -40,7 +40,7 @@ state_after state (Judges at verdict ∷ before) = state_after state before
 -- the verdict of items, if the newest is one
 abbrev pub verdict_in : List Item → Option ShownVerdict
 verdict_in [] = None
-verdict_in (Tells line ∷ before) = None
+verdict_in (Reports line ∷ before) = None
 verdict_in (Reads read ∷ before) = None
 verdict_in (Accesses access ∷ before) = None
 verdict_in (Judges at verdict ∷ before) = Some verdict
@@ -80,9 +80,9 @@ with_line at line frees after (column ∷ before) = line_by (joins column line) 
 -- the columns of items
 abbrev pub columns_of : Plan → List Item → List Seen
 columns_of plan [] = []
-columns_of plan (Tells line ∷ before) =
-    with_line plan.at line (freed_by (state_after plan.state before) line.saying)
-    (state_told (state_after plan.state before) line.saying) (columns_of plan before)
+columns_of plan (Reports line ∷ before) =
+    with_line plan.at line (freed_by (state_after plan.state before) line.line_content)
+    (state_reported (state_after plan.state before) line.line_content) (columns_of plan before)
 columns_of plan (Reads read ∷ before) =
     column_of_read read (read.end - newest_at plan.at (columns_of plan before))
     (state_after plan.state before) ∷ columns_of plan before
@@ -106,19 +106,19 @@ opening_length [] = 0
 opening_length (b ∷ opening) = min (length (b ∷ opening)) 33 + 11
 
 -- where words end before the first column of a band: in the first band what the store opens with stands in the lane of the history
-abbrev pub placing_before : List ℕ → List (List Seen) → Placing
+abbrev pub placing_before : List ℕ → List (List Seen) → WordEnds
 placing_before opening [] = placing_at_first (opening_length opening)
 placing_before opening (band ∷ full) = placing_at_first 0
 
 -- and behind columns
-abbrev pub with_placed : Placing → Seen → Placing
+abbrev pub with_placed : WordEnds → Seen → WordEnds
 with_placed placing column = put_at placing column column.x
 
-abbrev pub placing_behind : Placing → List Seen → Placing
+abbrev pub placing_behind : WordEnds → List Seen → WordEnds
 placing_behind = fold with_placed
 
 -- and behind those of the band that is begun
-abbrev pub placing_in : List ℕ → Bands → Placing
+abbrev pub placing_in : List ℕ → Bands → WordEnds
 placing_in opening bands = placing_behind (placing_before opening bands.full) bands.begun
 
 -- the band that is begun is full, and another begins

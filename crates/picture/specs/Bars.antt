@@ -5,9 +5,9 @@ use Rattle.std.specs.Str.{bytes_eq}
 use Rattle.model.specs.{Stage, stage_word}
 use Rattle.model.specs.declared.stages.Stage.TheVariants as stage
 use Rattle.markup.specs.{Block, Label, Point, Shape, line_from}
-use Rattle.picture_layout.specs.{Group, Lane, Seen, Word, bar_of, capped, stage_among, stands_in, word_of}
+use Rattle.picture_layout.specs.{ProcessGroup, Lane, Seen, BarWord, bar_of, capped, stage_among, lies_in, word_of}
 use Rattle.picture.specs.Words.{left_reach_of, right_reach_of, word_text}
-use Rattle.picture_layout.specs.declared.groups.Word.TheVariants as word
+use Rattle.picture_layout.specs.declared.groups.BarWord.TheVariants as word
 use Rattle.picture.specs.declared.words.Stretch.{Stretch}
 
 -- a place in a band
@@ -57,10 +57,10 @@ lane_name lane p =
     ++ Label (cond lane.is_full (codes "lane") (codes "thin")) (point 8 (bar_of lane + 4)) (codes "P" ++ decimal p) ∷ []
 
 -- whether two bars say the same
-abbrev pub is_group : Group → Group → Bool
+abbrev pub is_group : ProcessGroup → ProcessGroup → Bool
 is_group a b = (a.count == b.count) && bytes_eq a.first b.first
 
-abbrev pub is_word : Word → Word → Bool
+abbrev pub is_word : BarWord → BarWord → Bool
 is_word word.Nothing word.Nothing = true
 is_word (word.Is a) (word.Is b) = is_stage a b
 is_word (word.Behind a) (word.Behind b) = is_group a b
@@ -68,7 +68,7 @@ is_word (word.Awaits a) (word.Awaits b) = is_group a b
 is_word _ _ = false
 
 -- the style of a word: that of a process that is inside stands on dark
-abbrev pub style_of_word : Word → List ℕ
+abbrev pub style_of_word : BarWord → List ℕ
 style_of_word (word.Is stage.Inside) = codes "white"
 style_of_word _ = codes "stage"
 
@@ -95,10 +95,10 @@ says_word free to stretch = stretch.is_said || has_word free to stretch (word_te
 
 -- what is left free before a column, and behind it: in its own lane its signs stand there
 abbrev pub free_left : ℕ → Seen → ℕ
-free_left p column = cond (stands_in p column.lane) (left_reach_of column) 0
+free_left p column = cond (lies_in p column.lane) (left_reach_of column) 0
 
 abbrev pub pad_behind : ℕ → Seen → ℕ
-pad_behind p column = cond (stands_in p column.lane) (capped (right_reach_of column + 4)) 5
+pad_behind p column = cond (lies_in p column.lane) (capped (right_reach_of column + 4)) 5
 
 -- the stretch that begins at a column
 abbrev pub stretch_at : ℕ → Seen → Stretch
@@ -106,7 +106,7 @@ stretch_at p column = record { from = column.x; pad = pad_behind p column; word 
 
 -- whether a stretch ends at a column: the column stands in the lane, or the word is another one behind it
 abbrev pub ends_at : ℕ → Stretch → Seen → Bool
-ends_at p stretch column = stands_in p column.lane || not (is_word (word_of column.after p) stretch.word)
+ends_at p stretch column = lies_in p column.lane || not (is_word (word_of column.after p) stretch.word)
 
 -- the stretch that begins there then: its word is said if it is the same, and was
 abbrev pub next_stretch : ℕ → Stretch → Seen → Stretch

@@ -5,7 +5,7 @@ use Rattle.markup.specs.{Block, End, Label, Mark, Note, Point, Said, Shape, line
 use Rattle.markup.specs.declared.names.Key.TheVariants as key
 use Rattle.picture.specs.AccessShapes.{accesses_from, begun, guide, ties}
 use Rattle.picture.specs.Bars.{bars, lane_name, point, words_from}
-use Rattle.picture_layout.specs.{SeenAccesses, Lane, Layout, OverlappedRead, RunLine, Seen, State, TakenChange, Wording, bar_of, bit_text, capped, chain_ends_of, change_told, event_stands, knot_of, lane_in, open_of, place_told, saw_text, seen, settles_and_takes_in, stage_among, taken_in, tells_refusal, text_of, title_text, word_of}
+use Rattle.picture_layout.specs.{SeenAccesses, Lane, Layout, OverlappedRead, RunLine, Seen, State, TakenChange, Wording, bar_of, bit_text, capped, chain_ends_of, change_reported, event_position, knot_of, lane_in, open_of, place_reported, saw_text, seen, settles_and_takes_in, stage_among, taken_in, reports_refusal, text_of, title_text, word_of}
 use Rattle.picture.specs.Signs.{down_by, moved_by, sign}
 use Rattle.picture.specs.Subjects.{has_history, time_unit}
 use Rattle.picture.specs.WaveShapes.{waves_from}
@@ -75,11 +75,11 @@ abbrev pub tick : Seen → List Shape
 tick column = cond (is_some column.event) (line_from (codes "axis") (point column.x 11) (point column.x 17) ∷ []) []
 
 -- whether the number of events between two columns is drawn: there are more than one, and it has room
-abbrev pub tells_gap : ℕ → Seen → Bool
-tells_gap from column = nat_lt 1 column.gap && nat_le (capped (6 * length (decimal column.gap) + 8)) (column.x - from)
+abbrev pub reports_gap : ℕ → Seen → Bool
+reports_gap from column = nat_lt 1 column.gap && nat_le (capped (6 * length (decimal column.gap) + 8)) (column.x - from)
 
 abbrev pub gap_words : ℕ → Seen → List Shape
-gap_words from column = cond (tells_gap from column) (Label (codes "gap") (point ((from + column.x) / 2) 11) (decimal column.gap) ∷ []) []
+gap_words from column = cond (reports_gap from column) (Label (codes "gap") (point ((from + column.x) / 2) 11) (decimal column.gap) ∷ []) []
 
 abbrev pub axis_up_to : ℕ → Seen → List Shape
 axis_up_to from column = axis_line from column ∷ (tick column ++ gap_words from column)
@@ -154,7 +154,7 @@ open_by begin x reader owner =
     ∷ line_from (codes "of") (point x (cond (nat_lt reader owner) (reader + 15) reader)) (point x owner) ∷ []
 
 abbrev pub open_shapes : SeenBand → OverlappedRead → ℕ → List Shape
-open_shapes band read x = open_by (event_stands read.begin (52, band.before_at) band.columns) x (bar_of (lane_in band.layout read.reader)) (bar_of (lane_in band.layout read.owner))
+open_shapes band read x = open_by (event_position read.begin (52, band.before_at) band.columns) x (bar_of (lane_in band.layout read.reader)) (bar_of (lane_in band.layout read.owner))
 
 -- the same, if a column shows a read
 abbrev pub open_from : SeenBand → ℕ → Option OverlappedRead → List Shape
@@ -219,7 +219,7 @@ queue_said is_last queue = cond is_last ((key.Queue, queue) ∷ []) []
 
 -- all that a mark says, where this is who stands in line
 abbrev pub mark_said : ℕ → RunLine → Bool → List ℕ → List Said
-mark_said x line is_last queue = (key.Place, decimal x) ∷ (key.Source, decimal line.source) ∷ (store_said (change_told line.saying) ++ queue_said is_last queue)
+mark_said x line is_last queue = (key.Place, decimal x) ∷ (key.Source, decimal line.source) ∷ (store_said (change_reported line.line_content) ++ queue_said is_last queue)
 
 abbrev pub mark_shape : Seen → RunLine → Bool → Shape
 mark_shape column line is_last = Mark (mark_said column.x line is_last (queue_text column.after)) (text_of line)
@@ -231,18 +231,18 @@ pair_words (Some change) knot = Label (codes "store") (down_by (moved_by knot 6 
 
 -- the sign of a line, at the foot of its column and, if it tells a place in the history, at its knot too
 abbrev pub foot_by : SeenBand → Seen → RunLine → Point → Option ℕ → List Shape
-foot_by band column line foot None = sign line.saying (moved_by foot (cond (settles_and_takes_in column) 15 0) 0)
+foot_by band column line foot None = sign line.line_content (moved_by foot (cond (settles_and_takes_in column) 15 0) 0)
 foot_by band column line foot (Some place) =
-    sign line.saying foot ++ sign line.saying (point foot.x (knot_of band.layout)) ++ pair_words (change_told line.saying) (point foot.x (knot_of band.layout))
+    sign line.line_content foot ++ sign line.line_content (point foot.x (knot_of band.layout)) ++ pair_words (change_reported line.line_content) (point foot.x (knot_of band.layout))
 
 abbrev pub foot_shapes : SeenBand → Seen → RunLine → Point → List Shape
-foot_shapes band column line foot = foot_by band column line foot (place_told line.saying)
+foot_shapes band column line foot = foot_by band column line foot (place_reported line.line_content)
 
 -- the group of a line in the lane of its process
 abbrev pub line_shapes : SeenBand → Seen → Point → Point → ℕ → RunLine → List Shape
 line_shapes band column head foot place line =
     mark_shape column line (place == length column.lines - 1)
-    ∷ (rows_of_line column place (tells_refusal line.saying) (rows_place head) ++ foot_shapes band column line foot ++ End ∷ [])
+    ∷ (rows_of_line column place (reports_refusal line.line_content) (rows_place head) ++ foot_shapes band column line foot ++ End ∷ [])
 
 -- those of lines, numbered from here on
 abbrev pub lines_shapes : SeenBand → Seen → Point → Point → ℕ → List RunLine → List Shape
@@ -273,7 +273,7 @@ head_shapes column head foot =
 abbrev pub note_shapes : SeenBand → Seen → RunLine → List Shape
 note_shapes band column line =
     mark_shape column line true ∷ line_from (codes "pole") (point column.x (knot_of band.layout)) (down_by (point column.x (knot_of band.layout)) 36)
-    ∷ (sign line.saying (point column.x (knot_of band.layout)) ++ rows_of_line column 0 false (point (column.x + 4) (knot_of band.layout + 23)) ++ End ∷ [])
+    ∷ (sign line.line_content (point column.x (knot_of band.layout)) ++ rows_of_line column 0 false (point (column.x + 4) (knot_of band.layout + 23)) ++ End ∷ [])
 
 -- a column: in the lane of its process, or in that of the history
 abbrev pub column_in : SeenBand → Seen → Lane → List Shape

@@ -3,8 +3,8 @@ use Rattle.std.specs.Prelude.{◌≡◌, ℕ, ◌-◌, Bool, List, [], ◌∷◌
 use Rattle.std.specs.Option.{option_to_list}
 use Rattle.model.specs.{Stage}
 use Rattle.markup.specs.{lines_in}
-use Rattle.picture.specs.Bandings.{Accesses, Bands, Item, Judges, Plan, Reads, Tells, accesses_behind, band_bytes, bands_drawn, bands_of, before_band, columns_of, filled, full_bytes, full_drawn, heights, heights_drawn, heights_of, judged_with, newest, newest_at, number_of, older, opens_before, placing_in, state_after, verdict_in, with_put, with_room}
-use Rattle.picture_layout.specs.{Column, Placing, RunLine, Saying, Seen, SeenAccesses, ShownAccess, State, TakenChange, accesses_after, accesses_at, alone, change_told, column_of_access, seen, seen_accesses, state_told, told_in}
+use Rattle.picture.specs.Bandings.{Accesses, Bands, Item, Judges, Plan, Reads, Reports, accesses_behind, band_bytes, bands_drawn, bands_of, before_band, columns_of, filled, full_bytes, full_drawn, heights, heights_drawn, heights_of, judged_with, newest, newest_at, number_of, older, opens_before, placing_in, state_after, verdict_in, with_put, with_room}
+use Rattle.picture_layout.specs.{Column, WordEnds, RunLine, LineContent, Seen, SeenAccesses, ShownAccess, State, TakenChange, accesses_after, accesses_at, alone, change_reported, column_of_access, seen, seen_accesses, state_reported, reported_in}
 use Rattle.picture.specs.declared.page.Form.{Form}
 use Rattle.picture.specs.declared.page.Page.{Page}
 use Rattle.picture.specs.declared.subjects.Subject.{Subject}
@@ -12,7 +12,7 @@ use Rattle.shown_verdict.specs.declared.verdicts.ShownVerdict.{ShownVerdict}
 
 -- the lines of these columns, and of one that is not placed yet
 abbrev pub lines_of : List Column → Option Column → List (List ℕ)
-lines_of columns pending = flat_map told_in columns ++ flat_map told_in (option_to_list pending)
+lines_of columns pending = flat_map reported_in columns ++ flat_map reported_in (option_to_list pending)
 
 -- the lines of the band that is begun, and of the column that is not placed yet
 abbrev pub held_back : Page → List (List ℕ)
@@ -43,7 +43,7 @@ pub record SeenPage : Type 0 where
   pub before : State
   pub before_at : ℕ
   pub accesses : SeenAccesses
-  pub placing : Placing
+  pub placing : WordEnds
   pub columns : List Seen
   pub pending : Option Seen
   pub last_at : ℕ
@@ -129,14 +129,14 @@ abbrev pub opening_by : List ℕ → Option TakenChange → List ℕ
 opening_by opening None = opening
 opening_by opening (Some change) = change.store.items
 
-abbrev pub opening_told : List ℕ → Saying → List ℕ
-opening_told opening saying = opening_by opening (change_told saying)
+abbrev pub opening_reported : List ℕ → LineContent → List ℕ
+opening_reported opening line_content = opening_by opening (change_reported line_content)
 
 -- the plan of a picture that begins after an item
 abbrev pub passed : Plan → Item → Plan
-passed plan (Tells line) = record plan {
-  state = state_told plan.state line.saying;
-  opening = opening_told plan.opening line.saying;
+passed plan (Reports line) = record plan {
+  state = state_reported plan.state line.line_content;
+  opening = opening_reported plan.opening line.line_content;
 }
 passed plan (Reads read) = plan
 passed plan (Accesses access) =

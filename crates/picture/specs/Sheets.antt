@@ -3,7 +3,7 @@ use Rattle.std.specs.Prelude.{ℕ, ◌+◌, ◌-◌, ◌^◌, ◌==◌, cond, mi
 use Rattle.std.specs.Fmt.{decimal}
 use Rattle.bstr.specs.Text.{lines_of, without_terminator}
 use Rattle.model.specs.plain_store.{Setup}
-use Rattle.markup.specs.{Said, entering_by, lowering, said_text, standing_by, telling_by}
+use Rattle.markup.specs.{Said, entering_by, lowering, said_text, empty_element_by, text_element_by}
 use Rattle.markup.specs.declared.names.Key.TheVariants as key
 use Rattle.markup.specs.declared.names.Tag.TheVariants as tag
 use Rattle.picture.specs.Subjects.{format_word, legend_of, list_begun, script_of, shown_by, subject_word}
@@ -64,7 +64,7 @@ legend_front subject reads = codes "\n" ++ legend_tag reads ++ codes "\n" ++ (PA
 
 -- a line of the scenario in the list of them, and all of them with their end
 abbrev pub item_of : List ℕ → List ℕ
-item_of line = telling_by tag.Item [] line ++ codes "\n"
+item_of line = text_element_by tag.Item [] line ++ codes "\n"
 
 abbrev pub list_of : List ℕ → List ℕ
 list_of printed = flat_map item_of (map without_terminator (lines_of printed)) ++ item_of (codes "(end)")
@@ -77,7 +77,7 @@ styles_of processes = STYLE.now ++ codes "\n" ++ PAGE_STYLE.now ++ paper_of proc
 abbrev pub page_begun : ℕ → List ℕ → List ℕ
 page_begun processes heading =
     codes "<!doctype html>\n<html lang=\"en\"><head><meta charset=\"utf-8\">\n<meta name=\"viewport\" content=\"width=device-width\">\n"
-    ++ telling_by tag.Title [] heading
+    ++ text_element_by tag.Title [] heading
     ++ codes "\n<style>\n"
     ++ styles_of processes
     ++ codes "</style></head><body>\n"
@@ -85,7 +85,7 @@ page_begun processes heading =
 -- what the body of a page has before its bands
 abbrev pub body_front : Subject → List ℕ → List ℕ → Reads → List ℕ
 body_front subject heading printed reads =
-    telling_by tag.Heading [] heading
+    text_element_by tag.Heading [] heading
     ++ legend_front subject reads
     ++ list_begun subject
     ++ list_of printed
@@ -135,20 +135,20 @@ svg_front height = codes "<?xml version=\"1.0\" encoding=\"UTF-8\"?>\n" ++ svg_t
 
 -- its title, and what it shows
 abbrev pub title_tag : List ℕ → List ℕ
-title_tag heading = telling_by tag.Title (says ((key.Id, codes "t") ∷ [])) heading
+title_tag heading = text_element_by tag.Title (says ((key.Id, codes "t") ∷ [])) heading
 
 abbrev pub description_tag : Subject → List ℕ
-description_tag subject = telling_by tag.Desc (says ((key.Id, codes "d") ∷ [])) (shown_by subject)
+description_tag subject = text_element_by tag.Desc (says ((key.Id, codes "d") ∷ [])) (shown_by subject)
 
 abbrev pub titles_of : Subject → List ℕ → List ℕ
 titles_of subject heading = title_tag heading ++ codes "\n" ++ description_tag subject
 
 -- its ground, and its heading
 abbrev pub ground_tag : ℕ → List ℕ
-ground_tag height = standing_by tag.Rect (says ((key.Width, decimal 1200) ∷ (key.Height, decimal height) ∷ (key.Fill, codes "#fff") ∷ []))
+ground_tag height = empty_element_by tag.Rect (says ((key.Width, decimal 1200) ∷ (key.Height, decimal height) ∷ (key.Fill, codes "#fff") ∷ []))
 
 abbrev pub heading_tag : List ℕ → List ℕ
-heading_tag heading = telling_by tag.Text (says ((key.X, decimal 8) ∷ (key.Y, decimal 20) ∷ (key.Class, codes "lane") ∷ [])) heading
+heading_tag heading = text_element_by tag.Text (says ((key.X, decimal 8) ∷ (key.Y, decimal 20) ∷ (key.Class, codes "lane") ∷ [])) heading
 
 abbrev pub ground_of : ℕ → List ℕ → List ℕ
 ground_of height heading = ground_tag height ++ heading_tag heading ++ codes "\n"

@@ -4,8 +4,8 @@ use Rattle.std.specs.Fmt.{decimal}
 use Rattle.model.specs.{Mark}
 use Rattle.model.specs.declared.marks.Mark.TheVariants as mark
 use Rattle.markup.specs.{Block, Label, Pill, Point, Ring, Shape, path_from}
-use Rattle.picture_layout.specs.{Saying, capped, like}
-use Rattle.picture_layout.specs.declared.told.Saying.TheVariants.{Marked, Refused, Tired, Shown, Ended, LockMarked, LockEnded}
+use Rattle.picture_layout.specs.{LineContent, capped, like}
+use Rattle.picture_layout.specs.declared.line_contents.LineContent.TheVariants.{Marked, Refused, Tired, Shown, Ended, LockMarked, LockEnded}
 
 -- a place so far to the left of another and above it
 abbrev pub moved_by : Point → ℕ → ℕ → Point
@@ -49,7 +49,7 @@ mark_sign mark.Entered changed at = []
 mark_sign mark.Left changed at = []
 
 -- the sign of what a line says
-abbrev pub sign : Saying → Point → List Shape
+abbrev pub sign : LineContent → Point → List Shape
 sign (Marked p mark change) at = mark_sign mark (is_some change) at
 sign (Refused p refusal) at = path_from (codes "no-sign") (moved_by at 6 0) (codes "a6 6 0 1 0 12 0a6 6 0 1 0 -12 0m2 4l8 -8") ∷ []
 sign (Tired p) at = path_from (codes "glass") (moved_by at 6 7) (codes "h12l-12 14h12z") ∷ []

@@ -3,7 +3,7 @@ use Rattle.std.specs.Prelude.{ℕ, ◌+◌, ◌-◌, ◌*◌, Bool, false, ◌==
 use Rattle.std.specs.Fmt.{decimal}
 use Rattle.markup.specs.{Block, End, Label, Mark, Point, Said, Shape}
 use Rattle.markup.specs.declared.names.Key.TheVariants as key
-use Rattle.picture_layout.specs.{Lane, Layout, Seen, SeenAccesses, bar_of, boxes_of, capped, event_stands, lane_in, open_of, shows_access}
+use Rattle.picture_layout.specs.{Lane, Layout, Seen, SeenAccesses, bar_of, boxes_of, capped, event_position, lane_in, open_of, shows_access}
 use Rattle.picture.specs.Bars.{point}
 use Rattle.shown_verdict.specs.{SeenLine, SeenVerdict, naming, seen_verdict, verdict_titles}
 use Rattle.picture.specs.Drawings.{SeenBand, arrow, band_shapes, last_in}
@@ -98,7 +98,7 @@ outline_from band accesses bad pointer from edge = cond (nat_lt from edge) (outl
 abbrev pub outline_if : SeenBand → SeenAccesses → Option FirstBadEntry → ℕ → Option Pointer → List Shape
 outline_if band accesses bad edge None = []
 outline_if band accesses bad edge (Some pointer) =
-    outline_from band accesses bad pointer (event_stands pointer.since (52, band.before_at) band.columns) edge
+    outline_from band accesses bad pointer (event_position pointer.since (52, band.before_at) band.columns) edge
 
 -- what a line of a verdict names
 abbrev pub outline_of : SeenBand → SeenAccesses → Option FirstBadEntry → ℕ → SeenLine → List Shape

@@ -1,8 +1,8 @@
 -- A window of entries, and the page of what it shows.
 use Rattle.std.specs.Prelude.{◌≡◌, ℕ, ◌-◌, Bool, true, false, ◌==◌, ◌&&◌, ◌||◌, cond, not, nat_le, nat_lt, List, [], ◌∷◌, ◌++◌, Option, None, Some}
-use Rattle.picture_layout.specs.{RunLine, Saying, at_first, no_accesses}
-use Rattle.picture_layout.specs.declared.told.Saying.TheVariants.{Ended, LockEnded, LockMarked, Marked, Refused, Shown, Tired}
-use Rattle.picture.specs.Bandings.{Accesses, Item, Judges, Plan, Reads, Tells, bands_drawn, full_drawn, heights_drawn, judged_with}
+use Rattle.picture_layout.specs.{RunLine, LineContent, at_first, no_accesses}
+use Rattle.picture_layout.specs.declared.line_contents.LineContent.TheVariants.{Ended, LockEnded, LockMarked, Marked, Refused, Shown, Tired}
+use Rattle.picture.specs.Bandings.{Accesses, Item, Judges, Plan, Reads, Reports, bands_drawn, full_drawn, heights_drawn, judged_with}
 use Rattle.picture.specs.Pages.{SeenPage, band_text, held_back, page_of, passed, seen_page, stages_kept}
 use Rattle.picture.specs.declared.page.Form.{Form}
 use Rattle.picture.specs.declared.subjects.Subject.{Subject}
@@ -33,7 +33,7 @@ abbrev pub shows_after : Window → ℕ → Bool
 shows_after w at = nat_le w.from at && shows_end w at
 
 -- whether it shows what a line says, after `at` entries
-abbrev pub shows_said : Window → ℕ → Saying → Bool
+abbrev pub shows_said : Window → ℕ → LineContent → Bool
 shows_said w at (Marked p mark change) = shows_entry w at
 shows_said w at (LockMarked p mark) = shows_entry w at
 shows_said w at (Refused p refusal) = shows_after w at
@@ -43,24 +43,24 @@ shows_said w at (Ended events taken refused) = shows_end w at
 shows_said w at (LockEnded entries) = shows_end w at
 
 abbrev pub shows_line : Window → RunLine → Bool
-shows_line w line = shows_said w line.at line.saying
+shows_line w line = shows_said w line.at line.line_content
 
 -- whether it shows an item
 abbrev pub shows_item : Window → Item → Bool
-shows_item w (Tells line) = shows_line w line
+shows_item w (Reports line) = shows_line w line
 shows_item w (Reads read) = shows_entry w read.end
 shows_item w (Accesses access) = shows_entry w access.event
 shows_item w (Judges at verdict) = shows_end w at
 
 -- whether what a line says comes before the window; an end never does
-abbrev pub said_before : Window → ℕ → Saying → Bool
+abbrev pub said_before : Window → ℕ → LineContent → Bool
 said_before w at (Ended events taken refused) = false
 said_before w at (LockEnded entries) = false
 said_before w at _ = nat_lt at w.from
 
 -- whether an item comes before the window
 abbrev pub precedes : Window → Item → Bool
-precedes w (Tells line) = said_before w line.at line.saying
+precedes w (Reports line) = said_before w line.at line.line_content
 precedes w (Reads read) = nat_lt read.end w.from
 precedes w (Accesses access) = nat_lt access.event w.from
 precedes w (Judges at verdict) = false
@@ -142,32 +142,32 @@ verdict_if true verdict = verdict
 verdict_if false verdict = None
 
 -- what is written of items, up to where the bands are full that come before the newest column
-abbrev pub full_told : WindowPlan → List Item → List ℕ
-full_told plan items = full_drawn (plan_at plan items) (within plan.window items)
+abbrev pub full_reported : WindowPlan → List Item → List ℕ
+full_reported plan items = full_drawn (plan_at plan items) (within plan.window items)
 
 -- what is written of all items, once there are no more, and the heights of their bands
-abbrev pub bands_told : WindowPlan → List Item → List ℕ
-bands_told plan items = bands_drawn (plan_at plan items) (within plan.window items)
+abbrev pub bands_reported : WindowPlan → List Item → List ℕ
+bands_reported plan items = bands_drawn (plan_at plan items) (within plan.window items)
 
-abbrev pub heights_told : WindowPlan → List Item → ℕ
-heights_told plan items = heights_drawn (plan_at plan items) (within plan.window items)
+abbrev pub heights_reported : WindowPlan → List Item → ℕ
+heights_reported plan items = heights_drawn (plan_at plan items) (within plan.window items)
 
 -- The page of a window takes in one item more, and gives the band that is full with what came before it, if one is.
 abbrev pub GoesOn : Item → SeenWindowed → Option (List ℕ) → SeenWindowed → Type 0
 GoesOn item old full new =
     (plan : WindowPlan) (items : List Item) → old ≡ windowed plan items →
     (new ≡ windowed plan (item ∷ items))
-    × (full_told plan (item ∷ items) ≡ full_told plan items ++ band_text full)
+    × (full_reported plan (item ∷ items) ≡ full_reported plan items ++ band_text full)
 
 -- It takes in an item that fills no band.
 abbrev pub TakesIn : Item → SeenWindowed → SeenWindowed → Type 0
 TakesIn item old new =
     (plan : WindowPlan) (items : List Item) → old ≡ windowed plan items →
-    (new ≡ windowed plan (item ∷ items)) × (full_told plan (item ∷ items) ≡ full_told plan items)
+    (new ≡ windowed plan (item ∷ items)) × (full_reported plan (item ∷ items) ≡ full_reported plan items)
 
 -- Once there are no more items, it gives the last bands, with a verdict after `at` entries, if there is one.
 abbrev pub GivesRest : ℕ → Option ShownVerdict → SeenWindowed → Option (List ℕ) → List ℕ → SeenWindowed → Type 0
 GivesRest at verdict old full last new =
     (plan : WindowPlan) (items : List Item) → old ≡ windowed plan items →
-    (bands_told plan (judged_with at verdict items) ≡ full_told plan items ++ band_text full ++ last)
-    × (new.page.height ≡ heights_told plan (judged_with at verdict items))
+    (bands_reported plan (judged_with at verdict items) ≡ full_reported plan items ++ band_text full ++ last)
+    × (new.page.height ≡ heights_reported plan (judged_with at verdict items))

@@ -4,19 +4,19 @@ use Rattle.std.specs.Fmt.{decimal}
 use Rattle.std.specs.List.{join_by}
 use Rattle.model.specs.{Mark, stage_word}
 use Rattle.model.specs.declared.marks.Mark.TheVariants as mark
-use Rattle.picture_layout.specs.{Group, RunLine, Seen, State, Word, capped, mark_told, queue_of, settles_and_takes_in}
-use Rattle.picture_layout.specs.declared.groups.Word.TheVariants as word
+use Rattle.picture_layout.specs.{ProcessGroup, RunLine, Seen, State, BarWord, capped, mark_reported, queue_of, settles_and_takes_in}
+use Rattle.picture_layout.specs.declared.groups.BarWord.TheVariants as word
 
 -- numbers, with these bytes between each two
 abbrev pub listed_with : List ℕ → List ℕ → List ℕ
 listed_with = join_by decimal
 
 -- some processes: up to three by their numbers, and more by how many there are
-abbrev pub group_text : List ℕ → Group → List ℕ
+abbrev pub group_text : List ℕ → ProcessGroup → List ℕ
 group_text others group = cond (nat_lt 3 group.count) (decimal group.count ++ others) (listed_with (codes ",") (take group.count group.first))
 
 -- what the bar of a process says, if it says anything
-abbrev pub word_text : Word → Option (List ℕ)
+abbrev pub word_text : BarWord → Option (List ℕ)
 word_text word.Nothing = None
 word_text (word.Is stage) = Some (stage_word stage)
 word_text (word.Behind group) = Some (codes "behind " ++ group_text (codes " others") group)
@@ -50,7 +50,7 @@ reach_by (Some mark) = mark_reach mark
 -- how far what stands at the foot of a column reaches to its right
 abbrev pub lines_reach : List RunLine → ℕ
 lines_reach [] = 1
-lines_reach (line ∷ lines) = max (reach_by (mark_told line.saying)) (lines_reach lines)
+lines_reach (line ∷ lines) = max (reach_by (mark_reported line.line_content)) (lines_reach lines)
 
 abbrev pub right_reach_of : Seen → ℕ
 right_reach_of column = lines_reach column.lines

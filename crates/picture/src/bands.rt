@@ -1,6 +1,6 @@
 //! A band: its columns, and the state before them.
 ghost use Rattle.std.specs.Prelude.{◌≡◌, flat_map, map, OnOk};
-ghost use Rattle.picture.specs.Adding.{Draws, TellsLines, all_told};
+ghost use Rattle.picture.specs.Adding.{Draws, ReportsLines, all_reported};
 ghost use Rattle.markup.specs.{reading};
 ghost use Rattle.picture_layout.specs.{seen, seen_accesses};
 ghost use Rattle.picture.specs.AccessShapes.{begun, guide, ties};
@@ -41,7 +41,7 @@ impl Band {
     ) -> Result<(), AllocError>
         ensures draws { Draws result markup.old markup.new
             (band_shapes (seen_band self.now) (seen_accesses accesses.now)) }
-        ensures read { TellsLines result markup.old markup.new (all_told self.now.columns.items) }
+        ensures read { ReportsLines result markup.old markup.new (all_reported self.now.columns.items) }
     {
         self.draw_shades(markup)?;
         self.draw_guides(markup)?;
@@ -150,7 +150,7 @@ impl Band {
     /// Draws all columns.
     fn draw_columns(&self, alloc: Global, markup: &mut Markup) -> Result<(), AllocError>
         ensures draws { Draws result markup.old markup.new (flat_map (column_shapes (seen_band self.now)) (map seen self.now.columns.items)) }
-        ensures read { TellsLines result markup.old markup.new (all_told self.now.columns.items) }
+        ensures read { ReportsLines result markup.old markup.new (all_reported self.now.columns.items) }
     {
         for column in &self.columns {
             self.draw_column(alloc, column, markup)?;

@@ -28,7 +28,7 @@ mod windows;
 mod words;
 
 pub use picture_layout::{
-    AccessKind, AccessStep, OverlappedRead, RunLine, Saying, ShownAccess, TakenChange, WaveChange,
+    AccessKind, AccessStep, OverlappedRead, RunLine, LineContent, ShownAccess, TakenChange, WaveChange,
     stages_are_the_records,
 };
 pub use laws::bars_are_stages;

@@ -1,8 +1,8 @@
 //! The marks of a band: for each line of the run a group that has the line as its title.
 ghost use Rattle.std.specs.Prelude.{◌≡◌, [], ◌∷◌, flat_map, IfOk, OnOk, string_bytes};
-ghost use Rattle.picture.specs.Adding.{Draws, TellsLines};
+ghost use Rattle.picture.specs.Adding.{Draws, ReportsLines};
 ghost use Rattle.markup.specs.{Mark, reading, with_mark};
-ghost use Rattle.picture_layout.specs.{change_told, seen, text_of, texts};
+ghost use Rattle.picture_layout.specs.{change_reported, seen, text_of, texts};
 ghost use Rattle.picture.specs.Drawings.{column_shapes, foot_shapes, head_shapes, line_shapes, lines_shapes, mark_said, mark_shape, note_shapes, number_words, pair_words, place_of_row, right_by, rows_of_line, rows_place, seen_band};
 ghost use Rattle.picture.specs.Words.{queue_text, row_class};
 
@@ -23,7 +23,7 @@ impl Band {
         markup: &mut Markup,
     ) -> Result<(), AllocError>
         ensures draws { Draws result markup.old markup.new (column_shapes (seen_band self.now) (seen column.now)) }
-        ensures read { TellsLines result markup.old markup.new (texts column.now.lines.items) }
+        ensures read { ReportsLines result markup.old markup.new (texts column.now.lines.items) }
     {
         let Some(process) = column.lane else {
             return self.draw_note(column, markup);
@@ -44,7 +44,7 @@ impl Band {
         markup: &mut Markup,
     ) -> Result<(), AllocError>
         ensures draws { Draws result markup.old markup.new (lines_shapes (seen_band self.now) (seen column.now) head foot 0 column.now.lines.items) }
-        ensures read { TellsLines result markup.old markup.new (texts column.now.lines.items) }
+        ensures read { ReportsLines result markup.old markup.new (texts column.now.lines.items) }
     {
         for (place, line) in column.lines.iter().enumerate() {
             self.draw_line(column, place, line, head, foot, markup)?;
@@ -63,7 +63,7 @@ impl Band {
         markup: &mut Markup,
     ) -> Result<(), AllocError>
         ensures draws { Draws result markup.old markup.new (line_shapes (seen_band self.now) (seen column.now) head foot place line.now) }
-        ensures read { TellsLines result markup.old markup.new (text_of line.now ∷ []) }
+        ensures read { ReportsLines result markup.old markup.new (text_of line.now ∷ []) }
     {
         let alloc = markup.alloc();
         let last = column.lines.len().saturating_sub(1);
@@ -98,7 +98,7 @@ impl Band {
     /// Draws a line in the lane of the history.
     fn draw_note(&self, column: &Column, markup: &mut Markup) -> Result<(), AllocError>
         ensures draws { Draws result markup.old markup.new (flat_map (note_shapes (seen_band self.now) (seen column.now)) column.now.lines.items) }
-        ensures read { TellsLines result markup.old markup.new (texts column.now.lines.items) }
+        ensures read { ReportsLines result markup.old markup.new (texts column.now.lines.items) }
     {
         for line in &column.lines {
             self.draw_line_below(column, line, markup)?;
@@ -114,7 +114,7 @@ impl Band {
         markup: &mut Markup,
     ) -> Result<(), AllocError>
         ensures draws { Draws result markup.old markup.new (note_shapes (seen_band self.now) (seen column.now) line.now) }
-        ensures read { TellsLines result markup.old markup.new (text_of line.now ∷ []) }
+        ensures read { ReportsLines result markup.old markup.new (text_of line.now ∷ []) }
     {
         let alloc = markup.alloc();
         let knot = Point::at(u32::from(column.x), self.layout.knot());
@@ -129,7 +129,7 @@ impl Band {
 
 /// Draws the pair that the command of a line changed, below its knot.
 fn draw_pair(line: &RunLine, knot: Point, markup: &mut Markup) -> Result<(), AllocError>
-    ensures draws { Draws result markup.old markup.new (pair_words (change_told line.now.saying) knot) }
+    ensures draws { Draws result markup.old markup.new (pair_words (change_reported line.now.line_content) knot) }
     ensures read { OnOk result (reading markup.new ≡ reading markup.old) }
 {
     match line.change() {

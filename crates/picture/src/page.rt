@@ -1,9 +1,9 @@
 //! A page that draws bands from the lines of a run, a record or a trace.
 ghost use Rattle.std.specs.Prelude.{◌≡◌, ◌++◌, [], ◌∷◌, codes, IfOk, IfSome, None, OnOk};
-ghost use Rattle.picture.specs.Adding.{Begins, FramesBand, GivesLines, all_told};
+ghost use Rattle.picture.specs.Adding.{Begins, FramesBand, GivesLines, all_reported};
 ghost use Rattle.markup.specs.{EndsAll, lines_in};
-ghost use Rattle.picture.specs.Bandings.{Accesses, Reads, Tells, band_tag};
-ghost use Rattle.picture_layout.specs.{at_first, no_accesses, nothing_told, seen, stages_told, text_of, told_in};
+ghost use Rattle.picture.specs.Bandings.{Accesses, Reads, Reports, band_tag};
+ghost use Rattle.picture_layout.specs.{at_first, no_accesses, nothing_reported, seen, stages_reported, text_of, reported_in};
 ghost use Rattle.picture.specs.Pages.{BeginsColumn, DrawsBand, GivesLast, MakesRoom, Passes, Places, Puts, SetsOpening, TakesItem, held_back, lines_of_band, page_of, seen_page, stages_kept};
 ghost use Rattle.picture.specs.Verdicts.{titles_if};
 ghost use Rattle.picture.specs.declared.page.Form.TheVariants as form_variants;
@@ -13,7 +13,7 @@ use crate::openings::{characters, opening_words};
 use crate::sheets::view;
 use crate::subjects::Subject;
 use picture_layout::{
-    AccessState, Column, Layout, OverlappedRead, Placing, RunLine, ShownAccess, State, stretch,
+    AccessState, Column, Layout, OverlappedRead, WordEnds, RunLine, ShownAccess, State, stretch,
 };
 use markup::{Key, Markup, Tag, class, words};
 use shown_verdict::ShownVerdict;
@@ -39,7 +39,7 @@ pub struct Page {
     before: State,
     before_at: u64,
     accesses: AccessState,
-    placing: Placing,
+    placing: WordEnds,
     columns: Vec<Column>,
     pending: Option<Column>,
     last_at: u64,
@@ -71,7 +71,7 @@ impl Page {
           accesses = no_accesses;
         }) []) }
         ensures lines { IfOk result (λ page. held_back page ≡ []) }
-        ensures stages { IfOk result (λ page. stages_kept page ≡ nothing_told) }
+        ensures stages { IfOk result (λ page. stages_kept page ≡ nothing_reported) }
         ensures processes { IfOk result (λ page. page.state.processes ≡ processes) }
     {
         let opens = opening_words(alloc, opening)?;
@@ -84,7 +84,7 @@ impl Page {
             before: state,
             before_at: at.saturating_sub(1),
             accesses: AccessState::new(alloc),
-            placing: Placing::new(characters(opening)),
+            placing: WordEnds::new(characters(opening)),
             opens,
             columns: Vec::new(alloc),
             pending: None,
@@ -100,10 +100,10 @@ impl Page {
     ///
     /// Returns [`AllocError`] if memory is lacking.
     pub fn pass(&mut self, line: &RunLine) -> Result<(), AllocError>
-        ensures page { OnOk result (Passes (Tells line.now) (seen_page self.old) (seen_page self.new)) }
+        ensures page { OnOk result (Passes (Reports line.now) (seen_page self.old) (seen_page self.new)) }
         ensures lines { OnOk result (held_back self.new ≡ held_back self.old) }
         ensures stages { OnOk result (stages_kept self.new
-            ≡ stages_told self.old.state.processes (stages_kept self.old) line.now.saying) }
+            ≡ stages_reported self.old.state.processes (stages_kept self.old) line.now.line_content) }
         ensures processes { self.new.state.processes ≡ self.old.state.processes }
     {
         self.state.take(self.alloc, line)?;
@@ -136,7 +136,7 @@ impl Page {
         ensures state { self.new.state ≡ self.old.state }
     {
         self.opens = opening_words(self.alloc, words)?;
-        self.placing = Placing::new(characters(words));
+        self.placing = WordEnds::new(characters(words));
         Ok(())
     }
 
@@ -152,10 +152,10 @@ impl Page {
     /// held back, are the lines that were held back before, and this one. In the band each element that begins ends. The line
     /// changes the stages.
     pub fn take(&mut self, line: RunLine) -> Result<Option<Markup>, AllocError>
-        ensures page { IfOk result (λ full. TakesItem (Tells line) (seen_page self.old) full (seen_page self.new)) }
+        ensures page { IfOk result (λ full. TakesItem (Reports line) (seen_page self.old) full (seen_page self.new)) }
         ensures lines { GivesLines result (held_back self.new) (held_back self.old ++ text_of line ∷ []) }
         ensures ended { IfOk result (λ full. IfSome full EndsAll) }
-        ensures stages { OnOk result (stages_kept self.new ≡ stages_told self.old.state.processes (stages_kept self.old) line.saying) }
+        ensures stages { OnOk result (stages_kept self.new ≡ stages_reported self.old.state.processes (stages_kept self.old) line.line_content) }
         ensures processes { self.new.state.processes ≡ self.old.state.processes }
     {
         let frees = self.state.take(self.alloc, &line)?;
@@ -250,7 +250,7 @@ impl Page {
         ensures page { IfOk result (λ full. Places (seen_page self.old) full (seen_page self.new)) }
         ensures placed { OnOk result (self.new.pending ≡ None) }
         ensures state { self.new.state ≡ self.old.state }
-        ensures lines { GivesLines result (all_told self.new.columns.items) (held_back self.old) }
+        ensures lines { GivesLines result (all_reported self.new.columns.items) (held_back self.old) }
         ensures ended { IfOk result (λ full. IfSome full EndsAll) }
     {
         let Some(column) = self.pending.take() else {
@@ -266,7 +266,7 @@ impl Page {
         ensures page { IfOk result (λ full. MakesRoom (seen column.now) (seen_page self.old) full (seen_page self.new)) }
         ensures pending { OnOk result (self.new.pending ≡ self.old.pending) }
         ensures state { self.new.state ≡ self.old.state }
-        ensures lines { GivesLines result (all_told self.new.columns.items) (all_told self.old.columns.items) }
+        ensures lines { GivesLines result (all_reported self.new.columns.items) (all_reported self.old.columns.items) }
         ensures ended { IfOk result (λ full. IfSome full EndsAll) }
     {
         let place = self.placing.place(self.alloc, column)?;
@@ -281,7 +281,7 @@ impl Page {
         ensures page { OnOk result (Puts (seen column) (seen_page self.old) (seen_page self.new)) }
         ensures pending { OnOk result (self.new.pending ≡ self.old.pending) }
         ensures state { self.new.state ≡ self.old.state }
-        ensures lines { OnOk result (all_told self.new.columns.items ≡ all_told self.old.columns.items ++ told_in column) }
+        ensures lines { OnOk result (all_reported self.new.columns.items ≡ all_reported self.old.columns.items ++ reported_in column) }
     {
         let mut column = column;
         let place = self.placing.place(self.alloc, &column)?;
@@ -301,7 +301,7 @@ impl Page {
         ensures state { self.new.state ≡ self.old.state }
         ensures begun { OnOk result (self.new.columns.items ≡ []) }
         ensures lines { IfOk result
-            (λ band. lines_in band ≡ all_told self.old.columns.items ++ titles_if verdict) }
+            (λ band. lines_in band ≡ all_reported self.old.columns.items ++ titles_if verdict) }
         ensures ended { IfOk result EndsAll }
     {
         let mut columns = std::mem::replace(&mut self.columns, Vec::new(self.alloc));
@@ -310,7 +310,7 @@ impl Page {
         let (behind, behind_at) = behind(columns.as_slice(), before, before_at);
         self.before = behind;
         self.before_at = behind_at;
-        self.placing = Placing::new(0);
+        self.placing = WordEnds::new(0);
         stretch(self.alloc, columns.as_mut_slice())?;
         self.accesses.begin(self.alloc, columns.as_slice())?;
         let processes = self.state.processes;
@@ -336,7 +336,7 @@ impl Page {
     fn markup_of(&self, band: &Band) -> Result<Markup, AllocError>
         ensures draws { FramesBand result self.now.form self.now band.now }
         ensures lines { IfOk result
-            (λ markup. lines_in markup ≡ all_told band.now.columns.items ++ titles_if band.now.verdict) }
+            (λ markup. lines_in markup ≡ all_reported band.now.columns.items ++ titles_if band.now.verdict) }
         ensures ended { IfOk result EndsAll }
     {
         match self.form {
@@ -349,7 +349,7 @@ impl Page {
     fn picture_of(&self, band: &Band) -> Result<Markup, AllocError>
         ensures draws { FramesBand result form_variants.Page self.now band.now }
         ensures lines { IfOk result
-            (λ markup. lines_in markup ≡ all_told band.now.columns.items ++ titles_if band.now.verdict) }
+            (λ markup. lines_in markup ≡ all_reported band.now.columns.items ++ titles_if band.now.verdict) }
         ensures ended { IfOk result EndsAll }
     {
         let mut markup = Markup::new(self.alloc);
@@ -364,7 +364,7 @@ impl Page {
     fn group_of(&self, band: &Band, top: u64) -> Result<Markup, AllocError>
         ensures draws { FramesBand result (form_variants.Picture top) self.now band.now }
         ensures lines { IfOk result
-            (λ markup. lines_in markup ≡ all_told band.now.columns.items ++ titles_if band.now.verdict) }
+            (λ markup. lines_in markup ≡ all_reported band.now.columns.items ++ titles_if band.now.verdict) }
         ensures ended { IfOk result EndsAll }
     {
         let mut markup = Markup::new(self.alloc);

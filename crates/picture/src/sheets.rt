@@ -73,7 +73,7 @@ fn begin_page(processes: u8, heading: &[u8], markup: &mut Markup) -> Result<(), 
     markup.frame(
         "<!doctype html>\n<html lang=\"en\"><head><meta charset=\"utf-8\">\n<meta name=\"viewport\" content=\"width=device-width\">\n",
     )?;
-    markup.tell(Tag::Title, &[], heading)?;
+    markup.add_text_element(Tag::Title, &[], heading)?;
     markup.frame("\n<style>\n")?;
     add_styles(processes, markup)?;
     markup.frame("</style></head><body>\n")
@@ -92,7 +92,7 @@ fn begin_body(
     ensures elements { OnOk result (opens_in markup.old (Some []) ≡ Some page_names
         → opens_in markup.new (Some []) ≡ Some page_names) }
 {
-    markup.tell(Tag::Heading, &[], heading)?;
+    markup.add_text_element(Tag::Heading, &[], heading)?;
     begin_legend(subject, reads, markup)?;
     subject.begin_list(markup)?;
     list_lines(printed, markup)?;
@@ -183,7 +183,7 @@ fn list_line(line: &[u8], markup: &mut Markup) -> Result<(), AllocError>
     ensures draws { OnOk result (markup.new ≡ markup.old ++ item_of line.now) }
     ensures read { OnOk result (reading markup.new ≡ reading markup.old) }
 {
-    markup.tell(Tag::Item, &[], line)?;
+    markup.add_text_element(Tag::Item, &[], line)?;
     markup.constant("\n")
 }
 
@@ -315,9 +315,9 @@ fn add_titles(subject: Subject, heading: &[u8], markup: &mut Markup) -> Result<(
     ensures draws { OnOk result (markup.new ≡ markup.old ++ titles_of subject heading.now) }
     ensures read { OnOk result (reading markup.new ≡ reading markup.old) }
 {
-    markup.tell(Tag::Title, &[words(Key::Id, b"t")], heading)?;
+    markup.add_text_element(Tag::Title, &[words(Key::Id, b"t")], heading)?;
     markup.constant("\n")?;
-    markup.tell(Tag::Desc, &[words(Key::Id, b"d")], subject.description())
+    markup.add_text_element(Tag::Desc, &[words(Key::Id, b"d")], subject.description())
 }
 
 /// Adds the ground of one picture of this height, and its heading.
@@ -325,7 +325,7 @@ fn add_ground(height: u64, heading: &[u8], markup: &mut Markup) -> Result<(), Al
     ensures draws { OnOk result (markup.new ≡ markup.old ++ ground_of height heading.now) }
     ensures read { OnOk result (reading markup.new ≡ reading markup.old) }
 {
-    markup.stand(
+    markup.add_empty_element(
         Tag::Rect,
         &[
             number(Key::Width, 1200),
@@ -333,7 +333,7 @@ fn add_ground(height: u64, heading: &[u8], markup: &mut Markup) -> Result<(), Al
             words(Key::Fill, b"#fff"),
         ],
     )?;
-    markup.tell(
+    markup.add_text_element(
         Tag::Text,
         &[number(Key::X, 8), number(Key::Y, 20), class("lane")],
         heading,

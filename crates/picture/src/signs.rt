@@ -4,7 +4,7 @@ ghost use Rattle.picture.specs.Adding.{Draws};
 ghost use Rattle.markup.specs.{reading};
 ghost use Rattle.picture.specs.Signs.{down_by, mark_sign, moved_by, settled_sign, sign, taken_sign};
 
-use picture_layout::{DIGIT, RunLine, Saying, drawn_like, room};
+use picture_layout::{DIGIT, RunLine, LineContent, drawn_like, room};
 use markup::{Markup, Point};
 use model::Mark;
 use std::alloc::{AllocError, Global};
@@ -16,22 +16,22 @@ pub(crate) fn draw_sign(
     at: Point,
     markup: &mut Markup,
 ) -> Result<(), AllocError>
-    ensures draws { Draws result markup.old markup.new (sign line.now.saying at) }
+    ensures draws { Draws result markup.old markup.new (sign line.now.line_content at) }
     ensures read { OnOk result (reading markup.new ≡ reading markup.old) }
 {
-    match &line.saying {
-        Saying::Marked { mark, change, .. } => {
+    match &line.line_content {
+        LineContent::Marked { mark, change, .. } => {
             draw_mark(alloc, mark, change.is_some(), at, markup)
         }
-        Saying::LockMarked { mark, .. } => {
+        LineContent::LockMarked { mark, .. } => {
             draw_mark(alloc, &drawn_like(*mark), false, at, markup)
         }
-        Saying::Refused { .. } => {
+        LineContent::Refused { .. } => {
             let rest = "a6 6 0 1 0 12 0a6 6 0 1 0 -12 0m2 4l8 -8";
             markup.path("no-sign", moved(at, 6, 0), rest)
         }
-        Saying::Tired(_) => markup.path("glass", moved(at, 6, 7), "h12l-12 14h12z"),
-        Saying::Shown(_) | Saying::Ended { .. } | Saying::LockEnded { .. } => {
+        LineContent::Tired(_) => markup.path("glass", moved(at, 6, 7), "h12l-12 14h12z"),
+        LineContent::Shown(_) | LineContent::Ended { .. } | LineContent::LockEnded { .. } => {
             markup.block("sign", moved(at, 2, 5), 4, 10)
         }
     }

@@ -2,7 +2,7 @@
 ghost use Rattle.std.specs.Prelude.{◌≡◌, ◌≤◌, ◌<◌, ◌^◌, ◌++◌, [], ◌∷◌, length, map, OnOk};
 ghost use Rattle.markup.specs.{Mark, reading, with_mark};
 ghost use Rattle.picture_layout.specs.{seen_accesses};
-ghost use Rattle.picture.specs.Adding.{Draws, TellsLines, all_told};
+ghost use Rattle.picture.specs.Adding.{Draws, ReportsLines, all_reported};
 ghost use Rattle.picture.specs.Drawings.{seen_band};
 ghost use Rattle.picture.specs.Verdicts.{box_at, height_with, judged_shapes, key_of, keys_at, keys_if, line_said, lines_from, lines_height as height_of_lines, ruling_style as style_of_ruling, sentence_at, titles_if, verdict_line, verdict_shapes};
 ghost use Rattle.shown_verdict.specs.{seen_line, seen_verdict, title_of, verdict_titles};
@@ -34,8 +34,8 @@ impl Band {
     ) -> Result<(), AllocError>
         ensures draws { Draws result markup.old markup.new
             (judged_shapes self.now.verdict (seen_band self.now) (seen_accesses accesses.now)) }
-        ensures read { TellsLines result markup.old markup.new
-            (all_told self.now.columns.items ++ titles_if self.now.verdict) }
+        ensures read { ReportsLines result markup.old markup.new
+            (all_reported self.now.columns.items ++ titles_if self.now.verdict) }
     {
         self.draw(alloc, accesses, markup)?;
         match &self.verdict {
@@ -54,7 +54,7 @@ impl Band {
     ) -> Result<(), AllocError>
         ensures draws { Draws result markup.old markup.new
             (verdict_shapes (seen_verdict verdict.now) (seen_band self.now) (seen_accesses accesses.now)) }
-        ensures read { TellsLines result markup.old markup.new
+        ensures read { ReportsLines result markup.old markup.new
             (verdict_titles (seen_verdict verdict.now)) }
     {
         let edge = self.edge(verdict.bad);
@@ -152,7 +152,7 @@ fn draw_lines(
     requires { top < 2 ^ 17 }
     ensures draws { Draws result markup.old markup.new
         (lines_from edge verdict.now.source top 0 (map seen_line verdict.now.lines.items)) }
-    ensures read { TellsLines result markup.old markup.new
+    ensures read { ReportsLines result markup.old markup.new
         (verdict_titles (seen_verdict verdict.now)) }
 {
     for (place, line) in verdict.lines.iter().enumerate() {
@@ -172,7 +172,7 @@ fn draw_line(
 ) -> Result<(), AllocError>
     ensures draws { Draws result markup.old markup.new
         (verdict_line edge source y (seen_line line.now)) }
-    ensures read { TellsLines result markup.old markup.new (title_of (seen_line line.now) ∷ []) }
+    ensures read { ReportsLines result markup.old markup.new (title_of (seen_line line.now) ∷ []) }
 {
     begin_line(edge, source, line.title.as_slice(), markup)?;
     markup.label("rest", Point::at(18, y), line.words.as_slice())?;

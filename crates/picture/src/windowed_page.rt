@@ -3,7 +3,7 @@ ghost use Rattle.std.specs.Prelude.{◌≡◌, ◌++◌, [], ◌∷◌, nat_lt, 
 ghost use Rattle.picture_layout.specs.{text_of};
 ghost use Rattle.markup.specs.{EndsAll, lines_in};
 ghost use Rattle.picture.specs.Adding.{GivesLines};
-ghost use Rattle.picture.specs.Bandings.{Accesses, Reads, Tells};
+ghost use Rattle.picture.specs.Bandings.{Accesses, Reads, Reports};
 ghost use Rattle.picture.specs.Pages.{lines_of_band};
 ghost use Rattle.picture.specs.Verdicts.{titles_if};
 ghost use Rattle.picture.specs.Windows.{GivesRest, GoesOn, TakesIn, held, lines_if, said_before, seen_windowed, shows_end, shows_line, verdict_if, windowed};
@@ -74,7 +74,7 @@ impl WindowedPage {
     /// Returns [`AllocError`] if memory is lacking.
     pub fn take(&mut self, line: RunLine) -> Result<Option<Markup>, AllocError>
         ensures page { IfOk result
-            (λ full. GoesOn (Tells line) (seen_windowed self.old) full (seen_windowed self.new)) }
+            (λ full. GoesOn (Reports line) (seen_windowed self.old) full (seen_windowed self.new)) }
         ensures lines { GivesLines result (held self.new)
             (held self.old ++ lines_if (shows_line self.old.window line) (text_of line ∷ [])) }
         ensures ended { IfOk result (λ full. IfSome full EndsAll) }
@@ -93,9 +93,9 @@ impl WindowedPage {
 
     /// Passes a line before the window, unless the window has begun.
     fn pass(&mut self, line: &RunLine) -> Result<(), AllocError>
-        requires { said_before self.old.window line.now.at line.now.saying ≡ true }
+        requires { said_before self.old.window line.now.at line.now.line_content ≡ true }
         ensures page { OnOk result
-            (TakesIn (Tells line.now) (seen_windowed self.old) (seen_windowed self.new)) }
+            (TakesIn (Reports line.now) (seen_windowed self.old) (seen_windowed self.new)) }
         ensures lines { OnOk result (held self.new ≡ held self.old) }
         ensures window { self.new.window ≡ self.old.window }
     {

@@ -2,7 +2,7 @@
 ghost use Rattle.std.specs.Prelude.{◌≡◌, nat_lt};
 ghost use Rattle.picture.specs.Windows.{all_entries, is_up_to, said_before, shows_end, shows_entry, shows_said};
 
-use picture_layout::{RunLine, Saying};
+use picture_layout::{RunLine, LineContent};
 
 /// The entries that a picture shows: from one number to another, both included.
 #[derive(Clone, Copy, PartialEq, Eq)]
@@ -47,21 +47,21 @@ impl Window {
 
     /// Returns whether a picture shows a line.
     pub(crate) fn shows_line(&self, line: &RunLine) -> bool
-        ensures { result ≡ shows_said self.now line.now.at line.now.saying }
+        ensures { result ≡ shows_said self.now line.now.at line.now.line_content }
     {
-        match &line.saying {
-            Saying::Marked { .. } | Saying::LockMarked { .. } => self.shows_entry(line.at),
-            Saying::Ended { .. } | Saying::LockEnded { .. } => self.shows_end(line.at),
+        match &line.line_content {
+            LineContent::Marked { .. } | LineContent::LockMarked { .. } => self.shows_entry(line.at),
+            LineContent::Ended { .. } | LineContent::LockEnded { .. } => self.shows_end(line.at),
             _ => self.from <= line.at && self.shows_end(line.at),
         }
     }
 
     /// Returns whether the window comes after a line. It never comes after an end.
     pub(crate) fn is_after(&self, line: &RunLine) -> bool
-        ensures { result ≡ said_before self.now line.now.at line.now.saying }
+        ensures { result ≡ said_before self.now line.now.at line.now.line_content }
     {
-        match &line.saying {
-            Saying::Ended { .. } | Saying::LockEnded { .. } => false,
+        match &line.line_content {
+            LineContent::Ended { .. } | LineContent::LockEnded { .. } => false,
             _ => self.is_after_entry(line.at),
         }
     }

@@ -4,12 +4,12 @@ ghost use Rattle.picture.specs.Adding.{Draws};
 ghost use Rattle.std.specs.Fmt.{decimal};
 ghost use Rattle.markup.specs.{drawings, reading};
 ghost use Rattle.picture.specs.Bars.{free_left, is_word, says_word, stretch_at, stretch_word, style_of_word};
-ghost use Rattle.picture_layout.specs.{capped, seen, stands_in};
+ghost use Rattle.picture_layout.specs.{capped, seen, lies_in};
 ghost use Rattle.picture.specs.Words.{group_text, left_reach_of, listed_with, mark_reach, right_reach_of, word_text};
 ghost use Rattle.picture.specs.Drawings.{seen_band, words_of_lane};
 
 use crate::bands::Band;
-use picture_layout::{Column, DIGIT, Group, LEFT, Word, room};
+use picture_layout::{Column, DIGIT, ProcessGroup, LEFT, BarWord, room};
 use markup::{Markup, Point};
 use model::{Mark, Stage};
 use std::alloc::{AllocError, Global};
@@ -20,7 +20,7 @@ struct Stretch {
     from: u16,
     /// The room that is left free at its beginning, in pixels.
     pad: u16,
-    word: Word,
+    word: BarWord,
     /// Whether its word was drawn before it, and has not changed since.
     is_said: bool,
 }
@@ -76,14 +76,14 @@ impl Stretch {
     }
 
     /// Returns whether it ends at a column, because the column is in its lane or the word changes after it.
-    fn ends(&self, process: u8, column: &Column, word: Word) -> bool
-        ensures { result ≡ (stands_in process column.now.lane || not (is_word word self.now.word)) }
+    fn ends(&self, process: u8, column: &Column, word: BarWord) -> bool
+        ensures { result ≡ (lies_in process column.now.lane || not (is_word word self.now.word)) }
     {
         column.lane == Some(process) || word != self.word
     }
 
     /// Returns the next stretch with the same word, which was drawn or not.
-    fn behind(self, word: Word, is_said: bool) -> Stretch
+    fn behind(self, word: BarWord, is_said: bool) -> Stretch
         ensures { result ≡ record self { is_said = is_word self.word word && is_said } }
     {
         Stretch {
@@ -126,18 +126,18 @@ impl Stretch {
 }
 
 /// Returns the word in the bar of a process, if it has one.
-fn words_of(alloc: Global, word: &Word) -> Result<Option<String>, AllocError>
+fn words_of(alloc: Global, word: &BarWord) -> Result<Option<String>, AllocError>
     ensures { IfOk result (λ text. option_map string_bytes text ≡ word_text word.now) }
 {
     match word {
-        Word::Nothing => Ok(None),
-        Word::Is(stage) => Ok(Some(String::from_str(alloc, stage.word())?)),
-        Word::Behind(group) => Ok(Some(behind(alloc, group)?)),
-        Word::Awaits(group) => Ok(Some(awaits(alloc, group)?)),
+        BarWord::Nothing => Ok(None),
+        BarWord::Is(stage) => Ok(Some(String::from_str(alloc, stage.word())?)),
+        BarWord::Behind(group) => Ok(Some(behind(alloc, group)?)),
+        BarWord::Awaits(group) => Ok(Some(awaits(alloc, group)?)),
     }
 }
 
-fn behind(alloc: Global, group: &Group) -> Result<String, AllocError>
+fn behind(alloc: Global, group: &ProcessGroup) -> Result<String, AllocError>
     ensures { IfOk result (λ text. string_bytes text ≡ codes "behind " ++ group_text (codes " others") group.now) }
 {
     let mut text = String::from_str(alloc, "behind ")?;
@@ -146,7 +146,7 @@ fn behind(alloc: Global, group: &Group) -> Result<String, AllocError>
     Ok(text)
 }
 
-fn awaits(alloc: Global, group: &Group) -> Result<String, AllocError>
+fn awaits(alloc: Global, group: &ProcessGroup) -> Result<String, AllocError>
     ensures { IfOk result (λ text. string_bytes text ≡ group_text [] group.now ++ codes " choosing") }
 {
     let mut text = group_words(alloc, group, "")?;
@@ -155,7 +155,7 @@ fn awaits(alloc: Global, group: &Group) -> Result<String, AllocError>
 }
 
 /// Returns the numbers of up to three processes, and how many more there are.
-fn group_words(alloc: Global, group: &Group, others: &str) -> Result<String, AllocError>
+fn group_words(alloc: Global, group: &ProcessGroup, others: &str) -> Result<String, AllocError>
     ensures { IfOk result (λ text. string_bytes text ≡ group_text others.now group.now) }
 {
     let count = group.count;
@@ -178,11 +178,11 @@ pub(crate) fn listed(alloc: Global, numbers: &[u8], between: &str) -> Result<Str
 }
 
 /// Returns the style of a word, which is light in the dark bar of a process that is inside.
-fn word_style(word: Word) -> &'static str
+fn word_style(word: BarWord) -> &'static str
     ensures { result.now ≡ style_of_word word }
 {
     match word {
-        Word::Is(Stage::Inside) => "white",
+        BarWord::Is(Stage::Inside) => "white",
         _ => "stage",
     }
 }

@@ -1,7 +1,7 @@
 -- The queue of processes, and some of them as a group.
 use Rattle.std.proofs.Common.{◌≡◌, ℕ, zero, suc, ◌+◌, ◌<◌, min, Bool, true, false, ◌==◌, cond, List, [], ◌∷◌, ◌++◌, length, get_or, set, take, refl, ap, sym, ◌∙◌, arith}
 use Rattle.std.proofs.lemmas.List.{length-append, set_past}
-use Rattle.picture_layout.specs.{Group, State, group_of, line_of_first, lined_up, places_from, ticket_in}
+use Rattle.picture_layout.specs.{ProcessGroup, State, group_of, line_of_first, lined_up, places_from, ticket_in}
 
 -- the queue of one more process
 pub line_more : (state : State) (p : ℕ) → line_of_first state (p + 1) ≡ cond (ticket_in state p == 0) (line_of_first state p) (lined_up state p (line_of_first state p))
@@ -14,11 +14,11 @@ group_first (a ∷ []) p = refl
 group_first (a ∷ b ∷ []) p = refl
 group_first (a ∷ b ∷ c ∷ more) p = set_past (a ∷ b ∷ c ∷ []) (min (length (a ∷ b ∷ c ∷ more)) 255) p (omega arith)
 
-pub group_with : (some : List ℕ) (p : ℕ) (group : Group) (count : ℕ) (first : List ℕ) → group ≡ group_of some → count ≡ min (group.count + 1) 255 → first ≡ set group.first group.count p →
-    ◌≡◌ {A = Group} (record { count = count; first = first }) (group_of (some ++ p ∷ []))
+pub group_with : (some : List ℕ) (p : ℕ) (group : ProcessGroup) (count : ℕ) (first : List ℕ) → group ≡ group_of some → count ≡ min (group.count + 1) 255 → first ≡ set group.first group.count p →
+    ◌≡◌ {A = ProcessGroup} (record { count = count; first = first }) (group_of (some ++ p ∷ []))
 group_with some p group count first are counted is = λ i. record {
-  count = (counted ∙ ap (λ (g : Group). min (g.count + 1) 255) are ∙ more) i;
-  first = (is ∙ ap (λ (g : Group). set g.first g.count p) are ∙ group_first some p) i;
+  count = (counted ∙ ap (λ (g : ProcessGroup). min (g.count + 1) 255) are ∙ more) i;
+  first = (is ∙ ap (λ (g : ProcessGroup). set g.first g.count p) are ∙ group_first some p) i;
 }
   where
     more : min (min (length some) 255 + 1) 255 ≡ min (length (some ++ p ∷ [])) 255

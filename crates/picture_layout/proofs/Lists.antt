@@ -3,7 +3,7 @@ use Rattle.std.proofs.Common.{◌≡◌, ℕ, zero, suc, ◌+◌, ◌-◌, ◌*�
 use Rattle.std.specs.List.{cons_option}
 use Rattle.std.proofs.lemmas.List.{map-append, map-set, take_more}
 use Rattle.std.proofs.lemmas.List.Elements.{filter_map-append}
-use Rattle.picture_layout.specs.{Column, RunLine, Seen, Wording, capped, drawn_apart, has_changes, has_notes, last_of, moved_to, row_shared, seen, told_in}
+use Rattle.picture_layout.specs.{Column, RunLine, Seen, Wording, capped, drawn_apart, has_changes, has_notes, last_of, moved_to, row_shared, seen, reported_in}
 
 -- the height that the columns of a band need below its knots, if `room` is needed already
 abbrev pub room_left : ℕ → List Seen → ℕ
@@ -71,10 +71,10 @@ drawn_more old new now before k d x within are is =
     (ap (moved_to (seen (get_or now k d))) is ∙ ap (drawn_apart old new) (sym (mapped_get seen now k d)))
 
 -- a column is put elsewhere, with the same lines
-pub set_told : (columns : List Column) (k : ℕ) (put had : Column) → told_in put ≡ told_in (get_or columns k had) → flat_map told_in (slice_set columns k put) ≡ flat_map told_in columns
-set_told [] k put had same = refl
-set_told (column ∷ columns) zero put had same = ap (λ l. l ++ flat_map told_in columns) same
-set_told (column ∷ columns) (suc k) put had same = ap (λ l. told_in column ++ l) (set_told columns k put had same)
+pub set_reported : (columns : List Column) (k : ℕ) (put had : Column) → reported_in put ≡ reported_in (get_or columns k had) → flat_map reported_in (slice_set columns k put) ≡ flat_map reported_in columns
+set_reported [] k put had same = refl
+set_reported (column ∷ columns) zero put had same = ap (λ l. l ++ flat_map reported_in columns) same
+set_reported (column ∷ columns) (suc k) put had same = ap (λ l. reported_in column ++ l) (set_reported columns k put had same)
 
 -- the elements up to the next one, after f
 map_take_more : {A B : Type 0} (f : A → B) (l : List A) (k : ℕ) (d : A) → k < length l → map f (take (k + 1) l) ≡ map f (take k l) ++ f (get_or l k d) ∷ []

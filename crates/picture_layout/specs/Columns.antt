@@ -10,16 +10,16 @@ use Rattle.trace.specs.{lock_mark_text}
 use Rattle.picture_layout.specs.Accesses.{access_characters}
 use Rattle.picture_layout.specs.LockLines.{lock_ended_text}
 use Rattle.picture_layout.specs.Overlaps.{bit_text, saw_text}
-use Rattle.picture_layout.specs.Told.{change_told, event_told, place_told, process_told, tells_lock_mark}
+use Rattle.picture_layout.specs.Reported.{change_reported, event_reported, place_reported, process_reported, reports_lock_mark}
 use Rattle.picture_layout.specs.declared.accesses.ShownAccess.{ShownAccess}
 use Rattle.picture_layout.specs.declared.columns.Column.{Column}
 use Rattle.picture_layout.specs.declared.rows.TextRow.{TextRow}
 use Rattle.picture_layout.specs.declared.reads.OverlappedRead.{OverlappedRead}
 use Rattle.picture_layout.specs.declared.state.State.{State}
-use Rattle.picture_layout.specs.declared.told.TakenChange.{TakenChange}
-use Rattle.picture_layout.specs.declared.told.RunLine.{RunLine}
-use Rattle.picture_layout.specs.declared.told.Saying.{Saying}
-use Rattle.picture_layout.specs.declared.told.Saying.TheVariants.{Ended, LockEnded, LockMarked, Marked, Refused, Shown, Tired}
+use Rattle.picture_layout.specs.declared.line_contents.TakenChange.{TakenChange}
+use Rattle.picture_layout.specs.declared.line_contents.RunLine.{RunLine}
+use Rattle.picture_layout.specs.declared.line_contents.LineContent.{LineContent}
+use Rattle.picture_layout.specs.declared.line_contents.LineContent.TheVariants.{Ended, LockEnded, LockMarked, Marked, Refused, Shown, Tired}
 
 -- words in one row: whether they are bold, their bytes, and the number of their characters
 pub record Wording : Type 0 where
@@ -112,23 +112,23 @@ rows_marked (Answered answer) = verb_and_rest (codes "answer") (answer_text answ
 rows_marked mark = verb (mark_text mark) ∷ []
 
 -- the rows of a line alone in its column, in the lane of its process or in that of the history
-abbrev pub rows_told : Bool → Saying → List Wording
-rows_told in_lane (Marked p mark change) = rows_marked mark
-rows_told in_lane (Refused p refusal) = verb_and_rest (verb_refused in_lane p) (refusal_text refusal)
-rows_told in_lane (Tired p) = verb (codes "turns") ∷ []
-rows_told in_lane (Shown words) = rows_named (codes "show") (string_bytes words)
-rows_told in_lane (Ended events taken refused) = verb_and_rest (codes "end events " ++ decimal events) (counts_text taken refused)
-rows_told in_lane (LockMarked p mark) = verb (lock_mark_text mark) ∷ []
-rows_told in_lane (LockEnded entries) = verb (lock_ended_text entries) ∷ []
+abbrev pub rows_reported : Bool → LineContent → List Wording
+rows_reported in_lane (Marked p mark change) = rows_marked mark
+rows_reported in_lane (Refused p refusal) = verb_and_rest (verb_refused in_lane p) (refusal_text refusal)
+rows_reported in_lane (Tired p) = verb (codes "turns") ∷ []
+rows_reported in_lane (Shown words) = rows_named (codes "show") (string_bytes words)
+rows_reported in_lane (Ended events taken refused) = verb_and_rest (codes "end events " ++ decimal events) (counts_text taken refused)
+rows_reported in_lane (LockMarked p mark) = verb (lock_mark_text mark) ∷ []
+rows_reported in_lane (LockEnded entries) = verb (lock_ended_text entries) ∷ []
 
 -- the row of a line that shares its column
-abbrev pub row_by : Saying → Option Wording
+abbrev pub row_by : LineContent → Option Wording
 row_by (Marked p mark change) = Some (verb (mark_text mark))
 row_by (LockMarked p mark) = Some (verb (lock_mark_text mark))
 row_by _ = None
 
 abbrev pub row_shared : RunLine → Option Wording
-row_shared line = row_by line.saying
+row_shared line = row_by line.line_content
 
 -- the row of a line in a list, if the line has a mark
 abbrev pub row_if_marked : RunLine → List Wording
@@ -142,13 +142,13 @@ lane_among processes = option_and_then (λ p. cond (nat_lt p processes) (Some p)
 abbrev pub alone : RunLine → ℕ → Option ℕ → State → Seen
 alone line gap frees after = record {
   at = line.at;
-  event = event_told line;
-  lane = lane_among after.processes (process_told line.saying);
+  event = event_reported line;
+  lane = lane_among after.processes (process_reported line.line_content);
   gap = gap;
   lines = line ∷ [];
   read = None;
   access = None;
-  rows = rows_told (is_some (lane_among after.processes (process_told line.saying))) line.saying;
+  rows = rows_reported (is_some (lane_among after.processes (process_reported line.line_content))) line.line_content;
   frees = frees;
   after = after;
   x = 0;
@@ -194,15 +194,15 @@ is_same_event None event = false
 
 -- whether a column has a row for a line: it has at most two marks of a trace
 abbrev pub has_row_for : Seen → RunLine → Bool
-has_row_for column line = not (tells_lock_mark line.saying) || nat_lt (length column.lines) 2
+has_row_for column line = not (reports_lock_mark line.line_content) || nat_lt (length column.lines) 2
 
 -- whether a line is a mark of a column's event, for which it has a row
 abbrev pub joins : Seen → RunLine → Bool
-joins column line = elim column.read [ Some read ↦ false | None ↦ is_same_event column.event (event_told line) && has_row_for column line ]
+joins column line = elim column.read [ Some read ↦ false | None ↦ is_same_event column.event (event_reported line) && has_row_for column line ]
 
 -- the rows of the lines of a column: those of a line alone, or one row for each of two marks
 abbrev pub rows_of_lines : Bool → List RunLine → List Wording
-rows_of_lines in_lane (line ∷ []) = rows_told in_lane line.saying
+rows_of_lines in_lane (line ∷ []) = rows_reported in_lane line.line_content
 rows_of_lines in_lane lines = filter_map row_shared lines
 
 -- the column after a mark of its event has joined it
@@ -216,7 +216,7 @@ joined column line frees after = record column {
 
 -- the first line with a position in the history, if there is one
 abbrev pub taken_in : Seen → Option RunLine
-taken_in column = find (λ line. is_some (place_told line.saying)) column.lines
+taken_in column = find (λ line. is_some (place_reported line.line_content)) column.lines
 
 -- a number of pixels, but 65535 if it is greater
 abbrev pub capped : ℕ → ℕ
@@ -243,7 +243,7 @@ pair_of (Some change) = length (string_bytes change.pair)
 
 -- the width in the lane of the history of a line with a position in it, in pixels
 abbrev pub knot_width : RunLine → ℕ
-knot_width line = capped (max (6 * digits_of (place_told line.saying) + 14) (7 * pair_of (change_told line.saying) + 2) + 9)
+knot_width line = capped (max (6 * digits_of (place_reported line.line_content) + 14) (7 * pair_of (change_reported line.line_content) + 2) + 9)
 
 -- the width of a column in the lane of the history, in pixels, if the column or a line of it lies there
 abbrev pub width_below_of : Seen → Option ℕ

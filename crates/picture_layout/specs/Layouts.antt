@@ -4,19 +4,19 @@ use Rattle.picture_layout.specs.AccessStates.{SeenAccesses}
 use Rattle.picture_layout.specs.Columns.{Seen, capped, taken_in}
 use Rattle.picture_layout.specs.OpenAccesses.{open_of}
 use Rattle.picture_layout.specs.Placings.{last_of}
-use Rattle.picture_layout.specs.Told.{change_told}
+use Rattle.picture_layout.specs.Reported.{change_reported}
 use Rattle.picture_layout.specs.declared.layout.Lane.{Lane}
 use Rattle.picture_layout.specs.declared.layout.Layout.{Layout}
 
 -- whether a column lies in the lane of a process
-abbrev pub stands_in : ℕ → Option ℕ → Bool
-stands_in p None = false
-stands_in p (Some q) = q == p
+abbrev pub lies_in : ℕ → Option ℕ → Bool
+lies_in p None = false
+lies_in p (Some q) = q == p
 
 -- whether one of these columns lies there
 abbrev pub has_column : List Seen → ℕ → Bool
 has_column [] p = false
-has_column (column ∷ columns) p = stands_in p column.lane || has_column columns p
+has_column (column ∷ columns) p = lies_in p column.lane || has_column columns p
 
 -- the height of a lane
 abbrev pub lane_height : Bool → ℕ
@@ -25,7 +25,7 @@ lane_height full = cond full 70 18
 -- whether one of these columns shows an access in the lane of a process
 abbrev pub shows_access : List Seen → ℕ → Bool
 shows_access [] p = false
-shows_access (column ∷ columns) p = (stands_in p column.lane && is_some column.access) || shows_access columns p
+shows_access (column ∷ columns) p = (lies_in p column.lane && is_some column.access) || shows_access columns p
 
 -- the height of the room for accesses in a lane: it is 40 if an access of the process is open before the columns, or one of them shows one
 abbrev pub access_room : SeenAccesses → List Seen → ℕ → ℕ
@@ -51,7 +51,7 @@ first_lanes processes accesses columns (suc p) = first_lanes processes accesses 
 
 -- whether a column changes the store
 abbrev pub changes : Seen → Bool
-changes column = is_some (option_and_then (λ line. change_told line.saying) (taken_in column))
+changes column = is_some (option_and_then (λ line. change_reported line.line_content) (taken_in column))
 
 -- whether one of these columns lies in the lane of the history, and whether one changes the store
 abbrev pub has_notes : List Seen → Bool

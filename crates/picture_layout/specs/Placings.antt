@@ -3,15 +3,15 @@ use Rattle.std.specs.Prelude.{ℕ, ◌+◌, ◌-◌, ◌*◌, ◌/◌, max, min,
 use Rattle.std.specs.Int.{leading_zeros, w64}
 use Rattle.picture_layout.specs.Columns.{Seen, capped, width_below_of, width_of}
 use Rattle.picture_layout.specs.Overlaps.{between}
-use Rattle.picture_layout.specs.declared.placing.ColumnPlace.{ColumnPlace}
-use Rattle.picture_layout.specs.declared.placing.Placing.{Placing}
+use Rattle.picture_layout.specs.declared.placing.ColumnPosition.{ColumnPosition}
+use Rattle.picture_layout.specs.declared.placing.WordEnds.{WordEnds}
 
 -- the number of binary digits of a number of 64 bits, which is 0 for 0
 abbrev pub doublings : ℕ → ℕ
 doublings n = 64 - leading_zeros w64 n
 
 -- the start of a band; `opening` is the number of characters with which the history begins in the first one
-abbrev pub placing_at_first : ℕ → Placing
+abbrev pub placing_at_first : ℕ → WordEnds
 placing_at_first opening = record { last = None; lanes = replicate 16 0; below = cond (opening == 0) 0 (capped (7 * opening + 72)) }
 
 -- the end of the words in a lane so far
@@ -24,17 +24,17 @@ abbrev pub room_of : Seen → ℕ
 room_of column = max (elim column.lane [ None ↦ 0 | Some p ↦ width_of column ]) (unwrap_or (width_below_of column) 0)
 
 -- the left edge of a column: at a distance after the one before, and after the words of its lanes
-abbrev pub left_of : Placing → Seen → ℕ
+abbrev pub left_of : WordEnds → Seen → ℕ
 left_of placing column =
     max (max (capped (unwrap_or placing.last 52 + 12 + 4 * doublings column.gap)) (end_in placing.lanes column.lane))
     (elim (width_below_of column) [ None ↦ 0 | Some width ↦ placing.below ])
 
 -- the position of a column: its left edge, and the end of its words
-abbrev pub place_of : Placing → Seen → ColumnPlace
+abbrev pub place_of : WordEnds → Seen → ColumnPosition
 place_of placing column = record { x = left_of placing column; end = capped (left_of placing column + room_of column) }
 
 -- whether a band has room for a column, which an empty band always has
-abbrev pub has_room_at : Placing → ColumnPlace → Bool
+abbrev pub has_room_at : WordEnds → ColumnPosition → Bool
 has_room_at placing place = is_none placing.last || nat_le place.end 1188
 
 -- the ends of the words in the lanes, with a new end in one of them
@@ -50,7 +50,7 @@ abbrev pub below_put : ℕ → Seen → ℕ → ℕ
 below_put below column x = elim (width_below_of column) [ None ↦ below | Some width ↦ capped (x + width) ]
 
 -- the band, after a column is put there
-abbrev pub put_at : Placing → Seen → ℕ → Placing
+abbrev pub put_at : WordEnds → Seen → ℕ → WordEnds
 put_at placing column x = record { last = Some x; lanes = lanes_put placing.lanes column x; below = below_put placing.below column x }
 
 -- a column with this position
@@ -70,9 +70,9 @@ end_of_words (column ∷ columns) = max (capped (column.x + room_of column)) (en
 
 -- the position of an event after the column of position and event `left`: before the first column that is not before the
 -- event, in proportion to the number of events between
-abbrev pub event_stands : ℕ → ℕ × ℕ → List Seen → ℕ
-event_stands event left [] = left.0
-event_stands event left (column ∷ columns) = cond (nat_le event column.at) (between event left (column.x, column.at)) (event_stands event (column.x, column.at) columns)
+abbrev pub event_position : ℕ → ℕ × ℕ → List Seen → ℕ
+event_position event left [] = left.0
+event_position event left (column ∷ columns) = cond (nat_le event column.at) (between event left (column.x, column.at)) (event_position event (column.x, column.at) columns)
 
 -- the position of a column, when all columns of a band are spread over `new` pixels in place of `old`
 abbrev pub drawn_apart : ℕ → ℕ → Seen → Seen

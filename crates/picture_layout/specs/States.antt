@@ -3,25 +3,25 @@ use Rattle.std.specs.Prelude.{◌≡◌, ℕ, zero, suc, ◌+◌, ◌-◌, ◌^�
 use Rattle.model.specs.{Mark, Stage}
 use Rattle.model.specs.declared.marks.Mark.TheVariants as mark
 use Rattle.model.specs.declared.stages.Stage.TheVariants as stage
-use Rattle.picture_layout.specs.Stages.{nothing_told, stage_among, stages_marked, stages_told}
+use Rattle.picture_layout.specs.Stages.{nothing_reported, stage_among, stages_marked, stages_reported}
 use Rattle.trace.specs.{LockMark}
 use Rattle.trace.specs.declared.marks.LockMark.TheVariants as lock
 use Rattle.picture_layout.specs.LockLines.{like}
-use Rattle.picture_layout.specs.declared.groups.Group.{Group}
-use Rattle.picture_layout.specs.declared.seats.KnownProcess.{KnownProcess}
+use Rattle.picture_layout.specs.declared.groups.ProcessGroup.{ProcessGroup}
+use Rattle.picture_layout.specs.declared.seats.ProcessDetails.{ProcessDetails}
 use Rattle.picture_layout.specs.declared.state.State.{State}
-use Rattle.picture_layout.specs.declared.groups.Word.{Word}
-use Rattle.picture_layout.specs.declared.groups.Word.TheVariants as word
-use Rattle.picture_layout.specs.declared.told.Saying.{Saying}
-use Rattle.picture_layout.specs.declared.told.Saying.TheVariants.{LockMarked, Marked}
+use Rattle.picture_layout.specs.declared.groups.BarWord.{BarWord}
+use Rattle.picture_layout.specs.declared.groups.BarWord.TheVariants as word
+use Rattle.picture_layout.specs.declared.line_contents.LineContent.{LineContent}
+use Rattle.picture_layout.specs.declared.line_contents.LineContent.TheVariants.{LockMarked, Marked}
 
 -- the seat of a process before it has a ticket
-abbrev pub no_seat : KnownProcess
+abbrev pub no_seat : ProcessDetails
 no_seat = record { ticket = 0; awaits = replicate 16 false }
 
 -- before the first line
 abbrev pub at_first : ℕ → State
-at_first processes = record { processes = processes; stages = nothing_told; seats = replicate 16 no_seat; inside = None; places = 0 }
+at_first processes = record { processes = processes; stages = nothing_reported; seats = replicate 16 no_seat; inside = None; places = 0 }
 
 -- the ticket of a process, or 0 if it has none
 abbrev pub ticket_in : State → ℕ → ℕ
@@ -80,44 +80,44 @@ abbrev pub awaited_in : State → ℕ → List ℕ
 awaited_in state p = places_from 0 (get_or state.seats p no_seat).awaits
 
 -- a group of processes: their number, or 255 if it is greater, and the first three
-abbrev pub group_of : List ℕ → Group
+abbrev pub group_of : List ℕ → ProcessGroup
 group_of some = record { count = min (length some) 255; first = take 3 (some ++ 0 ∷ 0 ∷ 0 ∷ []) }
 
 -- the processes of a group, followed by these
-abbrev pub GroupGrows : Group → List ℕ → Group → Type 0
+abbrev pub GroupGrows : ProcessGroup → List ℕ → ProcessGroup → Type 0
 GroupGrows group more then = (some : List ℕ) → group ≡ group_of some → then ≡ group_of (some ++ more)
 
 -- the word of the bar of a waiting process, given the processes before it and those that it awaits
-abbrev pub word_of_waiting : List ℕ → List ℕ → Word
+abbrev pub word_of_waiting : List ℕ → List ℕ → BarWord
 word_of_waiting [] [] = word.Is stage.Waiting
 word_of_waiting [] (q ∷ others) = word.Awaits (group_of (q ∷ others))
 word_of_waiting (q ∷ others) awaited = word.Behind (group_of (q ∷ others))
 
 -- that word, given both lists of processes as groups
-abbrev pub IsWordOfWaiting : Group → Group → Word → Type 0
+abbrev pub IsWordOfWaiting : ProcessGroup → ProcessGroup → BarWord → Type 0
 IsWordOfWaiting behind awaits said = (before awaited : List ℕ) → behind ≡ group_of before → awaits ≡ group_of awaited → said ≡ word_of_waiting before awaited
 
 -- the word of the bar of a process, by its stage
-abbrev pub word_by : Stage → Word → Word
+abbrev pub word_by : Stage → BarWord → BarWord
 word_by stage.Idle waiting = word.Nothing
 word_by stage.Leaving waiting = word.Nothing
 word_by stage.Waiting waiting = waiting
 word_by other waiting = word.Is other
 
 -- the word of the bar of a process
-abbrev pub word_of : State → ℕ → Word
+abbrev pub word_of : State → ℕ → BarWord
 word_of state p = word_by (stage_among state.stages p) (word_of_waiting (before_in p (queue_of state)) (awaited_in state p))
 
 -- a seat that no longer awaits process p
-abbrev pub not_awaiting : ℕ → KnownProcess → KnownProcess
+abbrev pub not_awaiting : ℕ → ProcessDetails → ProcessDetails
 not_awaiting p seat = record { ticket = seat.ticket; awaits = set seat.awaits p false }
 
 -- the seats after process p has another ticket
-abbrev pub ticket_set : List KnownProcess → ℕ → ℕ → List KnownProcess
+abbrev pub ticket_set : List ProcessDetails → ℕ → ℕ → List ProcessDetails
 ticket_set seats p ticket = set seats p (record { ticket = ticket; awaits = (get_or seats p no_seat).awaits })
 
 -- the tickets and the awaited processes after a mark of a process, with these stages after it
-abbrev pub seats_by : List Stage → List KnownProcess → ℕ → Mark → List KnownProcess
+abbrev pub seats_by : List Stage → List ProcessDetails → ℕ → Mark → List ProcessDetails
 seats_by stages seats p (mark.Waiting ticket) = set seats p (record { ticket = ticket; awaits = map is_in_doorway stages })
 seats_by stages seats p mark.Left = ticket_set seats p 0
 seats_by stages seats p (mark.Answered answer) = ticket_set seats p 0
@@ -131,7 +131,7 @@ goes_on (mark.Settled value) = false
 goes_on _ = true
 
 -- the tickets and the awaited processes after a mark; if its process changes its stage, no process awaits it any more
-abbrev pub seats_marked : List Stage → List KnownProcess → ℕ → Mark → List KnownProcess
+abbrev pub seats_marked : List Stage → List ProcessDetails → ℕ → Mark → List ProcessDetails
 seats_marked stages seats p mark = cond (goes_on mark) (seats_by stages (map (not_awaiting p) seats) p mark) seats
 
 -- a state with those tickets and awaited processes
@@ -172,14 +172,14 @@ state_lock_marked state p lock.Wait = with_no_seat (state_marked state p (like l
 state_lock_marked state p mark = state_marked state p (like mark)
 
 -- the stages after a line
-abbrev pub stages_next : State → Saying → List Stage
-stages_next state = stages_told state.processes state.stages
+abbrev pub stages_next : State → LineContent → List Stage
+stages_next state = stages_reported state.processes state.stages
 
 -- the state after a line
-abbrev pub state_told : State → Saying → State
-state_told state (Marked p mark change) = cond (nat_lt p state.processes) (state_marked state p mark) state
-state_told state (LockMarked p mark) = cond (nat_lt p state.processes) (state_lock_marked state p mark) state
-state_told state _ = state
+abbrev pub state_reported : State → LineContent → State
+state_reported state (Marked p mark change) = cond (nat_lt p state.processes) (state_marked state p mark) state
+state_reported state (LockMarked p mark) = cond (nat_lt p state.processes) (state_lock_marked state p mark) state
+state_reported state _ = state
 
 -- whether a mark gives up the ticket of its process
 abbrev pub lets_go : Mark → Bool
@@ -189,6 +189,6 @@ lets_go mark.Down = true
 lets_go _ = false
 
 -- the process that is freed by the process of a line
-abbrev pub freed_by : State → Saying → Option ℕ
+abbrev pub freed_by : State → LineContent → Option ℕ
 freed_by state (Marked p mark change) = elim (nat_lt p state.processes) [ true ↦ cond (lets_go mark) (freed_in state p) None | false ↦ None ]
 freed_by state _ = None

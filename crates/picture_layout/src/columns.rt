@@ -2,14 +2,14 @@
 ghost use Rattle.std.specs.Prelude.{◌≡◌, ◌++◌, [], ◌∷◌, IfOk, OnOk, is_some, option_copied};
 ghost use Rattle.picture_layout.specs.Columns.{GivesRows, alone, column_of_access, column_of_read, joined, joins, lane_among, rows_of_lines, seen, settles_and_takes_in, taken_in, width_below_of, width_of};
 ghost use Rattle.picture_layout.specs.Accesses.{access_characters};
-ghost use Rattle.picture_layout.specs.Told.{text_of, told_in};
+ghost use Rattle.picture_layout.specs.Reported.{text_of, reported_in};
 
 use crate::accesses::ShownAccess;
 use crate::measures::{CHARACTER, DIGIT, PAD, room};
 use crate::reads::OverlappedRead;
 use crate::rows::{TextRow, rows_alone, rows_shared};
 use crate::state::State;
-use crate::told::RunLine;
+use crate::line_contents::RunLine;
 use crate::widths::{digits, longest, width_of_knot};
 use std::alloc::{AllocError, Global};
 
@@ -53,7 +53,7 @@ impl Column {
         frees: Option<u8>,
         after: State,
     ) -> Result<Column, AllocError>
-        ensures told { IfOk result (λ column. told_in column ≡ text_of line ∷ []) }
+        ensures reported { IfOk result (λ column. reported_in column ≡ text_of line ∷ []) }
         ensures whole { IfOk result (λ column. seen column ≡ alone line gap frees after) }
     {
         let lane = lane_below(after.processes, line.process());
@@ -88,7 +88,7 @@ impl Column {
         gap: u64,
         after: State,
     ) -> Result<Column, AllocError>
-        ensures told { IfOk result (λ column. told_in column ≡ []) }
+        ensures reported { IfOk result (λ column. reported_in column ≡ []) }
         ensures whole { IfOk result (λ column. seen column ≡ column_of_read read gap after) }
     {
         Ok(Column {
@@ -108,7 +108,7 @@ impl Column {
 
     /// Returns the column of an access, before it is placed.
     pub fn of_access(alloc: Global, access: ShownAccess, gap: u64, after: State) -> Column
-        ensures told { told_in result ≡ [] }
+        ensures reported { reported_in result ≡ [] }
         ensures whole { seen result ≡ column_of_access access gap after }
     {
         Column {
@@ -146,7 +146,7 @@ impl Column {
         frees: Option<u8>,
         after: State,
     ) -> Result<(), AllocError>
-        ensures told { OnOk result (told_in self.new ≡ told_in self.old ++ text_of line ∷ []) }
+        ensures reported { OnOk result (reported_in self.new ≡ reported_in self.old ++ text_of line ∷ []) }
         ensures whole { OnOk result (seen self.new ≡ joined (seen self.old) line frees after) }
     {
         self.lines.push(line)?;

@@ -6,7 +6,7 @@ use model::Stage;
 
 /// Some processes in an order: their number, and the first three.
 #[derive(Clone, Copy, PartialEq, Eq)]
-pub struct Group {
+pub struct ProcessGroup {
     /// Their number, at most 255.
     pub count: u8,
     /// The first three, with 0 for each that is missing.
@@ -15,40 +15,40 @@ pub struct Group {
 
 /// The words in the bar of a process.
 #[derive(Clone, Copy, PartialEq, Eq)]
-pub enum Word {
+pub enum BarWord {
     /// It has none.
     Nothing,
     /// Its process is at this stage.
     Is(Stage),
     /// These are served before its process.
-    Behind(Group),
+    Behind(ProcessGroup),
     /// Its process waits for these to leave their doorways.
-    Awaits(Group),
+    Awaits(ProcessGroup),
 }
 
-impl Group {
+impl ProcessGroup {
     /// Returns the group without processes.
-    pub(crate) fn nobody() -> Group
+    pub(crate) fn nobody() -> ProcessGroup
         ensures { result ≡ group_of [] }
     {
-        Group {
+        ProcessGroup {
             count: 0,
             first: [0; 3],
         }
     }
 
     /// Returns the group with a process at its end.
-    fn with(&self, process: u8) -> Group
+    fn with(&self, process: u8) -> ProcessGroup
         ensures { GroupGrows self.now (process ∷ []) result }
     {
-        Group {
+        ProcessGroup {
             count: self.count.saturating_add(1),
             first: with_at(self.first, self.count, process),
         }
     }
 
     /// Returns the group with a process at its end, if `is_one` is true.
-    fn with_if(&self, process: u8, is_one: bool) -> Group
+    fn with_if(&self, process: u8, is_one: bool) -> ProcessGroup
         ensures { GroupGrows self.now (cond is_one (process ∷ []) []) result }
     {
         if is_one { self.with(process) } else { *self }
@@ -56,15 +56,15 @@ impl Group {
 }
 
 /// Returns the words in the bar of a waiting process: those before it in the line or, if there are none, those that it awaits.
-pub(crate) fn waiting_word(behind: Group, awaits: Group) -> Word
+pub(crate) fn waiting_word(behind: ProcessGroup, awaits: ProcessGroup) -> BarWord
     ensures { IsWordOfWaiting behind awaits result }
 {
     if behind.count > 0 {
-        Word::Behind(behind)
+        BarWord::Behind(behind)
     } else if awaits.count > 0 {
-        Word::Awaits(awaits)
+        BarWord::Awaits(awaits)
     } else {
-        Word::Is(Stage::Waiting)
+        BarWord::Is(Stage::Waiting)
     }
 }
 
@@ -81,10 +81,10 @@ fn with_at(first: [u8; 3], place: u8, process: u8) -> [u8; 3]
 }
 
 /// Returns the processes before a process in a line.
-pub(crate) fn group_before(queue: &[u8], process: u8) -> Group
+pub(crate) fn group_before(queue: &[u8], process: u8) -> ProcessGroup
     ensures { result ≡ group_of (before_in process queue.now) }
 {
-    let mut group = Group::nobody();
+    let mut group = ProcessGroup::nobody();
     for other in queue {
         if *other == process {
             return group;
@@ -107,10 +107,10 @@ pub(crate) fn place_behind(queue: &[u8], process: u8) -> usize
 }
 
 /// Returns the processes for which the test holds.
-pub(crate) fn places_said(said: [bool; 16]) -> Group
+pub(crate) fn places_said(said: [bool; 16]) -> ProcessGroup
     ensures { result ≡ group_of (places_from 0 said) }
 {
-    let mut group = Group::nobody();
+    let mut group = ProcessGroup::nobody();
     for place in 0u8..16 {
         group = group.with_if(place, said[usize::from(place)]);
     }

@@ -153,7 +153,7 @@ fn lanes(processes: u8, accesses: &AccessState, columns: &[Column]) -> [Lane; 16
             } else {
                 0
             },
-            is_full: stands_in_lane(columns, process),
+            is_full: lies_in_lane(columns, process),
         };
     }
     lanes
@@ -167,7 +167,7 @@ fn top_below(accesses: &AccessState, columns: &[Column], process: u8) -> u16
 {
     let mut top = AXIS;
     for other in 0..process {
-        top += height(stands_in_lane(columns, other)) + room_for_accesses(accesses, columns, other);
+        top += height(lies_in_lane(columns, other)) + room_for_accesses(accesses, columns, other);
     }
     top
 }
@@ -207,7 +207,7 @@ fn shows_access_in_lane(columns: &[Column], process: u8) -> bool
 }
 
 /// Returns whether a column is in the lane of a process.
-fn stands_in_lane(columns: &[Column], process: u8) -> bool
+fn lies_in_lane(columns: &[Column], process: u8) -> bool
     ensures { result ≡ has_column (map seen columns.now) process }
 {
     for column in columns {

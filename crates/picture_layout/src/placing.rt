@@ -2,8 +2,8 @@
 ghost use Rattle.std.specs.Prelude.{◌≡◌, ◌≤◌, ◌+◌, ◌-◌, ◌*◌, ◌/◌, ◌<◌, flat_map, IfOk, map, OnOk};
 ghost use Rattle.picture_layout.specs.Columns.{capped, seen};
 ghost use Rattle.picture_layout.specs.Overlaps.{between};
-ghost use Rattle.picture_layout.specs.Placings.{doublings, drawn_apart, end_in, end_of_words, event_stands, has_room_at, lanes_ended, last_of, left_of, moved_to, place_of, placing_at_first, put_at, room_of, stretched_all};
-ghost use Rattle.picture_layout.specs.Told.{told_in};
+ghost use Rattle.picture_layout.specs.Placings.{doublings, drawn_apart, end_in, end_of_words, event_position, has_room_at, lanes_ended, last_of, left_of, moved_to, place_of, placing_at_first, put_at, room_of, stretched_all};
+ghost use Rattle.picture_layout.specs.Reported.{reported_in};
 
 use crate::columns::Column;
 use crate::measures::{CHARACTER, LEFT, RIGHT, room};
@@ -11,7 +11,7 @@ use std::alloc::{AllocError, Global};
 
 /// The right ends of the words in each lane of a band so far.
 #[derive(Clone, Copy)]
-pub struct Placing {
+pub struct WordEnds {
     /// The position of the last column, or `None` at the beginning of a band.
     last: Option<u16>,
     lanes: [u16; 16],
@@ -20,16 +20,16 @@ pub struct Placing {
 
 /// The position of a column, and the right end of its words.
 #[derive(Clone, Copy)]
-pub struct ColumnPlace {
+pub struct ColumnPosition {
     /// Its left edge.
     pub x: u16,
     /// The right end of its words.
     pub end: u16,
 }
 
-impl Placing {
+impl WordEnds {
     /// Returns the placing at the beginning of a band. In the first band the opening store has `opening` characters, otherwise 0.
-    pub fn new(opening: usize) -> Placing
+    pub fn new(opening: usize) -> WordEnds
         ensures { result ≡ placing_at_first opening }
     {
         let below = if opening == 0 {
@@ -37,7 +37,7 @@ impl Placing {
         } else {
             room(opening, CHARACTER).saturating_add(LEFT + 20)
         };
-        Placing {
+        WordEnds {
             last: None,
             lanes: [0; 16],
             below,
@@ -49,12 +49,12 @@ impl Placing {
     /// # Errors
     ///
     /// Returns [`AllocError`] if an allocation fails.
-    pub fn place(&self, alloc: Global, column: &Column) -> Result<ColumnPlace, AllocError>
+    pub fn place(&self, alloc: Global, column: &Column) -> Result<ColumnPosition, AllocError>
         ensures { IfOk result (λ place. place ≡ place_of self.now (seen column.now)) }
     {
         let x = self.left(alloc, column)?;
         let room = room_needed(alloc, column)?;
-        Ok(ColumnPlace {
+        Ok(ColumnPosition {
             x,
             end: x.saturating_add(room),
         })
@@ -87,7 +87,7 @@ impl Placing {
     }
 
     /// Returns whether the band has room for it. An empty band always has.
-    pub fn has_room(&self, place: ColumnPlace) -> bool
+    pub fn has_room(&self, place: ColumnPosition) -> bool
         ensures { result ≡ has_room_at self.now place }
     {
         self.last.is_none() || place.end <= RIGHT
@@ -102,9 +102,9 @@ impl Placing {
         &mut self,
         alloc: Global,
         column: &mut Column,
-        place: ColumnPlace,
+        place: ColumnPosition,
     ) -> Result<(), AllocError>
-        ensures told { OnOk result (told_in column.new ≡ told_in column.old) }
+        ensures reported { OnOk result (reported_in column.new ≡ reported_in column.old) }
         ensures stands { OnOk result (seen column.new ≡ moved_to (seen column.old) place.x) }
         ensures placed { OnOk result (self.new ≡ put_at self.old (seen column.old) place.x) }
     {
@@ -173,7 +173,7 @@ pub(crate) fn last_place(columns: &[Column]) -> u16
 
 /// Returns the position of an event among the columns of a band, before which `before_at` events were accepted.
 pub fn event_place(columns: &[Column], before_at: u64, event: u64) -> u16
-    ensures { result ≡ event_stands event (52, before_at) (map seen columns.now) }
+    ensures { result ≡ event_position event (52, before_at) (map seen columns.now) }
 {
     let mut left = LEFT;
     let mut at = before_at;
@@ -206,7 +206,7 @@ fn place_between(event: u64, left: (u16, u64), right: (u16, u64)) -> u16
 ///
 /// Returns [`AllocError`] if an allocation fails.
 pub fn stretch(alloc: Global, columns: &mut [Column]) -> Result<(), AllocError>
-    ensures told { OnOk result (flat_map told_in columns.new ≡ flat_map told_in columns.old) }
+    ensures reported { OnOk result (flat_map reported_in columns.new ≡ flat_map reported_in columns.old) }
     ensures apart { OnOk result (map seen columns.new ≡ stretched_all (map seen columns.old)) }
 {
     let last = last_place(columns);
@@ -234,7 +234,7 @@ fn widest_end(alloc: Global, columns: &[Column]) -> Result<u16, AllocError>
 /// Stretches the positions of columns in this ratio of two widths.
 fn draw_apart(columns: &mut [Column], old: u32, new: u32)
     requires { 0 < old }
-    ensures told { flat_map told_in columns.new ≡ flat_map told_in columns.old }
+    ensures reported { flat_map reported_in columns.new ≡ flat_map reported_in columns.old }
     ensures apart { map seen columns.new ≡ map (drawn_apart old new) (map seen columns.old) }
 {
     for column in columns.iter_mut() {

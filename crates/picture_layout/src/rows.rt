@@ -1,9 +1,9 @@
 //! The words of a column: one row or two.
 ghost use Rattle.std.specs.Prelude.{◌≡◌, ◌++◌, [], ◌∷◌, true, filter_map, IfOk, OnOk, string_bytes};
-ghost use Rattle.picture_layout.specs.Columns.{GivesRows, counts_text, row_if_marked, row_shared, row_shortened, rows_marked, rows_named, rows_told, shortened, verb_and_rest, verb_refused, worded, wording, wordings};
+ghost use Rattle.picture_layout.specs.Columns.{GivesRows, counts_text, row_if_marked, row_shared, row_shortened, rows_marked, rows_named, rows_reported, shortened, verb_and_rest, verb_refused, worded, wording, wordings};
 
 use crate::measures::LONGEST;
-use crate::told::{RunLine, Saying};
+use crate::line_contents::{RunLine, LineContent};
 use model::Mark;
 use std::alloc::{AllocError, Global};
 
@@ -46,9 +46,9 @@ pub(crate) fn rows_shared(alloc: Global, lines: &[RunLine]) -> Result<Vec<TextRo
 fn push_shared(alloc: Global, line: &RunLine, rows: &mut Vec<TextRow>) -> Result<(), AllocError>
     ensures { OnOk result (wordings rows.new ≡ wordings rows.old ++ row_if_marked line.now) }
 {
-    match &line.saying {
-        Saying::Marked { mark, .. } => Ok(rows.push(TextRow::new(true, mark.to_string(alloc)?))?),
-        Saying::LockMarked { mark, .. } => {
+    match &line.line_content {
+        LineContent::Marked { mark, .. } => Ok(rows.push(TextRow::new(true, mark.to_string(alloc)?))?),
+        LineContent::LockMarked { mark, .. } => {
             Ok(rows.push(TextRow::new(true, mark.to_string(alloc)?))?)
         }
         _ => Ok(()),
@@ -61,18 +61,18 @@ pub(crate) fn rows_alone(
     line: &RunLine,
     in_lane: bool,
 ) -> Result<Vec<TextRow>, AllocError>
-    ensures { GivesRows result (rows_told in_lane line.now.saying) }
+    ensures { GivesRows result (rows_reported in_lane line.now.line_content) }
 {
-    match &line.saying {
-        Saying::Marked { mark, .. } => mark_rows(alloc, mark),
-        Saying::Refused { process, refusal } => two_rows(
+    match &line.line_content {
+        LineContent::Marked { mark, .. } => mark_rows(alloc, mark),
+        LineContent::Refused { process, refusal } => two_rows(
             alloc,
             refused_verb(alloc, *process, in_lane)?,
             refusal.to_string(alloc)?,
         ),
-        Saying::Tired(_) => one_row(alloc, String::from_str(alloc, "turns")?),
-        Saying::Shown(words) => named_rows(alloc, "show", words.as_bytes()),
-        Saying::Ended {
+        LineContent::Tired(_) => one_row(alloc, String::from_str(alloc, "turns")?),
+        LineContent::Shown(words) => named_rows(alloc, "show", words.as_bytes()),
+        LineContent::Ended {
             events,
             taken,
             refused,
@@ -81,8 +81,8 @@ pub(crate) fn rows_alone(
             format!(in alloc; "end events {events}")?,
             counts(alloc, *taken, *refused)?,
         ),
-        Saying::LockMarked { mark, .. } => one_row(alloc, mark.to_string(alloc)?),
-        Saying::LockEnded { entries } => one_row(
+        LineContent::LockMarked { mark, .. } => one_row(alloc, mark.to_string(alloc)?),
+        LineContent::LockEnded { entries } => one_row(
             alloc,
             format!(in alloc; "end entries {entries}")?,
         ),

@@ -1,15 +1,15 @@
 //! The state of all processes after the lines so far.
 ghost use Rattle.std.specs.Prelude.{◌≡◌, ◌≤◌, drop, insert, length, map, set, IfOk, None, OnOk};
 ghost use Rattle.model.specs.declared.marks.Mark.TheVariants as mark_variants;
-ghost use Rattle.picture_layout.specs.declared.told.Saying.TheVariants.{LockMarked, Marked};
-ghost use Rattle.picture_layout.specs.Stages.{stage_among, stages_marked, nothing_told};
-ghost use Rattle.picture_layout.specs.States.{at_first, awaited_in, before_in, first_waiting, freed_by, freed_in, group_of, is_in_doorway, lined_up, queue_of, stages_next, state_marked, state_told, ticket_in, is_waiting, ticket_set, with_seats_by, with_seats_marked, word_of};
+ghost use Rattle.picture_layout.specs.declared.line_contents.LineContent.TheVariants.{LockMarked, Marked};
+ghost use Rattle.picture_layout.specs.Stages.{stage_among, stages_marked, nothing_reported};
+ghost use Rattle.picture_layout.specs.States.{at_first, awaited_in, before_in, first_waiting, freed_by, freed_in, group_of, is_in_doorway, lined_up, queue_of, stages_next, state_marked, state_reported, ticket_in, is_waiting, ticket_set, with_seats_by, with_seats_marked, word_of};
 
-use crate::groups::{Group, Word, group_before, place_behind, places_said, waiting_word};
+use crate::groups::{ProcessGroup, BarWord, group_before, place_behind, places_said, waiting_word};
 use crate::lock_lines::drawn_like;
 use crate::marks::{inside_after, leads_on, places_after, stage_after};
-use crate::seats::{KnownProcess, clear_seat, forget};
-use crate::told::{RunLine, Saying};
+use crate::seats::{ProcessDetails, clear_seat, forget};
+use crate::line_contents::{RunLine, LineContent};
 use model::{Mark, Stage};
 use std::alloc::{AllocError, Global};
 use trace::LockMark;
@@ -21,7 +21,7 @@ pub struct State {
     pub processes: u8,
     /// The stage of each process.
     pub stages: [Stage; 16],
-    seats: [KnownProcess; 16],
+    seats: [ProcessDetails; 16],
     /// The process that is inside, if there is one.
     pub inside: Option<u8>,
     /// The number of positions in the history that were given.
@@ -31,14 +31,14 @@ pub struct State {
 impl State {
     /// Returns the state before the first line.
     pub fn new(processes: u8) -> State
-        ensures stages { result.stages ≡ nothing_told }
+        ensures stages { result.stages ≡ nothing_reported }
         ensures processes { result.processes ≡ processes }
         ensures whole { result ≡ at_first processes }
     {
         State {
             processes,
             stages: [Stage::Idle; 16],
-            seats: [KnownProcess::new(); 16],
+            seats: [ProcessDetails::new(); 16],
             inside: None,
             places: 0,
         }
@@ -99,22 +99,22 @@ impl State {
     /// # Errors
     ///
     /// Returns [`AllocError`] if an allocation fails.
-    pub fn word(&self, alloc: Global, process: u8) -> Result<Word, AllocError>
+    pub fn word(&self, alloc: Global, process: u8) -> Result<BarWord, AllocError>
         ensures { IfOk result (λ word. word ≡ word_of self.now process) }
     {
         let stage = self.stage(process);
         Ok(match stage {
-            Stage::Idle | Stage::Leaving => Word::Nothing,
+            Stage::Idle | Stage::Leaving => BarWord::Nothing,
             Stage::Waiting => {
                 let behind = self.before(alloc, process)?;
                 waiting_word(behind, self.awaited(process))
             }
-            _ => Word::Is(stage),
+            _ => BarWord::Is(stage),
         })
     }
 
     /// Returns the processes before a process in the line.
-    fn before(&self, alloc: Global, process: u8) -> Result<Group, AllocError>
+    fn before(&self, alloc: Global, process: u8) -> Result<ProcessGroup, AllocError>
         ensures { IfOk result (λ these. these ≡ group_of (before_in process (queue_of self.now))) }
     {
         let queue = self.queue(alloc)?;
@@ -122,12 +122,12 @@ impl State {
     }
 
     /// Returns the processes whose doorways a process still awaits.
-    fn awaited(&self, process: u8) -> Group
+    fn awaited(&self, process: u8) -> ProcessGroup
         ensures { result ≡ group_of (awaited_in self.now process) }
     {
         match self.seats.get(usize::from(process)) {
             Some(seat) => places_said(seat.awaits),
-            None => Group::nobody(),
+            None => ProcessGroup::nobody(),
         }
     }
 
@@ -137,14 +137,14 @@ impl State {
     ///
     /// Returns [`AllocError`] if an allocation fails.
     pub fn take(&mut self, alloc: Global, line: &RunLine) -> Result<Option<u8>, AllocError>
-        ensures stages { OnOk result (self.new.stages ≡ stages_next self.old line.now.saying) }
+        ensures stages { OnOk result (self.new.stages ≡ stages_next self.old line.now.line_content) }
         ensures processes { self.new.processes ≡ self.old.processes }
-        ensures whole { OnOk result (self.new ≡ state_told self.old line.now.saying) }
-        ensures frees { IfOk result (λ freed. freed ≡ freed_by self.old line.now.saying) }
+        ensures whole { OnOk result (self.new ≡ state_reported self.old line.now.line_content) }
+        ensures frees { IfOk result (λ freed. freed ≡ freed_by self.old line.now.line_content) }
     {
-        match &line.saying {
-            Saying::Marked { process, mark, .. } => self.take_mark(alloc, *process, mark),
-            Saying::LockMarked { process, mark } => {
+        match &line.line_content {
+            LineContent::Marked { process, mark, .. } => self.take_mark(alloc, *process, mark),
+            LineContent::LockMarked { process, mark } => {
                 self.take_lock_mark(*process, *mark);
                 Ok(None)
             }
@@ -160,7 +160,7 @@ impl State {
         mark: &Mark,
     ) -> Result<Option<u8>, AllocError>
         ensures processes { self.new.processes ≡ self.old.processes }
-        ensures whole { OnOk result (self.new ≡ state_told self.old (Marked process mark.now None)) }
+        ensures whole { OnOk result (self.new ≡ state_reported self.old (Marked process mark.now None)) }
         ensures frees { IfOk result (λ freed. freed ≡ freed_by self.old (Marked process mark.now None)) }
     {
         if process >= self.processes {
@@ -176,7 +176,7 @@ impl State {
 
     /// Updates the state by a mark of a process in a trace, which has no tickets.
     fn take_lock_mark(&mut self, process: u8, mark: LockMark)
-        ensures { self.new ≡ state_told self.old (LockMarked process mark) }
+        ensures { self.new ≡ state_reported self.old (LockMarked process mark) }
     {
         if process >= self.processes {
             return;
@@ -264,7 +264,7 @@ impl State {
         let place = usize::from(process);
         if place < self.seats.len() {
             let awaits = self.seats[place].awaits;
-            self.seats[place] = KnownProcess { ticket, awaits };
+            self.seats[place] = ProcessDetails { ticket, awaits };
         }
     }
 
@@ -275,7 +275,7 @@ impl State {
         let awaits = self.in_doorways();
         let place = usize::from(process);
         if place < self.seats.len() {
-            self.seats[place] = KnownProcess { ticket, awaits };
+            self.seats[place] = ProcessDetails { ticket, awaits };
         }
     }
 

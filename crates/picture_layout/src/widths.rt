@@ -1,11 +1,11 @@
 //! The number of pixels that the words of a column take.
 ghost use Rattle.std.specs.Prelude.{◌≡◌, map, IfOk};
 ghost use Rattle.picture_layout.specs.Columns.{digits_of, knot_width, longest_row, pair_of, wording};
-ghost use Rattle.picture_layout.specs.Told.{change_told};
+ghost use Rattle.picture_layout.specs.Reported.{change_reported};
 
 use crate::measures::{CHARACTER, DIGIT, PAD, room};
 use crate::rows::TextRow;
-use crate::told::RunLine;
+use crate::line_contents::RunLine;
 use std::alloc::{AllocError, Global};
 
 /// Returns the number of digits of a number, or 0 if there is none.
@@ -31,7 +31,7 @@ pub(crate) fn longest(rows: &[TextRow]) -> usize
 
 /// Returns the number of characters of the pair that the command of a line changed.
 fn pair_length(line: &RunLine) -> usize
-    ensures { result ≡ pair_of (change_told line.now.saying) }
+    ensures { result ≡ pair_of (change_reported line.now.line_content) }
 {
     match line.change() {
         Some(change) => change.pair.len(),

@@ -17,10 +17,10 @@ pairs_in-placed (p ∷ pairs) n = ap (λ more. p ∷ more) (pairs_in-placed pair
 -- one more pair, in the first free place
 pub placed_more : (pairs : List Pair) (p : Pair) (n : ℕ) → n ≡ length pairs → n < 8 → set (placed pairs) n (Some p) ≡ placed (pairs ++ p ∷ [])
 placed_more pairs p n same small =
-    let left : 8 - length pairs ≡ suc (7 - n) = omega arith in
+    let remaining : 8 - length pairs ≡ suc (7 - n) = omega arith in
     let seam : n ≡ length (map Some pairs) = omega (arith, length-map {B = Option Pair} pairs Some) in
     let free : 7 - n ≡ 8 - length (pairs ++ p ∷ []) = omega (arith, length-append pairs (p ∷ [])) in
-    ap (λ k. set (map Some pairs ++ replicate k None) n (Some p)) left
+    ap (λ k. set (map Some pairs ++ replicate k None) n (Some p)) remaining
     ∙ ap (λ k. set (map Some pairs ++ None ∷ replicate (7 - n) None) k (Some p)) seam
     ∙ set-append_seam (map Some pairs) None (replicate (7 - n) None) (Some p)
     ∙ sym (append_assoc (map Some pairs) (Some p ∷ []) (replicate (7 - n) None))

@@ -15,17 +15,17 @@ first_pair [] pair at = absurd (cc)
 first_pair (first ∷ pairs) pair at = let same : pair ≡ first = cc in ap (λ p. pair_text p ++ flat_map next_pair pairs) same
 
 -- a text and the pairs from an index on, one pair later
-pub pairs_more : (told : List ℕ) (pairs : List Pair) (k : ℕ) (p : Pair) → slice_get pairs k ≡ Some p → (told ++ next_pair p) ++ flat_map next_pair (drop (k + 1) pairs) ≡ told ++ flat_map next_pair (drop k pairs)
-pairs_more told pairs k p at = append_assoc told _ _ ∙ ap (λ ps. told ++ flat_map next_pair ps) (sym (drop-next pairs k p at))
+pub pairs_more : (reported : List ℕ) (pairs : List Pair) (k : ℕ) (p : Pair) → slice_get pairs k ≡ Some p → (reported ++ next_pair p) ++ flat_map next_pair (drop (k + 1) pairs) ≡ reported ++ flat_map next_pair (drop k pairs)
+pairs_more reported pairs k p at = append_assoc reported _ _ ∙ ap (λ ps. reported ++ flat_map next_pair ps) (sym (drop-next pairs k p at))
 
 -- a text after which no pair remains
-pub all_told : (told : List ℕ) (pairs : List Pair) (k : ℕ) → length pairs ≤ k → told ++ flat_map next_pair (drop k pairs) ≡ told
-all_told told pairs k past = rw (drop_all k pairs past) (append-nil told)
+pub all_reported : (reported : List ℕ) (pairs : List Pair) (k : ℕ) → length pairs ≤ k → reported ++ flat_map next_pair (drop k pairs) ≡ reported
+all_reported reported pairs k past = rw (drop_all k pairs past) (append-nil reported)
 
 -- the text of a pair, as `format!` puts it together
 pub pair_text_is : (name : List ℕ) (value : Value) → name ++ (codes "=" ++ value_text value) ≡ pair_text (name, value)
 pair_text_is name value = simp append_assoc
 
 -- a pair after others, as it is added
-pub pair_added : (told : List ℕ) (p : Pair) → (told ++ codes " ") ++ pair_text p ≡ told ++ next_pair p
-pair_added told p = append_assoc told (codes " ") (pair_text p)
+pub pair_added : (reported : List ℕ) (p : Pair) → (reported ++ codes " ") ++ pair_text p ≡ reported ++ next_pair p
+pair_added reported p = append_assoc reported (codes " ") (pair_text p)

@@ -28,7 +28,7 @@ pub use commands::{Answer, Caller, Command, Reply, Value};
 pub use names::{BadName, Name};
 pub use nested::NestedTypes;
 pub use openings::{OpenFault, Opening};
-pub use outcomes::{Outcome, changes_are_told_by_pairs, is_new};
+pub use outcomes::{Outcome, changes_are_reported_by_pairs, is_new};
 pub use padding::pad;
 pub use plain::PlainStore;
 pub use setups::{BadSetup, Setup};

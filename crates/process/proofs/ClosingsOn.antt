@@ -9,7 +9,7 @@ use Rattle.model.specs.safe_number.{NumberWrite, bits_of_number, new_write}
 use Rattle.laws.specs.{closes}
 use Rattle.registers.specs.{CursorState, WritesAt, is_over, moved, write_kept, writing}
 use Rattle.registers.proofs.ClosingMoves.{ends, unwritten}
-use Rattle.process.specs.declared.work.ProcessWork.TheVariants as work
+use Rattle.process.specs.declared.activity.Activity.TheVariants as work
 use Rattle.process.specs.{HasMoved, IsCall, KeepsPlace, PartState, ProcessState, marks_on, state_at, stepped, with_doing}
 
 -- the work after the access
@@ -69,10 +69,10 @@ module _ {k : PartState} {flick value fresh : Bool} {before cur : CursorState} w
   pub frees-to : {inside over : Bool} → HasMoved k (work.Frees inside) flick value before cur fresh → is_over cur ≡ over → then_closes k (cond over (closing.Lowers (new_write 1)) (closing.Frees inside (write_kept cur))) ≡ stepped (state_at k (work.Frees inside) before) flick value
   frees-to {inside} h is = goes-to k (Ticket, no_ticket k.call) value (closing.Lowers (new_write 1)) (closing.Frees inside) h.keeps.working h.moves is
 
-  pub frees-marks : {inside : Bool} → HasMoved k (work.Frees inside) flick value before cur fresh → (let left : List Mark = mark.Left ∷ [] in cond (inside && fresh) left []) ≡ marks_on (state_at k (work.Frees inside) before) flick value
+  pub frees-marks : {inside : Bool} → HasMoved k (work.Frees inside) flick value before cur fresh → (let remaining : List Mark = mark.Left ∷ [] in cond (inside && fresh) remaining []) ≡ marks_on (state_at k (work.Frees inside) before) flick value
   frees-marks {inside} h =
-      let left : List Mark = mark.Left ∷ [] in
-      ap (λ b. cond (inside && b) left []) (h.first ∙ sym (unwritten k.call.setup k.call.process (Ticket, no_ticket k.call) before h.keeps.working))
+      let remaining : List Mark = mark.Left ∷ [] in
+      ap (λ b. cond (inside && b) remaining []) (h.first ∙ sym (unwritten k.call.setup k.call.process (Ticket, no_ticket k.call) before h.keeps.working))
 
   pub still-frees : {inside : Bool} → HasMoved k (work.Frees inside) flick value before cur fresh → is_over cur ≡ false → KeepsPlace k (work.Frees inside) cur
   still-frees h more = record { call = h.keeps.call; working = still-at k (Ticket, no_ticket k.call) value h.keeps.working h.moves more }

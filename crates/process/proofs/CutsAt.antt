@@ -12,9 +12,9 @@ use Rattle.model.proofs.Closing.{ticket_width}
 use Rattle.model.proofs.Ties.{written-width}
 use Rattle.laws.specs.{Closes, is_inside}
 use Rattle.registers.specs.{CursorState, ReadsAt, RegisterName, WritesAt, bit_begun, is_torn, is_writing, made_of_bit, run_at, run_by, settling, torn_bit, write_kept}
-use Rattle.registers.specs.declared.cursor.NumberRun.TheVariants.{Writes}
-use Rattle.process.specs.{IsOfCommit, KeepsPlace, PartState, ProcessState, ProcessWork, SettlesAt, doing_at, failed, is_torn_at, reply_taken, settling_at, state_at, taken_at, torn_of, with_doing}
-use Rattle.process.specs.declared.work.ProcessWork.TheVariants as work
+use Rattle.registers.specs.declared.cursor.RegisterAccessKind.TheVariants.{Writes}
+use Rattle.process.specs.{IsOfCommit, KeepsPlace, PartState, ProcessState, Activity, SettlesAt, doing_at, failed, is_torn_at, reply_taken, settling_at, state_at, taken_at, torn_of, with_doing}
+use Rattle.process.specs.declared.activity.Activity.TheVariants as work
 
 -- the process has failed, and its unit does this work
 abbrev then_closes : PartState → Closing → ProcessState
@@ -73,7 +73,7 @@ torn-run : (k : PartState) (inside : Bool) (cur : CursorState) → WritesAt k.ca
     ≡ cut k.call (torn_run k.call k.part (run_at cur)) (begun_run k.call k.part (run_at cur)) (pending_at k.call k.part) inside
 torn-run k inside cur at = sym (ap (λ r. cut k.call (torn_run k.call k.part (run_by r cur)) (begun_run k.call k.part (run_by r cur)) (pending_at k.call k.part) inside) at.run)
 
-pub cut-torn : (k : PartState) (w : ProcessWork) (cur : CursorState) (inside : Bool) (taken : Option (Bool × Reply)) → KeepsPlace k w cur → is_torn_at w cur ≡ true → inside ≡ is_inside (doing_at k w cur) → reply_taken taken ≡ taken_at k w →
+pub cut-torn : (k : PartState) (w : Activity) (cur : CursorState) (inside : Bool) (taken : Option (Bool × Reply)) → KeepsPlace k w cur → is_torn_at w cur ≡ true → inside ≡ is_inside (doing_at k w cur) → reply_taken taken ≡ taken_at k w →
     state_at k (work.Settles inside taken) (settling cur) ≡ failed (state_at k w cur)
 cut-torn k work.Rests cur inside taken keeps torn is takes = absurd (cc)
 cut-torn k work.Lies cur inside taken keeps torn is takes = absurd (cc)
@@ -116,7 +116,7 @@ of-commit s p written t cur at is =
 wide-written : (k : PartState) (cur : CursorState) → KeepsPlace k work.Runs cur → is_torn cur ≡ true → width k.call.setup (written_at k.call k.part).0 ≡ length (written_at k.call k.part).1
 wide-written k cur keeps torn = written-width k.call k.part (torn-writes k cur keeps torn).0 keeps.working.going
 
-pub cut-keeps : (k : PartState) (w : ProcessWork) (cur : CursorState) (inside : Bool) (taken : Option (Bool × Reply)) → KeepsPlace k w cur → is_torn_at w cur ≡ true → IfSome taken (IsOfCommit k w) → KeepsPlace k (work.Settles inside taken) (settling cur)
+pub cut-keeps : (k : PartState) (w : Activity) (cur : CursorState) (inside : Bool) (taken : Option (Bool × Reply)) → KeepsPlace k w cur → is_torn_at w cur ≡ true → IfSome taken (IsOfCommit k w) → KeepsPlace k (work.Settles inside taken) (settling cur)
 cut-keeps k work.Rests cur inside taken keeps torn commit = absurd (cc)
 cut-keeps k work.Lies cur inside taken keeps torn commit = absurd (cc)
 cut-keeps k work.Runs cur inside None keeps torn commit = record { call = keeps.call; working = settles-torn k.call.setup k.call.process (written_at k.call k.part) None cur (torn-writes k cur keeps torn).1 (wide-written k cur keeps torn) tt }
@@ -164,10 +164,10 @@ runs-inside k cur keeps = by (is_read k.part) keeps.working.at
     by false at = inside-register k.call.setup cur.register k.call.process (written_at k.call k.part).0 cur.bit cur.width at.going at.wide at.at
 
 -- at work that may tear a bit
-abbrev TornIs : PartState → ProcessWork → CursorState → Type 0
+abbrev TornIs : PartState → Activity → CursorState → Type 0
 TornIs k w cur = (torn_bit cur ≡ torn_of k.call.setup k.call.process (doing_at k w cur)) × IfSome (torn_bit cur) (IsTornOf k.call.setup)
 
-torn-works : (k : PartState) (w : ProcessWork) (cur : CursorState) → (w ≡ work.Runs) ⊎ (w ≡ work.Withdraws) → KeepsPlace k w cur → TornIs k w cur
+torn-works : (k : PartState) (w : Activity) (cur : CursorState) → (w ≡ work.Runs) ⊎ (w ≡ work.Withdraws) → KeepsPlace k w cur → TornIs k w cur
 torn-works k w cur (inl runs) keeps =
     let now = subst (λ w. KeepsPlace k w cur) runs keeps in
     subst (λ w. TornIs k w cur) (sym runs) (runs-torn k cur now, torn-known k.call.setup cur (runs-inside k cur now) (omega (arith, now.call.process)))
@@ -179,5 +179,5 @@ torn-works k w cur (inr withdraws) keeps =
       torn-known k.call.setup cur (inside-register k.call.setup cur.register k.call.process Ticket cur.bit cur.width at.going at.wide at.at) (omega (arith, now.call.process)),
     )
 
-pub torn-shown : (k : PartState) (w : ProcessWork) (cur : CursorState) (now : ProcessState) → KeepsPlace k w cur → state_at k w cur ≡ now → (w ≡ work.Runs) ⊎ (w ≡ work.Withdraws) → (torn_bit cur ≡ torn_of now.setup now.process now.doing) × IfSome (torn_bit cur) (IsTornOf now.setup)
+pub torn-shown : (k : PartState) (w : Activity) (cur : CursorState) (now : ProcessState) → KeepsPlace k w cur → state_at k w cur ≡ now → (w ≡ work.Runs) ⊎ (w ≡ work.Withdraws) → (torn_bit cur ≡ torn_of now.setup now.process now.doing) × IfSome (torn_bit cur) (IsTornOf now.setup)
 torn-shown k w cur now keeps shown may = subst (λ (x : ProcessState). (torn_bit cur ≡ torn_of x.setup x.process x.doing) × IfSome (torn_bit cur) (IsTornOf x.setup)) shown (torn-works k w cur may keeps)

@@ -7,7 +7,7 @@ use Rattle.registers.specs.reader_copies.{Made, next_write}
 use Rattle.registers.specs.reader_copies.Runs as copies
 use Rattle.model.specs.safe_number.{NumberWrite, write_on}
 use Rattle.model.specs.{Access, Call, Field, Part, Reading, Run, Writing, access_at, access_of, bit_written, ended, ended_with, is_read, next_written, read_at, run_after, written_at}
-use Rattle.registers.specs.{CursorState, IsAtPart, NumberRun, ReadsAt, WritesAt, access_on, bit_begun, last_by_run, run_at, run_by, write_kept}
+use Rattle.registers.specs.{CursorState, IsAtPart, RegisterAccessKind, ReadsAt, WritesAt, access_on, bit_begun, last_by_run, run_at, run_by, write_kept}
 use Rattle.registers.specs.Progress as registers
 use Rattle.process.specs.{last_of_read, last_of_run, last_of_write}
 
@@ -131,9 +131,9 @@ write-shown c part cur at =
 part-shown : (c : Call) (part : Part) (cur : CursorState) (b : Bool) →
     elim b as (λ _. Type 0) [ true ↦ ReadsAt c.setup c.process (read_at c part) cur | false ↦ WritesAt c.setup c.process (written_at c part) cur ] → registers.last_access cur ≡ last_of_run c part (run_at cur)
 part-shown c part cur true at =
-    ap (λ (r : NumberRun). last_by_run r cur) at.run ∙ read-shown c part cur at ∙ sym (ap (λ (r : NumberRun). last_of_run c part (run_by r cur)) at.run)
+    ap (λ (r : RegisterAccessKind). last_by_run r cur) at.run ∙ read-shown c part cur at ∙ sym (ap (λ (r : RegisterAccessKind). last_of_run c part (run_by r cur)) at.run)
 part-shown c part cur false at =
-    ap (λ (r : NumberRun). last_by_run r cur) at.run ∙ write-shown c part cur at ∙ sym (ap (λ (r : NumberRun). last_of_run c part (run_by r cur)) at.run)
+    ap (λ (r : RegisterAccessKind). last_by_run r cur) at.run ∙ write-shown c part cur at ∙ sym (ap (λ (r : RegisterAccessKind). last_of_run c part (run_by r cur)) at.run)
 
 pub last-shown : (c : Call) (part : Part) (cur : CursorState) → IsAtPart c part cur → registers.last_access cur ≡ last_of_run c part (run_at cur)
 last-shown c part cur at = part-shown c part cur (is_read part) at

@@ -10,7 +10,7 @@ use Rattle.model.specs.safe_number.{NumberWrite, write_on}
 use Rattle.model.specs.declared.stages.Stage.TheVariants as stage
 use Rattle.model.specs.Parts.{Part, Raises, Asks, TakesTicket, Lowers, Refuses, Waits, AsksCommit, AsksStamp, AsksImage, WritesImage, WritesStamp, WritesCommit, Clears, Over, first_marks, is_over, last_marks, part_after, read_at, stage_of, written_at}
 use Rattle.laws.specs.{Closes, Doing, Lies, Rests, Runs, call, does_then, marks_with, runs}
-use Rattle.process.specs.{ProcessState, is_told, left_at, left_of, marks_on, rest_of, stage_doing, stepped}
+use Rattle.process.specs.{ProcessState, is_reported, remaining_at, remaining_of, marks_on, rest_of, stage_doing, stepped}
 
 -- WITHIN A REGISTER ACCESS
 
@@ -37,14 +37,14 @@ abbrev made_of : NumberWrite → ℕ
 made_of w = elim w.run as (λ _. ℕ) [ None ↦ 0 | Some bit ↦ bit.made ]
 
 -- bits that are left
-two-left : (n d : ℕ) → n < n * d → 1 < d
-two-left n zero more = absurd (omega (arith, more))
-two-left n (suc zero) more = absurd (omega (arith, more))
-two-left n (suc (suc d)) more = omega arith
+two-remaining : (n d : ℕ) → n < n * d → 1 < d
+two-remaining n zero more = absurd (omega (arith, more))
+two-remaining n (suc zero) more = absurd (omega (arith, more))
+two-remaining n (suc (suc d)) more = omega arith
 
-one-left : (n d : ℕ) → 0 < n * d → 0 < d
-one-left n zero more = absurd (omega (arith, more))
-one-left n (suc d) more = omega arith
+one-remaining : (n d : ℕ) → 0 < n * d → 0 < d
+one-remaining n zero more = absurd (omega (arith, more))
+one-remaining n (suc d) more = omega arith
 
 one-fewer : (n width bit : ℕ) → bit < width → n * (width - bit) ≡ n * (width - (bit + 1)) + n
 one-fewer n width bit inside = let e : width - bit ≡ suc (width - (bit + 1)) = omega (arith, inside) in ap (λ d. n * d) e ∙ mul-suc n (width - (bit + 1))
@@ -72,11 +72,11 @@ module _ (c : Call) (part : Part) (w : NumberWrite) (v : Bool) where
       ((goes_to w now ends).bit == w.width) ≡ false × (then_rest (goes_to w now ends) + 1 ≡ 2 * (n * d) - now.made) × (is_fresh (Writing (goes_to w now ends)) ≡ false)
   write-by true ends more =
       let all : now.made + 1 ≡ 2 * n = eqb-true (now.made + 1) (2 * n) ends in
-      let many : 1 < d = two-left n d (omega (arith, more, all)) in
+      let many : 1 < d = two-remaining n d (omega (arith, more, all)) in
       let fewer : n * d ≡ n * (w.width - (w.bit + 1)) + n = one-fewer n w.width w.bit (omega (arith, many)) in
       (ne_eqb (w.bit + 1) w.width (omega (arith, many)), omega (arith, fewer, all), ap (λ b. b && true) (ne_eqb (w.bit + 1) 0 (omega arith)))
   write-by false ends more =
-      let some : 0 < d = one-left n d (omega (arith, more)) in
+      let some : 0 < d = one-remaining n d (omega (arith, more)) in
       (ne_eqb w.bit w.width (omega (arith, some)), omega (arith, more), none (w.bit == 0))
     where
       none : (b : Bool) → (b && false) ≡ false
@@ -101,50 +101,50 @@ within c part (Writing w) v more = write-within c part w v more
 
 -- THE ACCESSES LEFT
 
--- the first access of a part that `is_told` rejects has no mark
-untold : (part : Part) → is_told part ≡ false → first_marks part ≡ []
-untold Raises none = refl
-untold (Asks j js ts) none = refl
-untold (TakesTicket t) none = refl
-untold (Lowers t) none = refl
-untold (Refuses full) none = refl
-untold (Waits t w ws) none = refl
-untold (AsksCommit k ks vs) none = refl
-untold (AsksStamp k ks vs commit) none = refl
-untold (AsksImage vs) none = refl
-untold (WritesImage vs st) none = refl
-untold (WritesStamp vs st) none = refl
-untold (WritesCommit vs st) none = refl
-untold (Clears answer) none = absurd (cc)
-untold Over none = refl
+-- the first access of a part that `is_reported` rejects has no mark
+unreported : (part : Part) → is_reported part ≡ false → first_marks part ≡ []
+unreported Raises none = refl
+unreported (Asks j js ts) none = refl
+unreported (TakesTicket t) none = refl
+unreported (Lowers t) none = refl
+unreported (Refuses full) none = refl
+unreported (Waits t w ws) none = refl
+unreported (AsksCommit k ks vs) none = refl
+unreported (AsksStamp k ks vs commit) none = refl
+unreported (AsksImage vs) none = refl
+unreported (WritesImage vs st) none = refl
+unreported (WritesStamp vs st) none = refl
+unreported (WritesCommit vs st) none = refl
+unreported (Clears answer) none = absurd (cc)
+unreported Over none = refl
 
 -- if some accesses are left, they are those before the last one, and the next one has no mark
-left-by : (fresh told : Bool) (marks : List Mark) (rest : ℕ) → (told ≡ false → marks ≡ []) → 0 < cond (fresh && told) 0 (rest - 1) →
-    (1 < rest) × (cond fresh marks [] ≡ []) × (cond (fresh && told) 0 (rest - 1) ≡ rest - 1)
-left-by true true marks rest none more = absurd (omega (arith, more))
-left-by true false marks rest none more = (omega (arith, more), none refl, refl)
-left-by false told marks rest none more = (omega (arith, more), refl, refl)
+remaining-by : (fresh reported : Bool) (marks : List Mark) (rest : ℕ) → (reported ≡ false → marks ≡ []) → 0 < cond (fresh && reported) 0 (rest - 1) →
+    (1 < rest) × (cond fresh marks [] ≡ []) × (cond (fresh && reported) 0 (rest - 1) ≡ rest - 1)
+remaining-by true true marks rest none more = absurd (omega (arith, more))
+remaining-by true false marks rest none more = (omega (arith, more), none refl, refl)
+remaining-by false reported marks rest none more = (omega (arith, more), refl, refl)
 
-pub left-some : (c : Call) (part : Part) (run : Run) → 0 < left_of c part run → (1 < rest_of c part run) × (cond (is_fresh run) (first_marks part) [] ≡ []) × (left_of c part run ≡ rest_of c part run - 1)
-left-some c part run more = left-by (is_fresh run) (is_told part) (first_marks part) (rest_of c part run) (untold part) more
+pub remaining-some : (c : Call) (part : Part) (run : Run) → 0 < remaining_of c part run → (1 < rest_of c part run) × (cond (is_fresh run) (first_marks part) [] ≡ []) × (remaining_of c part run ≡ rest_of c part run - 1)
+remaining-some c part run more = remaining-by (is_fresh run) (is_reported part) (first_marks part) (rest_of c part run) (unreported part) more
 
 -- a call with accesses left is not over
-pub live-by : (over : Bool) (left : ℕ) → 0 < cond over 0 left → (over ≡ false) × (0 < left)
-live-by true left more = absurd (omega (arith, more))
-live-by false left more = (refl, more)
+pub live-by : (over : Bool) (remaining : ℕ) → 0 < cond over 0 remaining → (over ≡ false) × (0 < remaining)
+live-by true remaining more = absurd (omega (arith, more))
+live-by false remaining more = (refl, more)
 
 -- the position after the next access is at the same part
-pub left-place : (c : Call) (at : Place) (v : Bool) → 0 < left_of c at.part at.run → (let same : Place = record { part = at.part; run = run_after c at.part at.run v } in place_after c at v ≡ same)
-left-place c at v more =
+pub remaining-place : (c : Call) (at : Place) (v : Bool) → 0 < remaining_of c at.part at.run → (let same : Place = record { part = at.part; run = run_after c at.part at.run v } in place_after c at v ≡ same)
+remaining-place c at v more =
     let same : Place = record { part = at.part; run = run_after c at.part at.run v } in
-    ap (λ b. cond b (enter c (part_after c at.part (bits_with at.run v))) same) (within c at.part at.run v (left-some c at.part at.run more).0).last
+    ap (λ b. cond b (enter c (part_after c at.part (bits_with at.run v))) same) (within c at.part at.run v (remaining-some c at.part at.run more).0).last
 
 -- the work after the next access
-pub left-runs : (s : Setup) (p : ℕ) (command : Command) (number : ℕ) (at : Place) (flick v : Bool) → is_over at.part ≡ false → 0 < left_of (call s p command number) at.part at.run →
+pub remaining-runs : (s : Setup) (p : ℕ) (command : Command) (number : ℕ) (at : Place) (flick v : Bool) → is_over at.part ≡ false → 0 < remaining_of (call s p command number) at.part at.run →
     (let same : Place = record { part = at.part; run = run_after (call s p command number) at.part at.run v } in does_then s p (Runs command number at) flick v ≡ Runs command number same)
-left-runs s p command number at flick v going more =
+remaining-runs s p command number at flick v going more =
     let same : Place = record { part = at.part; run = run_after (call s p command number) at.part at.run v } in
-    ap (runs command number) (left-place (call s p command number) at v more) ∙ ap (λ b. cond b Rests (Runs command number same)) going
+    ap (runs command number) (remaining-place (call s p command number) at v more) ∙ ap (λ b. cond b Rests (Runs command number same)) going
 
 -- a process with this work
 abbrev does : ProcessState → Doing → ProcessState
@@ -152,42 +152,42 @@ does now d = record now { doing = d }
 
 -- NO MARK
 
-quiet-by : (now : ProcessState) (d : Doing) (flick v : Bool) → 0 < left_at (does now d) → marks_with now.setup now.process d flick v ≡ []
+quiet-by : (now : ProcessState) (d : Doing) (flick v : Bool) → 0 < remaining_at (does now d) → marks_with now.setup now.process d flick v ≡ []
 quiet-by now Rests flick v more = refl
 quiet-by now Lies flick v more = refl
 quiet-by now (Closes command number at) flick v more = absurd (omega (arith, more))
 quiet-by now (Runs command number at) flick v more =
     let c : Call = call now.setup now.process command number in
-    let live = live-by (is_over at.part) (left_of c at.part at.run) more in
-    let left = left-some c at.part at.run live.1 in
-    let last : is_last c at.part at.run ≡ false = (within c at.part at.run v left.0).last in
-    (λ i. left.1 i ++ cond (last i) (last_marks c at.part (bits_with at.run v)) [])
+    let live = live-by (is_over at.part) (remaining_of c at.part at.run) more in
+    let remaining = remaining-some c at.part at.run live.1 in
+    let last : is_last c at.part at.run ≡ false = (within c at.part at.run v remaining.0).last in
+    (λ i. remaining.1 i ++ cond (last i) (last_marks c at.part (bits_with at.run v)) [])
 
 -- none of the accesses that are left has a mark
-pub left-quiet : (now : ProcessState) (flick v : Bool) → 0 < left_at now → marks_on now flick v ≡ []
-left-quiet now flick v more = quiet-by now now.doing flick v more
+pub remaining-quiet : (now : ProcessState) (flick v : Bool) → 0 < remaining_at now → marks_on now flick v ≡ []
+remaining-quiet now flick v more = quiet-by now now.doing flick v more
 
 -- ONE FEWER
 
-fewer-by : (now : ProcessState) (d : Doing) (flick v : Bool) → 0 < left_at (does now d) → left_at (does now (does_then now.setup now.process d flick v)) + 1 ≡ left_at (does now d)
+fewer-by : (now : ProcessState) (d : Doing) (flick v : Bool) → 0 < remaining_at (does now d) → remaining_at (does now (does_then now.setup now.process d flick v)) + 1 ≡ remaining_at (does now d)
 fewer-by now Rests flick v more = absurd (omega (arith, more))
 fewer-by now Lies flick v more = absurd (omega (arith, more))
 fewer-by now (Closes command number at) flick v more = absurd (omega (arith, more))
 fewer-by now (Runs command number at) flick v more =
     let c : Call = call now.setup now.process command number in
-    let live = live-by (is_over at.part) (left_of c at.part at.run) more in
-    let left = left-some c at.part at.run live.1 in
-    let w = within c at.part at.run v left.0 in
+    let live = live-by (is_over at.part) (remaining_of c at.part at.run) more in
+    let remaining = remaining-some c at.part at.run live.1 in
+    let w = within c at.part at.run v remaining.0 in
     let next : Run = run_after c at.part at.run v in
-    let then : left_of c at.part next ≡ rest_of c at.part next - 1 = ap (λ b. cond (b && is_told at.part) 0 (rest_of c at.part next - 1)) w.goes in
-    ap (λ d. left_at (does now d) + 1) (left-runs now.setup now.process command number at flick v live.0 live.1)
-    ∙ ap (λ b. cond b 0 (left_of c at.part next) + 1) live.0
-    ∙ (let e : left_of c at.part next + 1 ≡ left_of c at.part at.run = omega (arith, then, left.0, left.2, w.fewer) in e)
-    ∙ ap (λ b. cond b 0 (left_of c at.part at.run)) (sym live.0)
+    let then : remaining_of c at.part next ≡ rest_of c at.part next - 1 = ap (λ b. cond (b && is_reported at.part) 0 (rest_of c at.part next - 1)) w.goes in
+    ap (λ d. remaining_at (does now d) + 1) (remaining-runs now.setup now.process command number at flick v live.0 live.1)
+    ∙ ap (λ b. cond b 0 (remaining_of c at.part next) + 1) live.0
+    ∙ (let e : remaining_of c at.part next + 1 ≡ remaining_of c at.part at.run = omega (arith, then, remaining.0, remaining.2, w.fewer) in e)
+    ∙ ap (λ b. cond b 0 (remaining_of c at.part at.run)) (sym live.0)
 
 -- after each access one fewer is left
-pub left-fewer : (now : ProcessState) (flick v : Bool) → 0 < left_at now → left_at (stepped now flick v) + 1 ≡ left_at now
-left-fewer now flick v more = fewer-by now now.doing flick v more
+pub remaining-fewer : (now : ProcessState) (flick v : Bool) → 0 < remaining_at now → remaining_at (stepped now flick v) + 1 ≡ remaining_at now
+remaining-fewer now flick v more = fewer-by now now.doing flick v more
 
 -- THE STAGE
 
@@ -211,20 +211,20 @@ stage-same f same (Clears answer) false true = sym same
 stage-same f same (Clears answer) false false = refl
 stage-same f same Over a b = refl
 
-stays-by : (now : ProcessState) (d : Doing) (flick v : Bool) → 0 < left_at (does now d) →
+stays-by : (now : ProcessState) (d : Doing) (flick v : Bool) → 0 < remaining_at (does now d) →
     (is_waiting_stage (stage_doing (does_then now.setup now.process d flick v)) ≡ is_waiting_stage (stage_doing d)) × (is_queued (stage_doing (does_then now.setup now.process d flick v)) ≡ is_queued (stage_doing d))
 stays-by now Rests flick v more = (refl, refl)
 stays-by now Lies flick v more = (refl, refl)
 stays-by now (Closes command number at) flick v more = absurd (omega (arith, more))
 stays-by now (Runs command number at) flick v more =
     let c : Call = call now.setup now.process command number in
-    let live = live-by (is_over at.part) (left_of c at.part at.run) more in
-    let then = left-runs now.setup now.process command number at flick v live.0 live.1 in (
+    let live = live-by (is_over at.part) (remaining_of c at.part at.run) more in
+    let then = remaining-runs now.setup now.process command number at flick v live.0 live.1 in (
       ap (λ d. is_waiting_stage (stage_doing d)) then ∙ stage-same is_waiting_stage refl at.part (is_fresh (run_after c at.part at.run v)) (is_fresh at.run),
       ap (λ d. is_queued (stage_doing d)) then ∙ stage-same is_queued refl at.part (is_fresh (run_after c at.part at.run v)) (is_fresh at.run),
     )
 
 -- whether it waits, and whether it is in its doorway or waits, is the same after the access as before
-pub left-stays : (now : ProcessState) (flick v : Bool) → 0 < left_at now →
+pub remaining-stays : (now : ProcessState) (flick v : Bool) → 0 < remaining_at now →
     (is_waiting_stage (stage_doing (stepped now flick v).doing) ≡ is_waiting_stage (stage_doing now.doing)) × (is_queued (stage_doing (stepped now flick v).doing) ≡ is_queued (stage_doing now.doing))
-left-stays now flick v more = stays-by now now.doing flick v more
+remaining-stays now flick v more = stays-by now now.doing flick v more

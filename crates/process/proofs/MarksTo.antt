@@ -5,9 +5,9 @@ use Rattle.plain_store.specs.{Contents, Reply, changes}
 use Rattle.model.specs.{Call, Mark, Version, Wait, entered_if_none, lets_by, max_of, newest_stamp, processes, reply, store_read, waits_of}
 use Rattle.model.specs.declared.marks.Mark.TheVariants as mark
 use Rattle.model.specs.Parts.{Part, Raises, Asks, TakesTicket, Lowers, Refuses, Waits, AsksCommit, AsksStamp, AsksImage, WritesImage, WritesStamp, WritesCommit, Clears, Over, last_marks, part_after, to_d, to_e, to_g}
-use Rattle.process.specs.{ProcessPart, marks_lowered, marks_taken, marks_to, marks_waited, part_at, reads_image, versions_seen}
-use Rattle.process.specs.declared.part.ProcessPart.TheVariants as at
-use Rattle.process.specs.declared.seen.Seen.{Seen}
+use Rattle.process.specs.{ProgramPoint, marks_lowered, marks_taken, marks_to, marks_waited, part_at, reads_image, versions_seen}
+use Rattle.process.specs.declared.part.ProgramPoint.TheVariants as at
+use Rattle.process.specs.declared.values_read.ValuesRead.{ValuesRead}
 
 inside-waited : (ks : List ℕ) (vs : List Version) → marks_waited (to_e ks vs) ≡ mark.Entered ∷ []
 inside-waited [] vs = refl
@@ -49,7 +49,7 @@ marks-to c (Clears a) bits = refl
 marks-to c Over bits = refl
 
 -- only one part reads the image
-image-part : (c : Call) (seen : Seen) (part : ProcessPart) → reads_image (part_at c seen part) ≡ true → part ≡ at.AsksImage
+image-part : (c : Call) (seen : ValuesRead) (part : ProgramPoint) → reads_image (part_at c seen part) ≡ true → part ≡ at.AsksImage
 image-part c seen at.Raises reads = absurd (cc)
 image-part c seen (at.Asks j) reads = absurd (cc)
 image-part c seen (at.TakesTicket t) reads = absurd (cc)
@@ -66,7 +66,7 @@ image-part c seen at.WritesCommit reads = absurd (cc)
 image-part c seen (at.Clears a) reads = absurd (cc)
 image-part c seen at.Over reads = absurd (cc)
 
-pub after-image : (c : Call) (seen : Seen) (part : ProcessPart) (bits : List Bool) (store : Contents) (next : Part) → reads_image (part_at c seen part) ≡ true → store_read c bits ≡ store →
+pub after-image : (c : Call) (seen : ValuesRead) (part : ProgramPoint) (bits : List Bool) (store : Contents) (next : Part) → reads_image (part_at c seen part) ≡ true → store_read c bits ≡ store →
     next ≡ to_g c (versions_seen c.setup.processes seen) store → next ≡ part_after c (part_at c seen part) bits
 after-image c seen part bits store next reads is goes =
     goes ∙ ap (to_g c (versions_seen c.setup.processes seen)) (sym is)

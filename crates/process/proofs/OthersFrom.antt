@@ -33,16 +33,16 @@ others-next n p (suc m) k all = by (k == p) refl
     own (suc m) e all =
         let is : k ≡ p = eqb-true k p e in
         let more : ((k + 1) == p) ≡ false = grind (arith, nat_tests) in
-        let left : n - (k + 1 + 1) ≡ m = omega arith in
+        let remaining : n - (k + 1 + 1) ≡ m = omega arith in
         ap (λ b. cond (not b) ((k + 1) ∷ others_in p (k + 1 + 1) m) (others_in p (k + 1 + 1) m)) more
-        ∙ ap (λ i. (k + 1) ∷ others_in p (k + 1 + 1) i) (sym left)
+        ∙ ap (λ i. (k + 1) ∷ others_in p (k + 1 + 1) i) (sym remaining)
         ∙ sym (ap (λ b. listed n p (cond b (Some (k + 1)) None)) (lt-ltb (k + 1) n (omega arith)))
 
     by : (b : Bool) → (k == p) ≡ b → cond (not b) (k ∷ others_in p (k + 1) m) (others_in p (k + 1) m) ≡ listed n p (cond (nat_lt (cond b (k + 1) k) n) (Some (cond b (k + 1) k)) None)
     by true e = own m e all
     by false e =
-        let left : n - (k + 1) ≡ m = omega arith in
-        ap (λ i. k ∷ others_in p (k + 1) i) (sym left) ∙ sym (ap (λ b. listed n p (cond b (Some k) None)) (lt-ltb k n (omega arith)))
+        let remaining : n - (k + 1) ≡ m = omega arith in
+        ap (λ i. k ∷ others_in p (k + 1) i) (sym remaining) ∙ sym (ap (λ b. listed n p (cond b (Some k) None)) (lt-ltb k n (omega arith)))
 
 pub others-from : (n p k : ℕ) → k ≤ n → others_from n p k ≡ listed n p (first_other n p k)
 others-from n p k within = others-next n p (n - k) k (omega arith)

@@ -7,7 +7,7 @@ use Rattle.std.specs.Int.{bit_at}
 use Rattle.model.specs.safe_number.{bit_in, bits_in, number_of_bits}
 use Rattle.model.proofs.safe_number.Numbers.{range_same}
 use Rattle.registers.specs.{CursorState, IsDone, entered, reading, writing}
-use Rattle.registers.specs.declared.cursor.NumberRun.TheVariants.{Reads, Writes}
+use Rattle.registers.specs.declared.cursor.RegisterAccessKind.TheVariants.{Reads, Writes}
 use Rattle.registers.proofs.CursorRuns.{same-after, same-marks}
 use Rattle.process.specs.{IsOutcome, writes_image}
 

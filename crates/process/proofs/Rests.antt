@@ -7,9 +7,9 @@ use Rattle.model.specs.{Call, Part, is_read, read_at, written_at}
 use Rattle.model.specs.Places as places
 use Rattle.registers.specs.{CursorState, IsAtPart, ReadsAt, WritesAt, bit_begun, is_fresh, made_of_bit, rest_by, run_at, run_by}
 use Rattle.registers.specs.Cursors as cursors
-use Rattle.registers.specs.declared.cursor.NumberRun.TheVariants.{Reads, Writes}
+use Rattle.registers.specs.declared.cursor.RegisterAccessKind.TheVariants.{Reads, Writes}
 use Rattle.registers.proofs.CursorRuns.{Moves, moves}
-use Rattle.process.specs.{is_told, left_of, rest_of}
+use Rattle.process.specs.{is_reported, remaining_of, rest_of}
 
 -- the accesses made of the present bit
 begun-made : (made : ℕ) (value : Bool) → elim (bit_begun made value) as (λ _. ℕ) [ None ↦ 0 | Some bit ↦ bit.made ] ≡ made
@@ -46,8 +46,8 @@ rest-is c part cur at = by (is_read part) at
     by false writes = rest-write c part cur writes
 
 -- the accesses before the last one
-pub left-before : (c : Call) (part : Part) (cur : CursorState) → IsAtPart c part cur → (is_fresh cur && is_told part) ≡ false → left_of c part (run_at cur) ≡ cursors.rest_of cur - 1
-left-before c part cur at none =
+pub remaining-before : (c : Call) (part : Part) (cur : CursorState) → IsAtPart c part cur → (is_fresh cur && is_reported part) ≡ false → remaining_of c part (run_at cur) ≡ cursors.rest_of cur - 1
+remaining-before c part cur at none =
     let m : Moves c part cur false = moves c part cur false at in
-    ap (λ b. cond b 0 (rest_of c part (run_at cur) - 1)) (ap (λ b. b && is_told part) m.fresh ∙ none)
+    ap (λ b. cond b 0 (rest_of c part (run_at cur) - 1)) (ap (λ b. b && is_reported part) m.fresh ∙ none)
     ∙ ap (λ n. n - 1) (rest-is c part cur at)

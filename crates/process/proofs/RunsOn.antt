@@ -4,12 +4,12 @@ use Rattle.std.proofs.lemmas.List.{append-nil}
 use Rattle.model.specs.{Mark, Part, enter, first_marks, is_over, last_marks, part_after}
 use Rattle.model.specs.declared.marks.Mark.TheVariants as mark
 use Rattle.laws.specs.{Rests, Runs, runs}
-use Rattle.registers.specs.{CursorState, IsAtPart, NumberRun, RegisterName, after_by, entered, marks_moved, move_by, moved, place_at, place_moved}
+use Rattle.registers.specs.{CursorState, IsAtPart, RegisterAccessKind, RegisterName, after_by, entered, marks_moved, move_by, moved, place_at, place_moved}
 use Rattle.registers.specs.Cursors as cursors
-use Rattle.registers.specs.declared.cursor.NumberRun.TheVariants.{Reads, Writes, Settles}
+use Rattle.registers.specs.declared.cursor.RegisterAccessKind.TheVariants.{Reads, Writes, Settles}
 use Rattle.registers.proofs.CursorRuns.{moves}
 use Rattle.registers.proofs.PlaceMoves.{entered-place, marks-move, place-moves}
-use Rattle.process.specs.declared.work.ProcessWork.TheVariants as work
+use Rattle.process.specs.declared.activity.Activity.TheVariants as work
 use Rattle.process.specs.{HasMoved, KeepsPlace, PartState, marks_on, state_at, stepped, with_doing}
 
 -- the position after its next access
@@ -76,10 +76,10 @@ marks-past k flick value before cur fresh h over =
     ∙ ap (λ b. cond b (first_marks k.part) [] ++ last_marks k.call k.part cur.bits) (h.first ∙ m.begins done)
 
 -- the outcome that the code returns within a register access
-pub first-told : (k : PartState) (fresh leaves : Bool) → first_marks k.part ≡ cond leaves (mark.Left ∷ []) [] → cond (leaves && fresh) (let left : List Mark = mark.Left ∷ [] in left) [] ≡ cond fresh (first_marks k.part) []
-first-told k fresh leaves is = by fresh leaves ∙ ap (λ marks. cond fresh marks []) (sym is)
+pub first-reported : (k : PartState) (fresh leaves : Bool) → first_marks k.part ≡ cond leaves (mark.Left ∷ []) [] → cond (leaves && fresh) (let remaining : List Mark = mark.Left ∷ [] in remaining) [] ≡ cond fresh (first_marks k.part) []
+first-reported k fresh leaves is = by fresh leaves ∙ ap (λ marks. cond fresh marks []) (sym is)
   where
-    by : (fresh leaves : Bool) → cond (leaves && fresh) (let left : List Mark = mark.Left ∷ [] in left) [] ≡ cond fresh (cond leaves (mark.Left ∷ []) []) []
+    by : (fresh leaves : Bool) → cond (leaves && fresh) (let remaining : List Mark = mark.Left ∷ [] in remaining) [] ≡ cond fresh (cond leaves (mark.Left ∷ []) []) []
     by true true = refl
     by true false = refl
     by false true = refl
@@ -89,7 +89,7 @@ first-told k fresh leaves is = by fresh leaves ∙ ap (λ marks. cond fresh mark
 pub moved-register : (cur : CursorState) (v : Bool) → (moved cur v).register ≡ cur.register
 moved-register cur v = by cur.run
   where
-    by : (run : NumberRun) → (after_by run cur (move_by run cur v)).register ≡ cur.register
+    by : (run : RegisterAccessKind) → (after_by run cur (move_by run cur v)).register ≡ cur.register
     by Reads = refl
     by Writes = refl
     by (Settles cut value) = refl

@@ -8,15 +8,15 @@ use Rattle.registers.specs.reader_copies.{is_open_at}
 use Rattle.plain_store.specs.{Reply, Setup}
 use Rattle.model.specs.{Access, Call, Field, Part, Place, ended, is_over, is_read, read_at, run_after, value_of, width, written_at}
 use Rattle.laws.specs.{Runs}
-use Rattle.registers.specs.{AreOf, CursorState, Fits, IsAtCopy, IsAtPart, NumberRun, ReadsAt, WritesAt, answered, applied, cell_at, cursor_after, ends_overlapped, is_fresh, is_settling, lane_of_access, move_by, moved, next_access, next_answered, overlapped_of, read_move, run_at, run_of}
+use Rattle.registers.specs.{AreOf, CursorState, Fits, IsAtCopy, IsAtPart, RegisterAccessKind, ReadsAt, WritesAt, answered, applied, cell_at, cursor_after, ends_overlapped, is_fresh, is_settling, lane_of_access, move_by, moved, next_access, next_answered, overlapped_of, read_move, run_at, run_of}
 use Rattle.registers.specs.Accesses as registers
-use Rattle.registers.specs.declared.cursor.NumberRun.TheVariants as run
+use Rattle.registers.specs.declared.cursor.RegisterAccessKind.TheVariants as run
 use Rattle.registers.proofs.CursorRuns.{Moves, moves}
 use Rattle.registers.proofs.Openings.{setup-fits}
 use Rattle.registers.proofs.Runs.{same-by}
-use Rattle.process.specs.{HasMoved, KeepsPlace, PartState, ProcessState, ProcessWork, SettlesAt, answered_at, answered_next, doing_at, given, left_at, left_of, may_step, newest_of, overlapped_steps, overlaps_step, state_at, step_by, step_of, stepped, steps_of}
-use Rattle.process.specs.declared.work.ProcessWork.TheVariants as work
-use Rattle.process.proofs.Left.{left-fewer, left-runs, left-some, live-by, within}
+use Rattle.process.specs.{HasMoved, KeepsPlace, PartState, ProcessState, Activity, SettlesAt, answered_at, answered_next, doing_at, given, remaining_at, remaining_of, may_step, newest_of, overlapped_steps, overlaps_step, state_at, step_by, step_of, stepped, steps_of}
+use Rattle.process.specs.declared.activity.Activity.TheVariants as work
+use Rattle.process.proofs.Left.{remaining-fewer, remaining-runs, remaining-some, live-by, within}
 use Rattle.process.proofs.NextAt.{next-is}
 
 -- THE POSITION OF THE CURSOR
@@ -36,7 +36,7 @@ reads-stand s p register cur at inside owner = record {
   copies = at.copies;
   wide = at.wide ∙ ap (λ r. width s r.field) (sym at.at);
   inside = omega (arith, at.reader, at.copy, at.copies, inside);
-  at = let P : NumberRun → Type 0 = λ r. IsAtCopy r cur.reader cur.copy in subst P (sym at.run) at.copy;
+  at = let P : RegisterAccessKind → Type 0 = λ r. IsAtCopy r cur.reader cur.copy in subst P (sym at.run) at.copy;
   going = at.going;
 }
 
@@ -46,7 +46,7 @@ writes-stand s p written cur at inside = record {
   copies = at.copies;
   wide = at.wide ∙ ap (λ r. width s r.field) (sym at.at);
   inside = omega (arith, at.reader, at.copy);
-  at = let P : NumberRun → Type 0 = λ r. IsAtCopy r cur.reader cur.copy in subst P (sym at.run) at.reader;
+  at = let P : RegisterAccessKind → Type 0 = λ r. IsAtCopy r cur.reader cur.copy in subst P (sym at.run) at.reader;
   going = at.going;
 }
 
@@ -64,11 +64,11 @@ settles-stand s p taken cur at inside = record {
   copies = at.copies;
   wide = at.wide;
   inside = omega (arith, at.reader, at.copy);
-  at = let P : NumberRun → Type 0 = λ r. IsAtCopy r cur.reader cur.copy in subst P (sym at.run) at.reader;
+  at = let P : RegisterAccessKind → Type 0 = λ r. IsAtCopy r cur.reader cur.copy in subst P (sym at.run) at.reader;
   going = at.going;
 }
 
-pub stands : (k : PartState) (w : ProcessWork) (cur : CursorState) → KeepsPlace k w cur → may_step (doing_at k w cur) ≡ true → Stands k.call.setup cur
+pub stands : (k : PartState) (w : Activity) (cur : CursorState) → KeepsPlace k w cur → may_step (doing_at k w cur) ≡ true → Stands k.call.setup cur
 stands k work.Rests cur keeps goes = absurd (cc)
 stands k work.Lies cur keeps goes = absurd (cc)
 stands k work.Runs cur keeps goes = (runs-stand k cur keeps).0
@@ -84,7 +84,7 @@ stands-fit s memory cur of at = setup-fits s memory cur of at.owner at.copies at
 -- THE VALUE OF ITS ACCESS
 
 -- the end of a read has no value yet, and the access of a write has no flick
-plain-move : (r : NumberRun) (cur : CursorState) (begun : Bool) (v x y : Bool) → cur.begun ≡ begun → is_settling r ≡ false → ended v (move_by r cur x) ≡ ended v (move_by r cur y)
+plain-move : (r : RegisterAccessKind) (cur : CursorState) (begun : Bool) (v x y : Bool) → cur.begun ≡ begun → is_settling r ≡ false → ended v (move_by r cur x) ≡ ended v (move_by r cur y)
 plain-move run.Reads cur true v x y is plain = let P : Bool → Type 0 = λ b. ended v (read_move b x) ≡ ended v (read_move b y) in subst P (sym is) refl
 plain-move run.Reads cur false v x y is plain = let P : Bool → Type 0 = λ b. ended v (read_move b x) ≡ ended v (read_move b y) in subst P (sym is) refl
 plain-move run.Writes cur begun v x y is plain = refl
@@ -96,7 +96,7 @@ answered-plain cur n memory flick x y plain =
     λ i. record { owner = cur.register.owner; field = cur.register.field; bit = cur.bit; reader = cur.reader + cur.copy; how = plain-move cur.run cur cur.begun v x y refl plain i }
 
 -- the access of its work
-plain-works : (k : PartState) (w : ProcessWork) (cur : CursorState) (memory : List (List Cell)) (flick : Bool) → KeepsPlace k w cur → may_step (doing_at k w cur) ≡ true →
+plain-works : (k : PartState) (w : Activity) (cur : CursorState) (memory : List (List Cell)) (flick : Bool) → KeepsPlace k w cur → may_step (doing_at k w cur) ≡ true →
     answered cur.copies memory flick (next_access cur (given w flick false)) ≡ next_answered cur memory flick
 plain-works k work.Rests cur memory flick keeps goes = absurd (cc)
 plain-works k work.Lies cur memory flick keeps goes = absurd (cc)
@@ -106,7 +106,7 @@ plain-works k (work.Settles inside taken) cur memory flick keeps goes = refl
 plain-works k (work.Frees inside) cur memory flick keeps goes = answered-plain cur cur.copies memory flick false flick (ap is_settling keeps.working.run)
 plain-works k work.Lowers cur memory flick keeps goes = answered-plain cur cur.copies memory flick false flick (ap is_settling keeps.working.run)
 
-pub answered-is : (k : PartState) (w : ProcessWork) (cur : CursorState) (memory : List (List Cell)) (flick : Bool) → KeepsPlace k w cur → may_step (doing_at k w cur) ≡ true →
+pub answered-is : (k : PartState) (w : Activity) (cur : CursorState) (memory : List (List Cell)) (flick : Bool) → KeepsPlace k w cur → may_step (doing_at k w cur) ≡ true →
     next_answered cur memory flick ≡ answered_at (state_at k w cur) memory flick
 answered-is k w cur memory flick keeps goes =
     sym (plain-works k w cur memory flick keeps goes)
@@ -116,17 +116,17 @@ answered-is k w cur memory flick keeps goes =
 -- WITHIN A REGISTER ACCESS
 
 -- accesses are left of a call that runs
-pub left-works : (k : PartState) (w : ProcessWork) (cur : CursorState) → 0 < left_at (state_at k w cur) → w ≡ work.Runs
-left-works k work.Rests cur more = absurd (omega (arith, more))
-left-works k work.Lies cur more = absurd (omega (arith, more))
-left-works k work.Runs cur more = refl
-left-works k work.Withdraws cur more = absurd (omega (arith, more))
-left-works k (work.Settles inside taken) cur more = absurd (omega (arith, more))
-left-works k (work.Frees inside) cur more = absurd (omega (arith, more))
-left-works k work.Lowers cur more = absurd (omega (arith, more))
+pub remaining-works : (k : PartState) (w : Activity) (cur : CursorState) → 0 < remaining_at (state_at k w cur) → w ≡ work.Runs
+remaining-works k work.Rests cur more = absurd (omega (arith, more))
+remaining-works k work.Lies cur more = absurd (omega (arith, more))
+remaining-works k work.Runs cur more = refl
+remaining-works k work.Withdraws cur more = absurd (omega (arith, more))
+remaining-works k (work.Settles inside taken) cur more = absurd (omega (arith, more))
+remaining-works k (work.Frees inside) cur more = absurd (omega (arith, more))
+remaining-works k work.Lowers cur more = absurd (omega (arith, more))
 
 -- the move of the memory is the next one with its value
-moved-by : (r : NumberRun) (cur : CursorState) (begun : Bool) (v x : Bool) → cur.begun ≡ begun → is_settling r ≡ false → move_by r cur (value_of (ended v (move_by r cur x))) ≡ ended v (move_by r cur x)
+moved-by : (r : RegisterAccessKind) (cur : CursorState) (begun : Bool) (v x : Bool) → cur.begun ≡ begun → is_settling r ≡ false → move_by r cur (value_of (ended v (move_by r cur x))) ≡ ended v (move_by r cur x)
 moved-by run.Reads cur true v x is plain = let P : Bool → Type 0 = λ b. read_move b (value_of (ended v (read_move b x))) ≡ ended v (read_move b x) in subst P (sym is) refl
 moved-by run.Reads cur false v x is plain = let P : Bool → Type 0 = λ b. read_move b (value_of (ended v (read_move b x))) ≡ ended v (read_move b x) in subst P (sym is) refl
 moved-by run.Writes cur true v x is plain = let P : Bool → Type 0 = λ b. cond b EndWrite (BeginWrite (get_or cur.bits cur.bit false)) ≡ ended v (cond b EndWrite (BeginWrite (get_or cur.bits cur.bit false))) in subst P (sym is) refl
@@ -144,11 +144,11 @@ settle-moved true torn v x = refl
 settle-moved false true v x = refl
 settle-moved false false v x = refl
 
-settling-moved : (r : NumberRun) (cut : ℕ) (value : Option Bool) (cur : CursorState) (v x : Bool) → r ≡ run.Settles cut value → move_by r cur x ≡ ended v (move_by r cur x)
-settling-moved r cut value cur v x is = let P : NumberRun → Type 0 = λ r. move_by r cur x ≡ ended v (move_by r cur x) in subst P (sym is) (settle-moved cur.begun (is_open_at cut cur.copy) v (unwrap_or value x))
+settling-moved : (r : RegisterAccessKind) (cut : ℕ) (value : Option Bool) (cur : CursorState) (v x : Bool) → r ≡ run.Settles cut value → move_by r cur x ≡ ended v (move_by r cur x)
+settling-moved r cut value cur v x is = let P : RegisterAccessKind → Type 0 = λ r. move_by r cur x ≡ ended v (move_by r cur x) in subst P (sym is) (settle-moved cur.begun (is_open_at cut cur.copy) v (unwrap_or value x))
 
 -- the cursor of any work advances by the value that the memory returns
-pub works-moved : (k : PartState) (w : ProcessWork) (cur : CursorState) (memory : List (List Cell)) (flick : Bool) → KeepsPlace k w cur → may_step (doing_at k w cur) ≡ true →
+pub works-moved : (k : PartState) (w : Activity) (cur : CursorState) (memory : List (List Cell)) (flick : Bool) → KeepsPlace k w cur → may_step (doing_at k w cur) ≡ true →
     let how : Move = (next_answered cur memory flick).how in cursor_after cur how ≡ moved cur (given w flick (value_of how))
 works-moved k work.Rests cur memory flick keeps goes = absurd (cc)
 works-moved k work.Lies cur memory flick keeps goes = absurd (cc)
@@ -161,14 +161,14 @@ works-moved k (work.Settles inside taken) cur memory flick keeps goes =
 works-moved k (work.Frees inside) cur memory flick keeps goes = sym (cursor-moves cur memory flick (ap is_settling keeps.working.run))
 works-moved k work.Lowers cur memory flick keeps goes = sym (cursor-moves cur memory flick (ap is_settling keeps.working.run))
 
-pub step-moved : {k : PartState} {w : ProcessWork} {fresh : Bool} {a : Access} {before cur : CursorState} (memory : List (List Cell)) (flick : Bool) → KeepsPlace k w before → may_step (doing_at k w before) ≡ true → a ≡ next_answered before memory flick → cur ≡ cursor_after before a.how → fresh ≡ is_fresh before →
+pub step-moved : {k : PartState} {w : Activity} {fresh : Bool} {a : Access} {before cur : CursorState} (memory : List (List Cell)) (flick : Bool) → KeepsPlace k w before → may_step (doing_at k w before) ≡ true → a ≡ next_answered before memory flick → cur ≡ cursor_after before a.how → fresh ≡ is_fresh before →
     HasMoved k w flick (value_of a.how) before cur fresh
 step-moved {k} {w} {fresh} {a} {before} {cur} memory flick keeps may is goes first =
     let P : Access → Type 0 = λ a. cursor_after before a.how ≡ moved before (given w flick (value_of a.how)) in
     record { keeps = keeps; goes = may; moves = goes ∙ subst P (sym is) (works-moved k w before memory flick keeps may); first = first }
 
 -- the process advances with its cursor, at its part
-pub serves-one : (k : PartState) (cur : CursorState) (memory : List (List Cell)) (flick : Bool) → KeepsPlace k work.Runs cur → 0 < left_at (state_at k work.Runs cur) →
+pub serves-one : (k : PartState) (cur : CursorState) (memory : List (List Cell)) (flick : Bool) → KeepsPlace k work.Runs cur → 0 < remaining_at (state_at k work.Runs cur) →
     let how : Move = (next_answered cur memory flick).how in
     KeepsPlace k work.Runs (cursor_after cur how) × (state_at k work.Runs (cursor_after cur how) ≡ stepped (state_at k work.Runs cur) flick (value_of how))
 serves-one k cur memory flick keeps more =
@@ -177,12 +177,12 @@ serves-one k cur memory flick keeps more =
     let v : Bool = value_of how in
     let next : CursorState = cursor_after cur how in
     let goes : moved cur v ≡ next = cursor-moves cur memory flick (runs-stand k cur keeps).1 in
-    let live = live-by (is_over k.part) (left_of c k.part (run_at cur)) more in
+    let live = live-by (is_over k.part) (remaining_of c k.part (run_at cur)) more in
     let m : Moves c k.part cur v = moves c k.part cur v keeps.working.at in
-    let w = within c k.part (run_at cur) v (left-some c k.part (run_at cur) live.1).0 in
+    let w = within c k.part (run_at cur) v (remaining-some c k.part (run_at cur) live.1).0 in
     let at : Place = record { part = k.part; run = run_at cur } in
     let run_is : run_after c k.part (run_at cur) v ≡ run_at next = m.run ∙ ap run_at goes in
-    let then = left-runs c.setup c.process c.command c.number at flick v live.0 live.1 in (
+    let then = remaining-runs c.setup c.process c.command c.number at flick v live.0 live.1 in (
       record {
         call = keeps.call;
         working = record {
@@ -195,7 +195,7 @@ serves-one k cur memory flick keeps more =
     )
 
 -- one step of it is one access of its cursor
-pub serves-step : (k : PartState) (cur : CursorState) (memory : List (List Cell)) (flick : Bool) → KeepsPlace k work.Runs cur → 0 < left_at (state_at k work.Runs cur) →
+pub serves-step : (k : PartState) (cur : CursorState) (memory : List (List Cell)) (flick : Bool) → KeepsPlace k work.Runs cur → 0 < remaining_at (state_at k work.Runs cur) →
     let a : Access = next_answered cur memory flick in
     (let then : ProcessState × List (List Cell) = (state_at k work.Runs (cursor_after cur a.how), applied cur.copies memory a) in then ≡ step_by flick (state_at k work.Runs cur, memory))
 serves-step k cur memory flick keeps more =
@@ -212,28 +212,28 @@ serves-step k cur memory flick keeps more =
 -- the invariant after n accesses of the cursor and n steps
 pub record Served (made : ℕ) (k : PartState) (cur : CursorState) (memory : List (List Cell)) (flicks : FlickState) : Type 0 where
   pub keeps : KeepsPlace k work.Runs (run_of made (cur, memory, flicks)).0
-  pub left : left_at (state_at k work.Runs (run_of made (cur, memory, flicks)).0) + made ≡ left_at (state_at k work.Runs cur)
+  pub remaining : remaining_at (state_at k work.Runs (run_of made (cur, memory, flicks)).0) + made ≡ remaining_at (state_at k work.Runs cur)
   pub now : (let then : ProcessState × List (List Cell) × FlickState = (state_at k work.Runs (run_of made (cur, memory, flicks)).0, (run_of made (cur, memory, flicks)).1, (run_of made (cur, memory, flicks)).2) in then ≡ steps_of made (state_at k work.Runs cur, memory, flicks))
   pub newest : registers.newest_of made (cur, memory, flicks) ≡ newest_of made (state_at k work.Runs cur, memory, flicks)
   pub overlapped : overlapped_of made (cur, memory, flicks) ≡ overlapped_steps made (state_at k work.Runs cur, memory, flicks)
 
-pub served : (made : ℕ) (k : PartState) (cur : CursorState) (memory : List (List Cell)) (flicks : FlickState) → KeepsPlace k work.Runs cur → made ≤ left_at (state_at k work.Runs cur) → Served made k cur memory flicks
-served zero k cur memory flicks keeps within = record { keeps = keeps; left = omega arith; now = refl; newest = answered-is k work.Runs cur memory (flick_of flicks) keeps refl; overlapped = refl }
+pub served : (made : ℕ) (k : PartState) (cur : CursorState) (memory : List (List Cell)) (flicks : FlickState) → KeepsPlace k work.Runs cur → made ≤ remaining_at (state_at k work.Runs cur) → Served made k cur memory flicks
+served zero k cur memory flicks keeps within = record { keeps = keeps; remaining = omega arith; now = refl; newest = answered-is k work.Runs cur memory (flick_of flicks) keeps refl; overlapped = refl }
 served (suc made) k cur memory flicks keeps within =
     let before : Served made k cur memory flicks = served made k cur memory flicks keeps (omega (arith, within)) in
     let x : CursorState × List (List Cell) × FlickState = run_of made (cur, memory, flicks) in
     let flick : Bool = flick_of x.2 in
-    let more : 0 < left_at (state_at k work.Runs x.0) = omega (arith, before.left, within) in
+    let more : 0 < remaining_at (state_at k work.Runs x.0) = omega (arith, before.remaining, within) in
     let a : Access = next_answered x.0 x.1 flick in
     let one = serves-one k x.0 x.1 flick before.keeps more in
     let step = serves-step k x.0 x.1 flick before.keeps more in
-    let fewer : left_at (stepped (state_at k work.Runs x.0) flick (value_of a.how)) + 1 ≡ left_at (state_at k work.Runs x.0) = left-fewer (state_at k work.Runs x.0) flick (value_of a.how) more in
+    let fewer : remaining_at (stepped (state_at k work.Runs x.0) flick (value_of a.how)) + 1 ≡ remaining_at (state_at k work.Runs x.0) = remaining-fewer (state_at k work.Runs x.0) flick (value_of a.how) more in
     let start : ProcessState × List (List Cell) × FlickState = (state_at k work.Runs cur, memory, flicks) in
     let copies : x.0.copies ≡ k.call.setup.processes = (runs-stand k x.0 before.keeps).0.copies in
     let same : a ≡ answered_at (state_at k work.Runs x.0) x.1 flick = answered-is k work.Runs x.0 x.1 flick before.keeps refl in
     record {
       keeps = one.0;
-      left = omega (arith, ap left_at one.1, fewer, before.left);
+      remaining = omega (arith, ap remaining_at one.1, fewer, before.remaining);
       now =
           (λ i. ((step i).0, (step i).1, after_flick x.2))
           ∙ ap step_of before.now;

@@ -10,9 +10,9 @@ use Rattle.model.specs.Closings as closing
 use Rattle.model.specs.{freeing, is_last_settled, settled_marks}
 use Rattle.laws.specs.{Closes}
 use Rattle.registers.specs.{CursorState, after_by, ends_copy, ends_settling, is_over, move_by, moved, settling_kept, value_written}
-use Rattle.registers.specs.declared.cursor.NumberRun.TheVariants.{Settles}
+use Rattle.registers.specs.declared.cursor.RegisterAccessKind.TheVariants.{Settles}
 use Rattle.registers.proofs.Steps.{copy_inside}
-use Rattle.process.specs.declared.work.ProcessWork.TheVariants as work
+use Rattle.process.specs.declared.activity.Activity.TheVariants as work
 use Rattle.process.specs.{HasMoved, KeepsPlace, PartState, ProcessState, SettlesAt, marks_on, reply_taken, settling_at, state_at, stepped, with_doing}
 use Rattle.process.proofs.ClosingsOn.{clearing, then_closes}
 

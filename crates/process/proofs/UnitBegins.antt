@@ -8,7 +8,7 @@ use Rattle.model.specs.safe_number.{bits_in}
 use Rattle.model.proofs.safe_number.Numbers.{get-bits, length_bits}
 use Rattle.laws.specs.{Doing, Closes}
 use Rattle.registers.specs.{settling_from}
-use Rattle.process.specs.declared.work.ProcessWork.TheVariants as work
+use Rattle.process.specs.declared.activity.Activity.TheVariants as work
 use Rattle.process.specs.{IsCall, KeepsPlace, PartState, settling_with, state_at, with_doing}
 
 some-value : (value : Option Bool) → is_some value ≡ true → (v : Bool) × (value ≡ Some v)

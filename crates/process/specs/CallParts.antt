@@ -5,8 +5,8 @@ use Rattle.model.specs.{Call, Mark, width}
 use Rattle.model.specs.declared.marks.Mark.TheVariants as mark
 use Rattle.model.specs.Parts.{Part, Lowers, Refuses, Waits, AsksCommit, AsksImage, WritesImage, WritesCommit, Clears, is_over, is_read, read_at, written_at}
 use Rattle.model.specs.safe_number.{bits_of_number, number_of_bits}
-use Rattle.process.specs.declared.asked.Asked.{Asked}
-use Rattle.process.specs.declared.asked.Asked.TheVariants as asks
+use Rattle.process.specs.declared.access_request.AccessRequest.{AccessRequest}
+use Rattle.process.specs.declared.access_request.AccessRequest.TheVariants as asks
 
 -- a call and its present part
 pub record PartState : Type 0 where
@@ -24,7 +24,7 @@ writes_image (WritesImage versions store) = true
 writes_image _ = false
 
 -- the description of an access is that of the part
-abbrev pub IsAsked : Call → Part → Asked → Type 0
+abbrev pub IsAsked : Call → Part → AccessRequest → Type 0
 IsAsked c part asks.Nothing = is_over part ≡ true
 IsAsked c part (asks.Reads owner field) = (is_over part ≡ false) × (is_read part ≡ true) × (owner < c.setup.processes) × (read_at c part ≡ (owner, field))
 IsAsked c part (asks.Writes field number) = (is_over part ≡ false) × (is_read part ≡ false) × (width c.setup field ≤ 32) × (written_at c part ≡ (field, bits_of_number (width c.setup field) number))

@@ -6,8 +6,8 @@ use Rattle.model.specs.{Closing, Place, Reading, Run, Settles, Writing, greatest
 use Rattle.model.specs.Parts.{Part, Asks, TakesTicket, Lowers, Refuses, is_read}
 use Rattle.laws.specs.{Doing, RegisterWrite, Runs, Closes, register_write}
 use Rattle.registers.specs.{register_bytes}
-use Rattle.process.specs.declared.looks.TicketKnown.{TicketKnown}
-use Rattle.process.specs.declared.looks.TicketKnown.TheVariants.{Above, Is}
+use Rattle.process.specs.declared.looks.KnownTicket.{KnownTicket}
+use Rattle.process.specs.declared.looks.KnownTicket.TheVariants.{Above, Is}
 use Rattle.process.specs.declared.looks.Settling.{Settling}
 use Rattle.process.specs.CallParts.{reads_image}
 
@@ -29,14 +29,14 @@ number_read (Runs command number at) = number_at at
 number_read _ = 0
 
 -- the known facts about the ticket, after part A and while the process is in its doorway
-abbrev pub ticket_known_at : Setup → Part → Option TicketKnown
+abbrev pub ticket_known_at : Setup → Part → Option KnownTicket
 ticket_known_at s (Asks j js tickets) = Some (Above (greatest tickets))
 ticket_known_at s (TakesTicket t) = Some (Is t)
 ticket_known_at s (Lowers t) = Some (Is t)
 ticket_known_at s (Refuses full) = Some (Above (max_of s.ticket_bits))
 ticket_known_at s _ = None
 
-abbrev pub ticket_known : Setup → Doing → Option TicketKnown
+abbrev pub ticket_known : Setup → Doing → Option KnownTicket
 ticket_known s (Runs command number at) = ticket_known_at s at.part
 ticket_known s _ = None
 

@@ -108,20 +108,20 @@ rest_of c part (Reading bits begun) = 2 * width c.setup (read_at c part).1 - (2 
 rest_of c part (Writing w) = 2 * (c.setup.processes * (w.width - w.bit)) - elim w.run as (λ _. ℕ) [ None ↦ 0 | Some bit ↦ bit.made ]
 
 -- the first access of a part begins its call, or has a mark
-abbrev pub is_told : Part → Bool
-is_told Raises = true
-is_told part = elim (first_marks part) [ [] ↦ false | mark ∷ marks ↦ true ]
+abbrev pub is_reported : Part → Bool
+is_reported Raises = true
+is_reported part = elim (first_marks part) [ [] ↦ false | mark ∷ marks ↦ true ]
 
 -- the number of accesses before the last one; 0 if the next access begins the call or has a mark
-abbrev pub left_of : Call → Part → Run → ℕ
-left_of c part run = cond (is_fresh run && is_told part) 0 (rest_of c part run - 1)
+abbrev pub remaining_of : Call → Part → Run → ℕ
+remaining_of c part run = cond (is_fresh run && is_reported part) 0 (rest_of c part run - 1)
 
 -- the number of its next accesses that are within a register access of its call: they have no mark, and none is the first of the
 -- call or the last of the register access
-abbrev pub left_at : ProcessState → ℕ
-left_at now = elim now.doing as (λ _. ℕ) [
+abbrev pub remaining_at : ProcessState → ℕ
+remaining_at now = elim now.doing as (λ _. ℕ) [
   | Rests ↦ 0
   | Lies ↦ 0
-  | Runs command number at ↦ cond (is_over at.part) 0 (left_of (call now.setup now.process command number) at.part at.run)
+  | Runs command number at ↦ cond (is_over at.part) 0 (remaining_of (call now.setup now.process command number) at.part at.run)
   | Closes command number at ↦ 0
 ]

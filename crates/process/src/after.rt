@@ -5,35 +5,35 @@ ghost use Rattle.model.specs.{greatest, is_below, max_of, part_after, to_b, to_c
 ghost use Rattle.model.specs.safe_number.{number_of_bits};
 ghost use Rattle.process.specs.CallParts.{IsOutcome, reads_image};
 ghost use Rattle.process.specs.Others.{others_below};
-ghost use Rattle.process.specs.Seen.{Fit, HasRoom, Holds, IsCall, KeepsPart, all_from, call_of, others_of, part_at, tickets_seen, versions_seen, waits_from};
-ghost use Rattle.process.specs.declared.seen.Seen.{Seen};
+ghost use Rattle.process.specs.ValuesRead.{Fit, HasRoom, Holds, IsCall, KeepsPart, all_from, call_of, others_of, part_at, tickets_seen, versions_seen, waits_from};
+ghost use Rattle.process.specs.declared.values_read.ValuesRead.{ValuesRead};
 
 use crate::numbers::{greatest, most_of, place_of};
 use crate::others::{first_other, other_numbered, others_below};
-use crate::part::{ProcessCall, ProcessPart};
-use crate::seen::Seen;
+use crate::part::{ProcessCall, ProgramPoint};
+use crate::values_read::ValuesRead;
 use crate::store::{applied, is_change};
 use plain_store::Answer;
 use store_image::Image;
 
 /// Returns the part after the last ticket was read: the new ticket is one more than the greatest, if it fits.
-fn choose(call: &ProcessCall, tickets: &[u32]) -> ProcessPart
+fn choose(call: &ProcessCall, tickets: &[u32]) -> ProgramPoint
     requires call { IsCall (call_of call.now) }
     requires all { length tickets.now + 1 ≡ call.now.setup.processes }
     requires fits { greatest tickets.now ≤ max_of call.now.setup.ticket_bits }
-    ensures part { (seen : Seen) → part_at (call_of call.now) seen result ≡ to_c (call_of call.now) tickets.now }
-    ensures holds { (seen : Seen) → Holds (call_of call.now) seen result }
+    ensures part { (seen : ValuesRead) → part_at (call_of call.now) seen result ≡ to_c (call_of call.now) tickets.now }
+    ensures holds { (seen : ValuesRead) → Holds (call_of call.now) seen result }
 {
     let most = greatest(tickets);
     if most == most_of(call.setup.ticket_bits) {
-        ProcessPart::Refuses(other_numbered(call, place_of(most, tickets)))
+        ProgramPoint::Refuses(other_numbered(call, place_of(most, tickets)))
     } else {
-        ProcessPart::TakesTicket(most + 1)
+        ProgramPoint::TakesTicket(most + 1)
     }
 }
 
 /// Returns the part that reads the ticket of the first of the others from `first` on, or the choice if there is none.
-fn ask_from(call: &ProcessCall, seen: &Seen, first: u8) -> ProcessPart
+fn ask_from(call: &ProcessCall, seen: &ValuesRead, first: u8) -> ProgramPoint
     requires call { IsCall (call_of call.now) }
     requires room { HasRoom seen.now }
     requires first { first ≤ call.now.setup.processes }
@@ -42,14 +42,14 @@ fn ask_from(call: &ProcessCall, seen: &Seen, first: u8) -> ProcessPart
     ensures holds { Holds (call_of call.now) seen.now result }
 {
     match first_other(call, first) {
-        Some(owner) => ProcessPart::Asks { owner },
+        Some(owner) => ProgramPoint::Asks { owner },
         None => choose(call, &seen.numbers[..usize::from(call.setup.processes) - 1]),
     }
 }
 
 /// Stores the ticket of another process, and returns the next part.
-fn after_ticket(call: &ProcessCall, seen: &mut Seen, owner: u8, number: u32) -> ProcessPart
-    requires keeps { KeepsPart (call_of call.now) seen.old (ProcessPart.Asks owner) }
+fn after_ticket(call: &ProcessCall, seen: &mut ValuesRead, owner: u8, number: u32) -> ProgramPoint
+    requires keeps { KeepsPart (call_of call.now) seen.old (ProgramPoint.Asks owner) }
     requires fits { number ≤ max_of call.now.setup.ticket_bits }
     ensures part { part_at (call_of call.now) seen.new result ≡ to_b (call_of call.now) (others_of (call_of call.now) (owner + 1)) (tickets_seen call.now.process owner seen.old ++ number ∷ []) }
     ensures keeps { KeepsPart (call_of call.now) seen.new result }
@@ -59,27 +59,27 @@ fn after_ticket(call: &ProcessCall, seen: &mut Seen, owner: u8, number: u32) -> 
 }
 
 /// Returns the part that reads the version of this process if it exists, and otherwise the image.
-pub(crate) fn version_from(call: &ProcessCall, first: u8) -> ProcessPart
+pub(crate) fn version_from(call: &ProcessCall, first: u8) -> ProgramPoint
     requires first { first ≤ call.now.setup.processes }
-    ensures part { (seen : Seen) → part_at (call_of call.now) seen result ≡ to_e (all_from (call_of call.now) first) (versions_seen first seen) }
-    ensures holds { (seen : Seen) → Fit first call.now.setup.stamp_bits seen → Holds (call_of call.now) seen result }
+    ensures part { (seen : ValuesRead) → part_at (call_of call.now) seen result ≡ to_e (all_from (call_of call.now) first) (versions_seen first seen) }
+    ensures holds { (seen : ValuesRead) → Fit first call.now.setup.stamp_bits seen → Holds (call_of call.now) seen result }
 {
     if first == call.setup.processes {
-        ProcessPart::AsksImage
+        ProgramPoint::AsksImage
     } else {
-        ProcessPart::AsksCommit { of: first }
+        ProgramPoint::AsksCommit { of: first }
     }
 }
 
 /// Returns the wait for the first of the others from `first` on; if there is none, the process is inside.
-fn await_from(call: &ProcessCall, ticket: u32, first: u8) -> ProcessPart
+fn await_from(call: &ProcessCall, ticket: u32, first: u8) -> ProgramPoint
     requires call { IsCall (call_of call.now) }
     requires first { first ≤ call.now.setup.processes }
-    ensures part { (seen : Seen) → part_at (call_of call.now) seen result ≡ to_d (call_of call.now) ticket (waits_from (call_of call.now) first) }
-    ensures holds { (seen : Seen) → Holds (call_of call.now) seen result }
+    ensures part { (seen : ValuesRead) → part_at (call_of call.now) seen result ≡ to_d (call_of call.now) ticket (waits_from (call_of call.now) first) }
+    ensures holds { (seen : ValuesRead) → Holds (call_of call.now) seen result }
 {
     match first_other(call, first) {
-        Some(owner) => ProcessPart::AwaitsChoosing { ticket, owner },
+        Some(owner) => ProgramPoint::AwaitsChoosing { ticket, owner },
         None => version_from(call, 0),
     }
 }
@@ -87,12 +87,12 @@ fn await_from(call: &ProcessCall, ticket: u32, first: u8) -> ProcessPart
 /// Stores the commit bit and the stamp of a process, and returns the next part.
 fn after_stamp(
     call: &ProcessCall,
-    seen: &mut Seen,
+    seen: &mut ValuesRead,
     of: u8,
     commit: bool,
     number: u32,
-) -> ProcessPart
-    requires keeps { KeepsPart (call_of call.now) seen.old (ProcessPart.AsksStamp of commit) }
+) -> ProgramPoint
+    requires keeps { KeepsPart (call_of call.now) seen.old (ProgramPoint.AsksStamp of commit) }
     requires fits { number ≤ max_of call.now.setup.stamp_bits }
     ensures part { part_at (call_of call.now) seen.new result ≡ to_e (all_from (call_of call.now) (of + 1)) (versions_seen of seen.old ++ (commit, number) ∷ []) }
     ensures keeps { KeepsPart (call_of call.now) seen.new result }
@@ -105,7 +105,7 @@ fn after_stamp(
 
 /// Returns the part after the newest store was read. A command that changes nothing is taken. A change is written if its
 /// stamp fits.
-pub(crate) fn after_image(call: &ProcessCall, seen: &Seen) -> ProcessPart
+pub(crate) fn after_image(call: &ProcessCall, seen: &ValuesRead) -> ProgramPoint
     requires call { IsCall (call_of call.now) }
     requires room { HasRoom seen.now }
     requires fits { Fit call.now.setup.processes call.now.setup.stamp_bits seen.now }
@@ -115,13 +115,13 @@ pub(crate) fn after_image(call: &ProcessCall, seen: &Seen) -> ProcessPart
     ensures holds { Holds (call_of call.now) seen.now result }
 {
     if !is_change(call, &seen.store) {
-        return ProcessPart::Clears(Answer::Reply(applied(call, &seen.store).1));
+        return ProgramPoint::Clears(Answer::Reply(applied(call, &seen.store).1));
     }
     let stamps = &seen.numbers[..usize::from(call.setup.processes)];
     if greatest(stamps) == most_of(call.setup.stamp_bits) {
-        ProcessPart::Clears(Answer::StampsFull)
+        ProgramPoint::Clears(Answer::StampsFull)
     } else {
-        ProcessPart::WritesImage
+        ProgramPoint::WritesImage
     }
 }
 
@@ -133,26 +133,26 @@ fn lets_by(call: &ProcessCall, ticket: u32, owner: u8, number: u32) -> bool
 }
 
 /// Returns the part after a read of a wait returned this number: the same wait, or the part that follows it.
-fn after_wait(call: &ProcessCall, ticket: u32, owner: u8, number: u32) -> ProcessPart
+fn after_wait(call: &ProcessCall, ticket: u32, owner: u8, number: u32) -> ProgramPoint
     requires call { IsCall (call_of call.now) }
     requires owner { owner < call.now.setup.processes }
-    ensures part { (seen : Seen) (bits : List Bool) → number_of_bits bits ≡ number → part_at (call_of call.now) seen result ≡ part_after (call_of call.now) (part_at (call_of call.now) seen (ProcessPart.AwaitsTicket ticket owner)) bits }
-    ensures holds { (seen : Seen) → Holds (call_of call.now) seen result }
+    ensures part { (seen : ValuesRead) (bits : List Bool) → number_of_bits bits ≡ number → part_at (call_of call.now) seen result ≡ part_after (call_of call.now) (part_at (call_of call.now) seen (ProgramPoint.AwaitsTicket ticket owner)) bits }
+    ensures holds { (seen : ValuesRead) → Holds (call_of call.now) seen result }
 {
     if lets_by(call, ticket, owner, number) {
         await_from(call, ticket, owner + 1)
     } else {
-        ProcessPart::AwaitsTicket { ticket, owner }
+        ProgramPoint::AwaitsTicket { ticket, owner }
     }
 }
 
 /// Returns the part after a register access other than a read of the image; a read returned `number`.
 pub(crate) fn part_after(
     call: &ProcessCall,
-    seen: &mut Seen,
-    part: &ProcessPart,
+    seen: &mut ValuesRead,
+    part: &ProgramPoint,
     number: u32,
-) -> ProcessPart
+) -> ProgramPoint
     requires keeps { KeepsPart (call_of call.now) seen.old part.now }
     requires small { reads_image (part_at (call_of call.now) seen.old part.now) ≡ false }
     requires number { (bits : List Bool) × IsOutcome (call_of call.now) (part_at (call_of call.now) seen.old part.now) bits number }
@@ -160,29 +160,29 @@ pub(crate) fn part_after(
     ensures keeps { KeepsPart (call_of call.now) seen.new result }
 {
     match *part {
-        ProcessPart::Raises => ask_from(call, seen, 0),
-        ProcessPart::Asks { owner } => after_ticket(call, seen, owner, number),
-        ProcessPart::TakesTicket(ticket) => ProcessPart::Lowers(ticket),
-        ProcessPart::Lowers(ticket) => await_from(call, ticket, 0),
-        ProcessPart::AwaitsChoosing { ticket, owner } if number == 0 => {
-            ProcessPart::AwaitsTicket { ticket, owner }
+        ProgramPoint::Raises => ask_from(call, seen, 0),
+        ProgramPoint::Asks { owner } => after_ticket(call, seen, owner, number),
+        ProgramPoint::TakesTicket(ticket) => ProgramPoint::Lowers(ticket),
+        ProgramPoint::Lowers(ticket) => await_from(call, ticket, 0),
+        ProgramPoint::AwaitsChoosing { ticket, owner } if number == 0 => {
+            ProgramPoint::AwaitsTicket { ticket, owner }
         }
-        ProcessPart::AwaitsChoosing { ticket, owner } => ProcessPart::AwaitsChoosing {
+        ProgramPoint::AwaitsChoosing { ticket, owner } => ProgramPoint::AwaitsChoosing {
             ticket,
             owner,
         },
-        ProcessPart::AwaitsTicket { ticket, owner } => after_wait(call, ticket, owner, number),
-        ProcessPart::AsksCommit { of } => ProcessPart::AsksStamp {
+        ProgramPoint::AwaitsTicket { ticket, owner } => after_wait(call, ticket, owner, number),
+        ProgramPoint::AsksCommit { of } => ProgramPoint::AsksStamp {
             of,
             commit: number == 1,
         },
-        ProcessPart::AsksStamp { of, commit } => after_stamp(call, seen, of, commit, number),
-        ProcessPart::WritesImage => ProcessPart::WritesStamp,
-        ProcessPart::WritesStamp => ProcessPart::WritesCommit,
-        ProcessPart::WritesCommit => {
-            ProcessPart::Clears(Answer::Reply(applied(call, &seen.store).1))
+        ProgramPoint::AsksStamp { of, commit } => after_stamp(call, seen, of, commit, number),
+        ProgramPoint::WritesImage => ProgramPoint::WritesStamp,
+        ProgramPoint::WritesStamp => ProgramPoint::WritesCommit,
+        ProgramPoint::WritesCommit => {
+            ProgramPoint::Clears(Answer::Reply(applied(call, &seen.store).1))
         }
-        ProcessPart::Refuses(_) | ProcessPart::Clears(_) | ProcessPart::Over => ProcessPart::Over,
-        ProcessPart::AsksImage => unreachable!(),
+        ProgramPoint::Refuses(_) | ProgramPoint::Clears(_) | ProgramPoint::Over => ProgramPoint::Over,
+        ProgramPoint::AsksImage => unreachable!(),
     }
 }

@@ -9,20 +9,20 @@ ghost use Rattle.store_image.specs.{image_of};
 ghost use Rattle.process.specs.Alone.{answer_at, full_at, ticket_at};
 ghost use Rattle.process.specs.CallParts.{IsAsked, IsOutcome, reads_image, writes_image};
 ghost use Rattle.process.specs.Looks.{ticket_known_at};
-ghost use Rattle.process.specs.Places.{changes_at, is_told};
-ghost use Rattle.process.specs.Telling.{changes_told, marks_told};
+ghost use Rattle.process.specs.Places.{changes_at, is_reported};
+ghost use Rattle.process.specs.Reporting.{changes_reported, marks_reported};
 ghost use Rattle.process.specs.Working.{reply_taken};
 
 use crate::after;
-use crate::asked::{Asked, asks_at, newest_stamp, other_commit};
-use crate::looks::TicketKnown;
-use crate::marks::told_to;
+use crate::access_request::{AccessRequest, asks_at, newest_stamp, other_commit};
+use crate::looks::KnownTicket;
+use crate::marks::outcome_before;
 use crate::numbers::{greatest, most_of};
 use crate::others::others_below;
-use crate::part::{ProcessCall, ProcessPart};
-use crate::seen::Seen;
+use crate::part::{ProcessCall, ProgramPoint};
+use crate::values_read::ValuesRead;
 use crate::store::applied;
-use crate::told::StepTold;
+use crate::outcomes::StepOutcome;
 use plain_store::{Answer, Command, Reply, Setup};
 use model::{Field, Stage};
 use std::marker::Model;
@@ -32,8 +32,8 @@ use store_image::Image;
 #[derive(Drop)]
 pub struct CallPart {
     call: ProcessCall,
-    part: ProcessPart,
-    seen: Seen,
+    part: ProgramPoint,
+    seen: ValuesRead,
 }
 
 impl Model for CallPart {
@@ -41,7 +41,7 @@ impl Model for CallPart {
 
     ghost Value = { PartState };
 
-    ghost use Rattle.process.specs.Seen.{KeepsPart, call_of, part_at};
+    ghost use Rattle.process.specs.ValuesRead.{KeepsPart, call_of, part_at};
 
     ghost view = { λ k. record { call = call_of k.call; part = part_at (call_of k.call) k.seen k.part } };
 
@@ -62,8 +62,8 @@ impl CallPart {
                 command,
                 number,
             },
-            part: ProcessPart::Raises,
-            seen: Seen {
+            part: ProgramPoint::Raises,
+            seen: ValuesRead {
                 numbers: [0; 16],
                 commits: [false; 16],
                 store: Image::empty(1, 0),
@@ -77,7 +77,7 @@ impl CallPart {
     {
         self.call.command = command;
         self.call.number = number;
-        self.part = ProcessPart::Raises;
+        self.part = ProgramPoint::Raises;
     }
 
     /// Begins another call of this process at the position where it enters the critical section.
@@ -121,7 +121,7 @@ impl CallPart {
     pub fn is_over(&self) -> bool
         ensures { result ≡ is_over self.now.part }
     {
-        matches!(self.part, ProcessPart::Over)
+        matches!(self.part, ProgramPoint::Over)
     }
 
     /// Returns whether the first access of this part has the mark `Left`.
@@ -129,15 +129,15 @@ impl CallPart {
     pub fn leaves(&self) -> bool
         ensures { first_marks self.now.part ≡ cond result (Left ∷ []) [] }
     {
-        matches!(self.part, ProcessPart::Clears(_))
+        matches!(self.part, ProgramPoint::Clears(_))
     }
 
     /// Returns whether the first access of this part begins the call, or has a mark.
     #[inline]
-    pub fn is_told(&self) -> bool
-        ensures { result ≡ is_told self.now.part }
+    pub fn is_reported(&self) -> bool
+        ensures { result ≡ is_reported self.now.part }
     {
-        matches!(self.part, ProcessPart::Raises | ProcessPart::Clears(_))
+        matches!(self.part, ProgramPoint::Raises | ProgramPoint::Clears(_))
     }
 
     /// Returns whether this part reads the image; any other register that it reads has at most 32 bits.
@@ -145,7 +145,7 @@ impl CallPart {
         ensures image { result ≡ reads_image self.now.part }
         ensures narrow { result ≡ false → is_read self.now.part ≡ true → width self.now.call.setup (read_at self.now.call self.now.part).1 ≤ 32 }
     {
-        matches!(self.part, ProcessPart::AsksImage)
+        matches!(self.part, ProgramPoint::AsksImage)
     }
 
     /// Returns the stage of its process, by whether the process has made an access of this part.
@@ -153,16 +153,16 @@ impl CallPart {
         ensures { result ≡ stage_of self.now.part fresh }
     {
         match self.part {
-            ProcessPart::AwaitsChoosing { .. } | ProcessPart::AwaitsTicket { .. } => Stage::Waiting,
-            ProcessPart::AsksCommit { .. }
-            | ProcessPart::AsksStamp { .. }
-            | ProcessPart::AsksImage
-            | ProcessPart::WritesImage
-            | ProcessPart::WritesStamp
-            | ProcessPart::WritesCommit => Stage::Inside,
-            ProcessPart::Clears(_) if fresh => Stage::Inside,
-            ProcessPart::Clears(_) => Stage::Leaving,
-            ProcessPart::Over => Stage::Idle,
+            ProgramPoint::AwaitsChoosing { .. } | ProgramPoint::AwaitsTicket { .. } => Stage::Waiting,
+            ProgramPoint::AsksCommit { .. }
+            | ProgramPoint::AsksStamp { .. }
+            | ProgramPoint::AsksImage
+            | ProgramPoint::WritesImage
+            | ProgramPoint::WritesStamp
+            | ProgramPoint::WritesCommit => Stage::Inside,
+            ProgramPoint::Clears(_) if fresh => Stage::Inside,
+            ProgramPoint::Clears(_) => Stage::Leaving,
+            ProgramPoint::Over => Stage::Idle,
             _ => Stage::Doorway,
         }
     }
@@ -172,13 +172,13 @@ impl CallPart {
         ensures { result ≡ is_inside_at self.now.part fresh }
     {
         match self.part {
-            ProcessPart::AsksCommit { .. }
-            | ProcessPart::AsksStamp { .. }
-            | ProcessPart::AsksImage
-            | ProcessPart::WritesImage
-            | ProcessPart::WritesStamp
-            | ProcessPart::WritesCommit => true,
-            ProcessPart::Clears(_) => fresh,
+            ProgramPoint::AsksCommit { .. }
+            | ProgramPoint::AsksStamp { .. }
+            | ProgramPoint::AsksImage
+            | ProgramPoint::WritesImage
+            | ProgramPoint::WritesStamp
+            | ProgramPoint::WritesCommit => true,
+            ProgramPoint::Clears(_) => fresh,
             _ => false,
         }
     }
@@ -188,9 +188,9 @@ impl CallPart {
         ensures { result ≡ ticket_at self.now.part }
     {
         match self.part {
-            ProcessPart::Lowers(ticket)
-            | ProcessPart::AwaitsChoosing { ticket, .. }
-            | ProcessPart::AwaitsTicket { ticket, .. } => Some(ticket),
+            ProgramPoint::Lowers(ticket)
+            | ProgramPoint::AwaitsChoosing { ticket, .. }
+            | ProgramPoint::AwaitsTicket { ticket, .. } => Some(ticket),
             _ => None,
         }
     }
@@ -200,7 +200,7 @@ impl CallPart {
         ensures { result ≡ full_at self.now.part }
     {
         match self.part {
-            ProcessPart::Refuses(process) => Some(process),
+            ProgramPoint::Refuses(process) => Some(process),
             _ => None,
         }
     }
@@ -210,7 +210,7 @@ impl CallPart {
         ensures { result ≡ answer_at self.now.part }
     {
         match self.part {
-            ProcessPart::Clears(answer) => Some(answer),
+            ProgramPoint::Clears(answer) => Some(answer),
             _ => None,
         }
     }
@@ -220,7 +220,7 @@ impl CallPart {
         ensures { result ≡ pending_at self.now.call self.now.part }
     {
         match self.part {
-            ProcessPart::WritesImage | ProcessPart::WritesStamp | ProcessPart::WritesCommit => Some(
+            ProgramPoint::WritesImage | ProgramPoint::WritesStamp | ProgramPoint::WritesCommit => Some(
                 (
                     applied(&self.call, &self.seen.store).1,
                     newest_stamp(&self.call, &self.seen),
@@ -232,19 +232,19 @@ impl CallPart {
     }
 
     /// Returns the known facts about the ticket, from the raising of the choosing bit to the end of the doorway.
-    pub fn ticket_known(&self) -> Option<TicketKnown>
+    pub fn ticket_known(&self) -> Option<KnownTicket>
         ensures { result ≡ ticket_known_at self.now.call.setup self.now.part }
     {
         match self.part {
-            ProcessPart::Asks { owner } => {
+            ProgramPoint::Asks { owner } => {
                 let read = others_below(&self.call, owner);
-                Some(TicketKnown::Above(greatest(&self.seen.numbers[..read])))
+                Some(KnownTicket::Above(greatest(&self.seen.numbers[..read])))
             }
-            ProcessPart::TakesTicket(ticket) | ProcessPart::Lowers(ticket) => {
-                Some(TicketKnown::Is(ticket))
+            ProgramPoint::TakesTicket(ticket) | ProgramPoint::Lowers(ticket) => {
+                Some(KnownTicket::Is(ticket))
             }
-            ProcessPart::Refuses(_) => {
-                Some(TicketKnown::Above(most_of(self.call.setup.ticket_bits)))
+            ProgramPoint::Refuses(_) => {
+                Some(KnownTicket::Above(most_of(self.call.setup.ticket_bits)))
             }
             _ => None,
         }
@@ -255,7 +255,7 @@ impl CallPart {
         ensures { result ≡ option_map (λ (change : Change). change.1) (pending_at self.now.call self.now.part) }
     {
         match self.part {
-            ProcessPart::WritesImage | ProcessPart::WritesStamp | ProcessPart::WritesCommit => {
+            ProgramPoint::WritesImage | ProgramPoint::WritesStamp | ProgramPoint::WritesCommit => {
                 Some(newest_stamp(&self.call, &self.seen))
             }
             _ => None,
@@ -268,7 +268,7 @@ impl CallPart {
         ensures { result ≡ changes_at self.now.part }
     {
         match self.part {
-            ProcessPart::AsksImage | ProcessPart::WritesCommit => newest_stamp(
+            ProgramPoint::AsksImage | ProgramPoint::WritesCommit => newest_stamp(
                 &self.call, &self.seen,
             ),
             _ => 0,
@@ -281,7 +281,7 @@ impl CallPart {
         ensures commit { IfSome result (λ (taken : Bool × Reply). written_at self.now.call self.now.part ≡ (Field.Commit, taken.0 ∷ [])) }
     {
         match self.part {
-            ProcessPart::WritesCommit => Some((
+            ProgramPoint::WritesCommit => Some((
                 other_commit(&self.call, &self.seen),
                 applied(&self.call, &self.seen.store).1,
             )),
@@ -298,7 +298,7 @@ impl CallPart {
     }
 
     /// Returns the register access of its present part.
-    pub fn asks(&self) -> Asked
+    pub fn asks(&self) -> AccessRequest
         ensures { IsAsked self.now.call self.now.part result }
     {
         asks_at(&self.call, &self.seen, &self.part)
@@ -306,34 +306,34 @@ impl CallPart {
 
     /// Moves to the next part after a register access other than a read of the image; a read returned `number`.
     /// Returns the outcome of the last access.
-    pub fn after(&mut self, number: u32) -> StepTold
+    pub fn after(&mut self, number: u32) -> StepOutcome
         requires going { is_over self.old.part ≡ false }
         requires small { reads_image self.old.part ≡ false }
         requires number { (bits : List Bool) × IsOutcome self.old.call self.old.part bits number }
         ensures part { (bits : List Bool) → IsOutcome self.old.call self.old.part bits number → self.new ≡ record self.old { part = part_after self.old.call self.old.part bits } }
-        ensures marks { (bits : List Bool) → IsOutcome self.old.call self.old.part bits number → marks_told result ≡ last_marks self.old.call self.old.part bits }
-        ensures changes { IfSome (changes_told result) (λ changes. changes ≡ changes_at self.old.part) }
+        ensures marks { (bits : List Bool) → IsOutcome self.old.call self.old.part bits number → marks_reported result ≡ last_marks self.old.call self.old.part bits }
+        ensures changes { IfSome (changes_reported result) (λ changes. changes ≡ changes_at self.old.part) }
     {
         let part = self.part;
         let changes = self.changes_read();
         self.part = after::part_after(&self.call, &mut self.seen, &part, number);
-        told_to(&part, &self.part, changes)
+        outcome_before(&part, &self.part, changes)
     }
 
     /// Moves to the next part after a read of the image, which is that of `store`. Returns the outcome of the last access.
-    pub fn after_image(&mut self, store: &Image) -> StepTold
+    pub fn after_image(&mut self, store: &Image) -> StepOutcome
         requires image { reads_image self.old.part ≡ true }
         requires slots { store.now.slots ≡ self.old.call.setup.slots }
         requires numbers { length store.now.numbers ≡ callers_of self.old.call.setup }
         ensures part { (bits : List Bool) → store_read self.old.call bits ≡ store.now → self.new ≡ record self.old { part = part_after self.old.call self.old.part bits } }
-        ensures marks { (bits : List Bool) → store_read self.old.call bits ≡ store.now → marks_told result ≡ last_marks self.old.call self.old.part bits }
-        ensures changes { IfSome (changes_told result) (λ changes. changes ≡ changes_at self.old.part) }
+        ensures marks { (bits : List Bool) → store_read self.old.call bits ≡ store.now → marks_reported result ≡ last_marks self.old.call self.old.part bits }
+        ensures changes { IfSome (changes_reported result) (λ changes. changes ≡ changes_at self.old.part) }
     {
         let part = self.part;
         let changes = self.changes_read();
         self.seen.store = *store;
         self.part = after::after_image(&self.call, &self.seen);
-        told_to(&part, &self.part, changes)
+        outcome_before(&part, &self.part, changes)
     }
 
     /// Becomes as the other. It takes no memory.

@@ -4,7 +4,7 @@ ghost use Rattle.plain_store.specs.{checked};
 ghost use Rattle.registers.specs.{AreOf};
 ghost use Rattle.process.specs.Newest.{newest_store, version_in};
 
-use crate::asked::stamp_field;
+use crate::access_request::stamp_field;
 use crate::image::image_read;
 use crate::newest_version::NewestVersion;
 use plain_store::Setup;

@@ -4,16 +4,16 @@ ghost use Rattle.model.specs.{is_over, last_marks, part_after, width};
 ghost use Rattle.model.specs.safe_number.{bits_of_number, number_of_bits};
 ghost use Rattle.registers.specs.{IsDone, entered, writing};
 ghost use Rattle.process.specs.Places.{changes_at};
-ghost use Rattle.process.specs.Seen.{IsCall};
-ghost use Rattle.process.specs.Telling.{changes_told, marks_told};
+ghost use Rattle.process.specs.ValuesRead.{IsCall};
+ghost use Rattle.process.specs.Reporting.{changes_reported, marks_reported};
 
-use crate::asked::Asked;
+use crate::access_request::AccessRequest;
 use crate::call_part::CallPart;
 use crate::image::image_read;
-use crate::told::StepTold;
+use crate::outcomes::StepOutcome;
 use plain_store::pad;
 use model::Field;
-use registers::{Cursor, NumberRun, RegisterName};
+use registers::{Cursor, RegisterAccessKind, RegisterName};
 
 /// Puts the cursor at the begin of a part.
 pub(crate) fn enter(called: &CallPart, cursor: &mut Cursor)
@@ -25,18 +25,18 @@ pub(crate) fn enter(called: &CallPart, cursor: &mut Cursor)
     let setup = called.setup();
     let process = called.process();
     match called.asks() {
-        Asked::Nothing => unreachable!(),
-        Asked::Reads { owner, field } => {
+        AccessRequest::Nothing => unreachable!(),
+        AccessRequest::Reads { owner, field } => {
             cursor.begin_read(&setup, RegisterName { owner, field }, process);
         }
-        Asked::Writes(field, number) => {
+        AccessRequest::Writes(field, number) => {
             let register = RegisterName {
                 owner: process,
                 field,
             };
             cursor.begin_write(&setup, register, number);
         }
-        Asked::WritesImage(field) => {
+        AccessRequest::WritesImage(field) => {
             let register = RegisterName {
                 owner: process,
                 field,
@@ -61,24 +61,24 @@ pub(crate) fn clear(called: &CallPart, cursor: &mut Cursor, field: Field)
 
 /// Returns the number that was read; 0 after a write.
 fn number_read(cursor: &Cursor) -> u32
-    requires { cursor.now.run ≡ NumberRun.Reads → cursor.now.width ≤ 32 }
-    ensures reads { cursor.now.run ≡ NumberRun.Reads → result ≡ number_of_bits cursor.now.bits }
-    ensures writes { cursor.now.run ≡ NumberRun.Writes → result ≡ 0 }
+    requires { cursor.now.run ≡ RegisterAccessKind.Reads → cursor.now.width ≤ 32 }
+    ensures reads { cursor.now.run ≡ RegisterAccessKind.Reads → result ≡ number_of_bits cursor.now.bits }
+    ensures writes { cursor.now.run ≡ RegisterAccessKind.Writes → result ≡ 0 }
 {
     match cursor.run() {
-        NumberRun::Reads => cursor.number(),
+        RegisterAccessKind::Reads => cursor.number(),
         _ => 0,
     }
 }
 
 /// Moves a call whose register access is over to its next part. Returns the outcome of the last access.
-pub(crate) fn part_over(called: &mut CallPart, cursor: &Cursor) -> StepTold
+pub(crate) fn part_over(called: &mut CallPart, cursor: &Cursor) -> StepOutcome
     requires call { IsCall called.old.call }
     requires going { is_over called.old.part ≡ false }
     requires done { IsDone called.old.call called.old.part cursor.now }
     ensures part { called.new ≡ record called.old { part = part_after called.old.call called.old.part cursor.now.bits } }
-    ensures marks { marks_told result ≡ last_marks called.old.call called.old.part cursor.now.bits }
-    ensures changes { IfSome (changes_told result) (λ changes. changes ≡ changes_at called.old.part) }
+    ensures marks { marks_reported result ≡ last_marks called.old.call called.old.part cursor.now.bits }
+    ensures changes { IfSome (changes_reported result) (λ changes. changes ≡ changes_at called.old.part) }
 {
     if called.reads_image() {
         let store = image_read(&called.setup(), &cursor.bytes());

@@ -3,7 +3,7 @@
 #![tactic(auto)]
 
 mod after;
-mod asked;
+mod access_request;
 mod call_part;
 mod committed;
 mod entering;
@@ -16,19 +16,19 @@ mod opening;
 mod others;
 mod part;
 mod process;
-mod seen;
+mod values_read;
 mod store;
-mod told;
-mod work;
+mod outcomes;
+mod activity;
 
-pub use asked::Asked;
+pub use access_request::AccessRequest;
 pub use call_part::CallPart;
 pub use committed::newest;
 pub use choices::Flicks;
-pub use looks::{AccessProgress, Settling, TicketKnown};
+pub use looks::{AccessProgress, Settling, KnownTicket};
 pub use newest_version::NewestVersion;
 pub use opening::open_memory;
 pub use process::Process;
-pub use registers::{AccessMade, AccessesMade, BitCopy, BitMemory, BitSeen, RegisterName, given};
+pub use registers::{AccessMade, AccessesMade, BitCopy, BitMemory, CopyState, RegisterName, given};
 pub use store_image::Image;
-pub use told::{Effect, EventMade, StepTold};
+pub use outcomes::{EventOutcome, EventMade, StepOutcome};

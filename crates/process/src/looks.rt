@@ -4,7 +4,7 @@ use model::Field;
 
 /// The known facts about the ticket of a process in its doorway.
 #[derive(Clone, Copy)]
-pub enum TicketKnown {
+pub enum KnownTicket {
     /// The ticket will be greater than this one.
     Above(u32),
     /// The ticket is this one.

@@ -3,7 +3,7 @@ ghost use Rattle.std.specs.Prelude.{◌≡◌, ◌⊎◌, []};
 ghost use Rattle.model.specs.{image_field};
 ghost use Rattle.process.specs.Newest.{IsNewestWith, newest_version};
 
-use crate::asked::image_field;
+use crate::access_request::image_field;
 use registers::RegisterName;
 
 /// The newest of the versions of processes 0, 1 and so on.

@@ -14,7 +14,7 @@ pub(crate) struct ProcessCall {
 
 /// A register access of a call. The values that were read before it are stored separately.
 #[derive(Clone, Copy)]
-pub(crate) enum ProcessPart {
+pub(crate) enum ProgramPoint {
     /// A: writes `Choosing` 1.
     Raises,
     /// B: reads the ticket of another process.

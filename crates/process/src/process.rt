@@ -12,10 +12,10 @@ mod looking;
 mod refusals;
 mod serving;
 
-use crate::asked::Asked;
+use crate::access_request::AccessRequest;
 use crate::call_part::CallPart;
 use crate::entering::enter;
-use crate::work::ProcessWork;
+use crate::activity::Activity;
 use plain_store::{Command, Setup};
 use model::{Field, Stage};
 use registers::Cursor;
@@ -25,7 +25,7 @@ use std::marker::Model;
 #[derive(Drop)]
 pub struct Process {
     called: CallPart,
-    work: ProcessWork,
+    work: Activity,
     cursor: Cursor,
 }
 
@@ -49,7 +49,7 @@ impl Process {
     {
         Process {
             called: CallPart::new(setup, process, Command::Ask, 0),
-            work: ProcessWork::Rests,
+            work: Activity::Rests,
             cursor: Cursor::idle(),
         }
     }
@@ -81,11 +81,11 @@ impl Process {
         ensures { result ≡ stage_doing self.now.doing }
     {
         match self.work {
-            ProcessWork::Rests => Stage::Idle,
-            ProcessWork::Lies => Stage::Down,
-            ProcessWork::Runs => self.called.stage(self.cursor.is_fresh()),
-            ProcessWork::Withdraws => Stage::Leaving,
-            ProcessWork::Settles { .. } | ProcessWork::Frees { .. } | ProcessWork::Lowers =>
+            Activity::Rests => Stage::Idle,
+            Activity::Lies => Stage::Down,
+            Activity::Runs => self.called.stage(self.cursor.is_fresh()),
+            Activity::Withdraws => Stage::Leaving,
+            Activity::Settles { .. } | Activity::Frees { .. } | Activity::Lowers =>
                 Stage::Settling,
         }
     }
@@ -111,9 +111,9 @@ impl Process {
         ensures { result ≡ is_inside self.now.doing }
     {
         match self.work {
-            ProcessWork::Runs => self.called.is_inside(self.cursor.is_fresh()),
-            ProcessWork::Settles { inside, .. } => inside,
-            ProcessWork::Frees { inside } => inside && self.cursor.is_fresh(),
+            Activity::Runs => self.called.is_inside(self.cursor.is_fresh()),
+            Activity::Settles { inside, .. } => inside,
+            Activity::Frees { inside } => inside && self.cursor.is_fresh(),
             _ => false,
         }
     }
@@ -123,7 +123,7 @@ impl Process {
     pub fn goes(&self) -> bool
         ensures { result ≡ may_step self.now.doing }
     {
-        !matches!(self.work, ProcessWork::Rests | ProcessWork::Lies)
+        !matches!(self.work, Activity::Rests | Activity::Lies)
     }
 
     /// Returns the register that it reads, with its owner; `None` if it reads no register. When the process gives up waiting
@@ -133,7 +133,7 @@ impl Process {
         ensures there { IfSome result (λ (register : ℕ × Field). register.0 < self.now.setup.processes) }
     {
         match self.work {
-            ProcessWork::Runs => register_read(&self.called),
+            Activity::Runs => register_read(&self.called),
             _ => None,
         }
     }
@@ -144,7 +144,7 @@ impl Process {
         ensures { result ≡ changes_pending self.now.setup self.now.process self.now.doing }
     {
         match self.work {
-            ProcessWork::Runs => self.called.changes_pending(),
+            Activity::Runs => self.called.changes_pending(),
             _ => None,
         }
     }
@@ -154,7 +154,7 @@ impl Process {
         ensures { self.new ≡ called self.old command number }
     {
         self.called.start(command, number);
-        self.work = ProcessWork::Runs;
+        self.work = Activity::Runs;
         enter(&self.called, &mut self.cursor);
     }
 
@@ -162,7 +162,7 @@ impl Process {
     pub fn restart(&mut self)
         ensures { self.new ≡ restarted self.old }
     {
-        self.work = ProcessWork::Rests;
+        self.work = Activity::Rests;
     }
 
     /// Makes this process equal to the other one, which has the same setup. It does not allocate.
@@ -182,7 +182,7 @@ fn register_read(called: &CallPart) -> Option<(u8, Field)>
     ensures there { IfSome result (λ (register : ℕ × Field). register.0 < called.now.call.setup.processes) }
 {
     match called.asks() {
-        Asked::Reads { owner, field } => Some((owner, field)),
+        AccessRequest::Reads { owner, field } => Some((owner, field)),
         _ => None,
     }
 }

@@ -2,7 +2,7 @@
 ghost use Rattle.std.specs.Prelude.{◌≡◌};
 ghost use Rattle.plain_store.specs.{after, changes};
 ghost use Rattle.model.specs.{caller, reply};
-ghost use Rattle.process.specs.Seen.{call_of};
+ghost use Rattle.process.specs.ValuesRead.{call_of};
 
 use crate::part::ProcessCall;
 use plain_store::{Caller, Reply, Store, Value};

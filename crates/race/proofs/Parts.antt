@@ -42,6 +42,6 @@ answers_more vecs i v within at =
     ∙ answers_snoc 0 i (lists_of (take i vecs)) v.items (omega (arith, size, lists))
 
 -- a text appended to another one
-pub pushed : {Z E : Type 0} (more : Result (String Z) E) (old new told : List ℕ) → IsOkAnd more (λ text. new ≡ old ++ string_bytes text) → GivesText more told → new ≡ old ++ told
-pushed (Ok text) old new told is gives = is ∙ ap (λ bytes. old ++ bytes) gives
-pushed (Err e) old new told is gives = absurd is
+pub pushed : {Z E : Type 0} (more : Result (String Z) E) (old new reported : List ℕ) → IsOkAnd more (λ text. new ≡ old ++ string_bytes text) → GivesText more reported → new ≡ old ++ reported
+pushed (Ok text) old new reported is gives = is ∙ ap (λ bytes. old ++ bytes) gives
+pushed (Err e) old new reported is gives = absurd is

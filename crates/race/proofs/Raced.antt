@@ -7,7 +7,7 @@ use Rattle.std.specs.Global.{Vec}
 use Rattle.plain_store.specs.{Command, Contents, Setup, checked}
 use Rattle.plain_store.proofs.GoodSetups.{few-processes}
 use Rattle.model.specs.{Placed, past_of}
-use Rattle.board.specs.{AreInOrder, AreListsOf, AreMadeWith, AreOfAll, ArePortsOf, AreQuiet, BoardState, EachStandsInRecord, FirstLeaves, PortState, StandsIn, changes_of, new_own}
+use Rattle.board.specs.{AreInOrder, AreListsOf, AreMadeWith, AreOfAll, ArePortsOf, AreQuiet, BoardState, EachIsInRecord, FirstLeaves, PortState, StandsIn, changes_of, new_own}
 use Rattle.race.proofs.Lists.{there}
 use Rattle.race.specs.{AllHaveMade, AreMade, AreNew, IsRaced, plans_of}
 
@@ -24,7 +24,7 @@ in_order : (board : BoardState) (plans : List (List Command)) (ports : List Port
 in_order board plans ports h k port at = (h.1 k port at).2.process
 
 pub raced : (board : BoardState) (plans : List (List Command)) (ports : List PortState) (answers : List (List Placed)) (image : Contents) → AllHaveMade board plans ports → length plans ≡ board.setup.processes → AreListsOf ports answers →
-    EachStandsInRecord board.setup answers → FirstLeaves board.setup ports image → IsRaced board.setup plans answers image
+    EachIsInRecord board.setup answers → FirstLeaves board.setup ports image → IsRaced board.setup plans answers image
 raced board plans ports answers image h all lists stand leaves = record {
   all = lists.all ∙ h.0 ∙ all;
   made = λ p calls at.

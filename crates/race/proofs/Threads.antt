@@ -23,10 +23,10 @@ same_item x y h = cc
 pub made_one_more : {T : Type 0} (Made : T → PortState → Type 0) (threads : List T) (ports : List PortState) (thread : T) (rest : List T) (port : PortState) → drop (length ports) threads ≡ thread ∷ rest → Made thread port →
     ((k : ℕ) (t : T) (p : PortState) → slice_get threads k ≡ Some t → slice_get ports k ≡ Some p → Made t p) →
     (k : ℕ) (t : T) (p : PortState) → slice_get threads k ≡ Some t → slice_get (ports ++ port ∷ []) k ≡ Some p → Made t p
-made_one_more {T} Made threads ports thread rest port left is each k t p t_at p_at =
+made_one_more {T} Made threads ports thread rest port remaining is each k t p t_at p_at =
     all_push (λ n (q : PortState). (u : T) → slice_get threads n ≡ Some u → Made u q) ports port
     (λ n q at u u_at. each n u q u_at at)
-    (λ u u_at. subst (λ (w : T). Made w port) (same_item thread u (sym (at_drop threads (length ports) thread rest left) ∙ u_at)) is)
+    (λ u u_at. subst (λ (w : T). Made w port) (same_item thread u (sym (at_drop threads (length ports) thread rest remaining) ∙ u_at)) is)
     k p p_at t t_at
 
 -- with a thread for each plan, whose ports came back, each port has made its plan
@@ -44,16 +44,16 @@ all_made board plans threads its number plan ports many all are made = (
 
 -- the remaining threads after one more
 pub left_more : {T : Type 0} (threads items : List T) (thread : T) (rest : List T) → ((at : ℕ) × (items ≡ drop at threads)) → items ≡ thread ∷ rest → (at : ℕ) × (rest ≡ drop at threads)
-left_more threads items thread rest left is = (suc left.0, sym (drop_more threads left.0 thread rest (sym left.1 ∙ is)))
+left_more threads items thread rest remaining is = (suc remaining.0, sym (drop_more threads remaining.0 thread rest (sym remaining.1 ∙ is)))
 
 -- a fault that a thread has found, or that was found before
-pub told_more : {T : Type 0} (threads : List T) (number : T → ℕ) (items : List T) (thread : T) (rest : List T) (found result : RaceFault) (other : Option RaceFault) → ((at : ℕ) × (items ≡ drop at threads)) → items ≡ thread ∷ rest → IsFaultOf (number thread) found →
+pub reported_more : {T : Type 0} (threads : List T) (number : T → ℕ) (items : List T) (thread : T) (rest : List T) (found result : RaceFault) (other : Option RaceFault) → ((at : ℕ) × (items ≡ drop at threads)) → items ≡ thread ∷ rest → IsFaultOf (number thread) found →
     IfSome other (λ fault. (k : ℕ) × (t : T) × (slice_get threads k ≡ Some t) × IsFaultOf (number t) fault) → (result ≡ found) ⊎ (other ≡ Some result) → (k : ℕ) × (t : T) × (slice_get threads k ≡ Some t) × IsFaultOf (number t) result
-told_more threads number items thread rest found result other left is its told (inl same) = (left.0, thread, at_drop threads left.0 thread rest (sym left.1 ∙ is), subst (λ (f : RaceFault). IsFaultOf (number thread) f) (sym same) its)
-told_more threads number items thread rest found result None left is its told (inr same) = let no : ⊥ = cc in absurd no
-told_more {T} threads number items thread rest found result (Some fault) left is its told (inr same) =
+reported_more threads number items thread rest found result other remaining is its reported (inl same) = (remaining.0, thread, at_drop threads remaining.0 thread rest (sym remaining.1 ∙ is), subst (λ (f : RaceFault). IsFaultOf (number thread) f) (sym same) its)
+reported_more threads number items thread rest found result None remaining is its reported (inr same) = let no : ⊥ = cc in absurd no
+reported_more {T} threads number items thread rest found result (Some fault) remaining is its reported (inr same) =
     let equal : fault ≡ result = cc in
-    subst (λ (f : RaceFault). (k : ℕ) × (t : T) × (slice_get threads k ≡ Some t) × IsFaultOf (number t) f) equal told
+    subst (λ (f : RaceFault). (k : ℕ) × (t : T) × (slice_get threads k ≡ Some t) × IsFaultOf (number t) f) equal reported
 
 -- a fault of one of these threads is one of a race of as many processes
 pub among : {T : Type 0} (board : BoardState) (plans : List (Vec Command)) (threads : List T) (its : T → BoardState) (number : T → ℕ) (plan : T → List Command) (fault : RaceFault) → length threads ≤ length plans →

@@ -10,7 +10,7 @@ use Rattle.scenario.specs.{Script, scenario_of}
 use Rattle.race.specs.Races.{IsRaced}
 use Rattle.call_check.specs.{IsWeighed, Weighed}
 use Rattle.model.specs.{Placed}
-use Rattle.race.specs.declared.running.Report.{Report}
+use Rattle.race.specs.declared.running.RaceReport.{RaceReport}
 use Rattle.race.specs.Statuses.{status_of_race}
 use Rattle.race.specs.Texts.{plans_in, race_text}
 use Rattle.race.specs.declared.faults.RunFault.{RunFault}
@@ -29,14 +29,14 @@ abbrev pub text_of : (said : Script) → Raced said → List ℕ
 text_of said race = race_text said race.lists race.image race.verdict
 
 -- this is the text of a race of the scenario, and weighing its lists and image gives this verdict
-pub record TellsRace (said : Script) (verdict : Weighed) (text : List ℕ) : Type 0 where
+pub record ReportsRace (said : Script) (verdict : Weighed) (text : List ℕ) : Type 0 where
   pub race : Raced said
   pub is_verdict : verdict ≡ race.verdict
   pub is_text : text ≡ text_of said race
 
 -- a report contains the text and the verdict of a race
-abbrev pub TellsReport : Script → Report → Type 0
-TellsReport said report = TellsRace said report.verdict (string_bytes report.text)
+abbrev pub ReportsReport : Script → RaceReport → Type 0
+ReportsReport said report = ReportsRace said report.verdict (string_bytes report.text)
 
 -- the text of a race was written, and the status is that of its verdict
 abbrev pub WritesRace : Script → ℕ → Option (List ℕ) → Option (List ℕ) → Type 0

@@ -5,7 +5,7 @@ pub mod Races
 pub mod Statuses
 pub mod Texts
 pub use Calling.{CallGoesOn, ComesTo, HasCalled, IsAnswered, IsCalling, is_uncut}
-pub use Ends.{IsFaultOfRacing, OfInput, RanRace, TellsRace, WritesRace, WritesRaceFront}
+pub use Ends.{IsFaultOfRacing, OfInput, RanRace, ReportsRace, WritesRace, WritesRaceFront}
 pub use Faults.{EndsPort, IsFaultAmong, IsFaultOf}
 pub use Races.{AllHaveMade, AreMade, AreNew, HasMade, IsFor, IsRaced, plans_of}
 pub use Statuses.{status_of_race}

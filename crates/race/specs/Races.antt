@@ -4,8 +4,8 @@ use Rattle.std.specs.Global.{Vec}
 use Rattle.plain_store.specs.{Answer, Command, Contents, Setup}
 use Rattle.model.specs.{AreGiven, Event, KeepsHeadlineThroughout, Placed, Taken, past_of, store_after}
 use Rattle.model.specs.declared.stages.Stage.TheVariants.{Idle}
-use Rattle.board.specs.{BoardState, Closing, EachStandsInRecord, IsOf, PortState, StandsIn, changes_of, lists_in, new_own, stage_in}
-use Rattle.race.specs.declared.racing.Making.{Making}
+use Rattle.board.specs.{BoardState, Closing, EachIsInRecord, IsOf, PortState, StandsIn, changes_of, lists_in, new_own, stage_in}
+use Rattle.race.specs.declared.racing.PlanPromise.{PlanPromise}
 
 -- the plans: list p is that of process p
 abbrev pub plans_of : List (Vec Command) → List (List Command)
@@ -27,7 +27,7 @@ pub record AreChanges (s : Setup) (list : List Taken) : Type 0 where
 pub record IsRaced (s : Setup) (plans : List (List Command)) (answers : List (List Placed)) (image : Contents) : Type 0 where
   pub all : length answers ≡ s.processes
   pub made : (p : ℕ) (calls : List Placed) → slice_get answers p ≡ Some calls → (plan : List Command) × (slice_get plans p ≡ Some plan) × AreMade plan calls
-  pub stands : EachStandsInRecord s answers
+  pub stands : EachIsInRecord s answers
   pub end : (calls : List Placed) → slice_get answers 0 ≡ Some calls → (list : List Taken) × AreChanges s list × StandsIn s 0 calls list × (image ≡ store_after s list)
 
 -- a closing is the end of a race of these plans
@@ -60,11 +60,11 @@ pub record IsFor (board : BoardState) (plans : List (List Command)) (p : ℕ) (i
   pub makes_plan : slice_get plans p ≡ Some its_plan
 
 -- the thread with this promise is for its plan, on the board
-abbrev pub MakesFor : BoardState → List (Vec Command) → ℕ → Making → Type 0
+abbrev pub MakesFor : BoardState → List (Vec Command) → ℕ → PlanPromise → Type 0
 MakesFor board plans p making = IsFor board (plans_of plans) p making.board.value making.number making.plan.value.items
 
 -- the port of the thread with this promise has made the calls of its plan
-abbrev pub HasKept : Making → PortState → Type 0
+abbrev pub HasKept : PlanPromise → PortState → Type 0
 HasKept making port = HasMade making.board.value making.number making.plan.value.items port
 
 -- P holds of each member of a list, with its index

@@ -48,13 +48,13 @@ impl RaceFault {
     pub(crate) fn or_lower(self, other: Option<RaceFault>) -> RaceFault
         ensures one { (result ≡ self) ⊎ (other ≡ Some result) }
         ensures least { rank_of result ≤ rank_of self }
-        ensures least_of_both { IfSome other (λ told. rank_of result ≤ rank_of told) }
+        ensures least_of_both { IfSome other (λ reported. rank_of result ≤ rank_of reported) }
     {
-        let Some(told) = other else {
+        let Some(reported) = other else {
             return self;
         };
-        if told.rank() < self.rank() {
-            told
+        if reported.rank() < self.rank() {
+            reported
         } else {
             self
         }

@@ -19,18 +19,18 @@ use std::thread::{self, Promise, PromisedHandle, Scope, Threads};
 /// The promise of a thread: the port of this process makes this plan, on this board; or this port was held, or an
 /// allocation failed.
 #[derive(Drop)]
-struct Making {
+struct PlanPromise {
     board: Snapshot<Board>,
     plan: Snapshot<Vec<Command>>,
     number: u8,
 }
 
-impl Promise<Result<Port, RaceFault>> for Making {
+impl Promise<Result<Port, RaceFault>> for PlanPromise {
     ghost kept_by = { λ p r. IfOk r (HasMade p.board.value p.number p.plan.value.items) × IfErr r (IsFaultOf p.number) };
 }
 
 /// A thread of a race.
-type Thread = PromisedHandle<Result<Port, RaceFault>, Making>;
+type Thread = PromisedHandle<Result<Port, RaceFault>, PlanPromise>;
 
 /// Runs the plans, list p by process p, each on a thread of its own, and closes the board. A port asks the gate after each
 /// call that was accepted, and each time that it comes inside.
@@ -156,7 +156,7 @@ fn start<'s, E, R: Threads + Wait + Sync, G: Gate + Sync>(
     ensures number { IfSome result (λ thread. thread.promise.number ≡ number) }
     ensures plan { IfSome result (λ thread. thread.promise.plan.value ≡ plan.now) }
 {
-    let making = Making {
+    let making = PlanPromise {
         board: Snapshot::of(board),
         plan: Snapshot::of(plan),
         number,

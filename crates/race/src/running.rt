@@ -2,7 +2,7 @@
 ghost use Rattle.std.specs.Prelude.{◌-◌, ◌^◌, ◌<◌, IfErr, IfOk};
 ghost use Rattle.scenario.specs.files.{ReadsFront, streams};
 ghost use Rattle.scenario.specs.{script};
-ghost use Rattle.race.specs.Ends.{IsFaultOfRacing, RanRace, TellsReport};
+ghost use Rattle.race.specs.Ends.{IsFaultOfRacing, RanRace, ReportsReport};
 
 use crate::faults::{RunFault, race_status};
 use crate::gates::AlwaysOn;
@@ -17,7 +17,7 @@ use std::thread::Threads;
 
 /// The report on a race that has ended.
 #[derive(Drop)]
-struct Report {
+struct RaceReport {
     text: String,
     verdict: Weighed,
 }
@@ -55,8 +55,8 @@ fn race_scenario<T: Threads + Wait + Sync>(
     rt: &T,
     alloc: Global,
     scenario: &Scenario,
-) -> Result<Report, RunFault>
-    ensures raced { IfOk result (TellsReport (script scenario.now)) }
+) -> Result<RaceReport, RunFault>
+    ensures raced { IfOk result (ReportsReport (script scenario.now)) }
     ensures fault { IfErr result IsFaultOfRacing }
 {
     let plans = plans_of(alloc, scenario)?;
@@ -64,5 +64,5 @@ fn race_scenario<T: Threads + Wait + Sync>(
     let lists = closing.answers.as_slice();
     let verdict = weigh(alloc, &scenario.setup, lists, &closing.image)?;
     let text = race_text(alloc, scenario, lists, &closing.image, &verdict)?;
-    Ok(Report { text, verdict })
+    Ok(RaceReport { text, verdict })
 }

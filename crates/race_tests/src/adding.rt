@@ -2,7 +2,7 @@
 ghost use Rattle.board.specs.{IsOf, SamePort};
 
 use crate::plans::add;
-use crate::threads::left;
+use crate::threads::remaining;
 use board::Flicks;
 use board_runs::{Board, Driven, Port, Work, begin};
 use plain_store::{Answer, NestedTypes, Reply, Store, Value};
@@ -72,7 +72,7 @@ fn sums(closing: &Closing, port: usize) -> usize {
 
 #[test]
 fn two_threads_add(rt: HostRuntime) -> Result<(), Fail> {
-    let closing = left(&rt, HEAD, &Adding, LATE)?;
+    let closing = remaining(&rt, HEAD, &Adding, LATE)?;
     for port in 0..2 {
         assert!(&rt; sums(&closing, port) == 3, "port {port}: {LATE}");
     }

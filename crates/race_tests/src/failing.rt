@@ -2,7 +2,7 @@
 ghost use Rattle.board.specs.{IsOf, SamePort};
 
 use crate::plans::add;
-use crate::threads::left;
+use crate::threads::remaining;
 use board::Flicks;
 use board_runs::{Board, Driven, Port, Work, begin};
 use std::test::Fail;
@@ -66,7 +66,7 @@ fn fail_and_restart(board: &Board, port: &mut Port, flicks: &mut Flicks) -> bool
 // A port stops at a round after which its process is not idle, and its list is then shorter.
 #[test]
 fn three_threads_fail(rt: HostRuntime) -> Result<(), Fail> {
-    let closing = left(&rt, HEAD, &Failing, "a port is neither idle nor down")?;
+    let closing = remaining(&rt, HEAD, &Failing, "a port is neither idle nor down")?;
     let calls = closing.answers.as_slice();
     assert!(&rt; calls.len() == 3);
     assert!(&rt; calls[0].len() == 7 && calls[1].len() == 6 && calls[2].len() == 6);

@@ -242,7 +242,7 @@ fn a_port_held_inside_lets_the_other_in(rt: HostRuntime) -> Result<(), Fail> {
 
 // Both ports are held for good: the lower one is told.
 #[test]
-fn the_lowest_held_port_is_told(rt: HostRuntime) -> Result<(), Fail> {
+fn the_lowest_held_port_is_reported(rt: HostRuntime) -> Result<(), Fail> {
     let adds = [add()];
     let gate = Patient {
         asked: AtomicU32::new(0),

@@ -10,7 +10,7 @@ use std::thread::Threads;
 /// Makes the board of a scenario, lets its ports work on threads after the scenario's lines, and closes it. Fails the test unless
 /// port 0's first call is answered with `Done` and the lists are one history. A port that is at work fails it with `at_work`.
 #[tactic(auto, using(board::proofs::Orders::all_are_made, board::proofs::Orders::first_are_made))]
-pub fn left<R: AllocGlobal + Threads + Abort + Sync, W: Work + Sync>(
+pub fn remaining<R: AllocGlobal + Threads + Abort + Sync, W: Work + Sync>(
     rt: &R,
     file: &str,
     work: &W,

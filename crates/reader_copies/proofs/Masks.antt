@@ -57,8 +57,8 @@ mask-inside from n mask i masks there = (
 -- the word that the code makes
 pub mask-word : (from n : ℕ) → from + n ≤ 64 → 18446744073709551615 / 2 ^ (64 - n) * 2 ^ from % 18446744073709551616 ≡ 2 ^ (from + n) - 2 ^ from
 mask-word from n h =
-    let left : 64 - (64 - n) ≡ n = omega arith in
-    let ones : 18446744073709551615 / 2 ^ (64 - n) ≡ 2 ^ n - 1 = ones_shr 64 (64 - n) (omega arith) ∙ ap (λ k. 2 ^ k - 1) left in
+    let remaining : 64 - (64 - n) ≡ n = omega arith in
+    let ones : 18446744073709551615 / 2 ^ (64 - n) ≡ 2 ^ n - 1 = ones_shr 64 (64 - n) (omega arith) ∙ ap (λ k. 2 ^ k - 1) remaining in
     let product : (2 ^ n - 1) * 2 ^ from ≡ 2 ^ (from + n) - 2 ^ from = mul_comm (2 ^ n - 1) (2 ^ from) ∙ mul-sub (2 ^ from) (2 ^ n) 1 ∙ omega (arith, pow-add 2 from n) in
     let small : 2 ^ (from + n) - 2 ^ from < 2 ^ 64 = omega (arith, pow_mono {i = from + n} {j = 64} h, pow_pos from) in
     ap (λ x. x * 2 ^ from % 18446744073709551616) ones ∙ ap (λ x. x % 18446744073709551616) product ∙ mod-eq_of_lt small

@@ -3,10 +3,10 @@ ghost use Rattle.safe_bit.specs.{new_cell, cell_after, read_answer, without_read
 ghost use Rattle.reader_copies.specs.Flags.{flag_in, open_flags};
 ghost use Rattle.reader_copies.specs.Wordwise.{AreClosedAmong, IsWrittenAmong, after_read, after_write, over};
 ghost use Rattle.reader_copies.specs.Row.{cell_in};
-ghost use Rattle.reader_copies.specs.Seeing.{bit_seen};
+ghost use Rattle.reader_copies.specs.Seeing.{copy_state};
 ghost use Rattle.reader_copies.specs.Words.{bits_of_words};
 
-use crate::bit_seen::BitSeen;
+use crate::copy_state::CopyState;
 use crate::flag_words::{all_flags, choose, has_flag, mask, one_flag, with_flag};
 use safe_bit::Move;
 use std::alloc::{AllocError, Global};
@@ -224,13 +224,13 @@ impl Copies {
 
     /// Returns the state of the copy of bit `k`.
     #[inline]
-    pub fn seen(&self, k: usize) -> BitSeen
+    pub fn seen(&self, k: usize) -> CopyState
         requires { k < length self.now }
-        ensures { result ≡ bit_seen (cell_in self.now k) }
+        ensures { result ≡ copy_state (cell_in self.now k) }
     {
         let flags = &self.flags[k / 64];
         let bit = k % 64;
-        BitSeen {
+        CopyState {
             value: has_flag(flags.value, bit),
             writing: has_flag(flags.writing, bit),
             touched: has_flag(flags.touched, bit),

@@ -2,7 +2,7 @@ mod SameBits
 mod BitFacts
 mod RowFacts
 mod OpenFacts
-mod Watches
+mod Monitors
 mod OpeningBits
 mod MarkFacts
 mod OwnReads

@@ -10,12 +10,12 @@ use Rattle.plain_store.proofs.GoodSetups.{few-processes}
 use Rattle.model.specs.safe_bit.{Move, is_overlapped, is_write_open}
 use Rattle.model.specs.safe_bit.declared.Move.TheVariants.{BeginWrite, EndWrite, BeginRead, EndRead, Settle}
 use Rattle.model.specs.{Access, Mark, Past, moves_of, same_bit}
-use Rattle.record_accesses.specs.{AreOwnReads, AreShown, IsOwnRead, IsPossible, MarksOverlappedReads, OpenBitAccess, WaveLimit, begins, begins_read, begun_by, box_of, dropped, dropped_as, drops, entry_with, first_overlaps, is_writer, kind_of, left_open, opened, overlaps_by, overlaps_with, possible_access, possible_past, shown_as, shown_made, step_by, watched, watched_by, write_of, writer_of, writer_with, writes_bit}
-use Rattle.record_accesses.specs.declared.watched.Watched.TheVariants.{Made}
+use Rattle.record_accesses.specs.{AreOwnReads, AreShown, IsOwnRead, IsPossible, MarksOverlappedReads, OpenBitAccess, WaveLimit, begins, begins_read, begun_by, box_of, dropped, dropped_as, drops, entry_with, first_overlaps, is_writer, kind_of, left_open, opened, overlaps_by, overlaps_with, possible_access, possible_past, shown_as, shown_made, step_by, monitored, monitored_by, write_of, writer_of, writer_with, writes_bit}
+use Rattle.record_accesses.specs.declared.monitored.Monitored.TheVariants.{Made}
 use Rattle.record_accesses.proofs.BitFacts.{writer-open}
 use Rattle.record_accesses.proofs.OpenFacts.{opened-other, opened-own}
 use Rattle.record_accesses.proofs.SameBits.{same-bare, same-refl}
-use Rattle.record_accesses.proofs.Watches.{possible-parts}
+use Rattle.record_accesses.proofs.Monitors.{possible-parts}
 
 or-false : (b : Bool) → (b || false) ≡ b
 or-false true = refl
@@ -152,17 +152,17 @@ module _ (s : Setup) (limit : WaveLimit) (past : Past) (p : ℕ) (exists : p < s
 
   -- An entry of the process itself.
 
-  own-still : (marks : List Mark) (o : OpenBitAccess) → option_map given_access x ≡ option_map shown_as (watched s limit P (entry_with p None marks)) → begins_read o.access.how ≡ true →
+  own-still : (marks : List Mark) (o : OpenBitAccess) → option_map given_access x ≡ option_map shown_as (monitored s limit P (entry_with p None marks)) → begins_read o.access.how ≡ true →
       left_open (drops marks) (opened p P) ≡ Some o → (opened p P ≡ Some o → before ≡ Some (marked (is_overlapped (moves_of o.access P)))) →
       open_with p before x ≡ Some (marked (is_overlapped (moves_of o.access P)))
   own-still marks o shown read h rest =
       let kept = kept-read (drops marks) (opened p P) o h read in
       let old : opened p P ≡ Some o = ap (λ d. left_open d (opened p P)) (sym kept) ∙ h in
-      let nothing : option_map shown_as (watched s limit P (entry_with p None marks)) ≡ None =
+      let nothing : option_map shown_as (monitored s limit P (entry_with p None marks)) ≡ None =
       (λ i. option_map shown_as (cond (lt-ltb p s.processes exists i) (option_map (dropped_as (length P) p) (dropped (kept i) (opened p P))) None)) in
       box-none p before x (shown ∙ nothing) ∙ rest old
 
-  own-read : (marks : List Mark) (a : Access) (o : OpenBitAccess) → option_map given_access x ≡ option_map shown_as (watched s limit P (entry_with p (Some a) marks)) → begins_read o.access.how ≡ true →
+  own-read : (marks : List Mark) (a : Access) (o : OpenBitAccess) → option_map given_access x ≡ option_map shown_as (monitored s limit P (entry_with p (Some a) marks)) → begins_read o.access.how ≡ true →
       left_open (drops marks) (begun_by (length P) (Some a) (opened p P)) ≡ Some o →
       open_with p before x ≡ Some (marked (is_overlapped (moves_of o.access (entry_with p (Some a) marks ∷ P))))
   own-read marks a o shown read h =
@@ -170,8 +170,8 @@ module _ (s : Setup) (limit : WaveLimit) (past : Past) (p : ℕ) (exists : p < s
       let mine : OpenBitAccess = record { entry = length P; access = a } in
       let is : mine ≡ o = own-begun (begins a.how) mine o (ap (λ d. left_open d (begun_by (length P) (Some a) (opened p P))) (sym kept) ∙ h) in
       let how : a.how ≡ BeginRead = is-read a.how (ap (λ (o : OpenBitAccess). begins_read o.access.how) is ∙ read) in
-      let w = watched_by s limit P (entry_with p (Some a) marks) a in
-      let some : option_map shown_as (watched s limit P (entry_with p (Some a) marks)) ≡ Some (shown_made w) =
+      let w = monitored_by s limit P (entry_with p (Some a) marks) a in
+      let some : option_map shown_as (monitored s limit P (entry_with p (Some a) marks)) ≡ Some (shown_made w) =
       ap (λ t. option_map shown_as (cond t (Some (Made w)) None)) (lt-ltb p s.processes exists) in
       box-some p before x (shown_made w) (shown ∙ some)
       ∙ ap (λ t. cond t (open_by w.step (kind_of a.how) (is_any w.overlaps)) (option_map (overlapped_if (get_or w.overlaps p false)) before)) (eq-eqb p p refl)
@@ -188,7 +188,7 @@ module _ (s : Setup) (limit : WaveLimit) (past : Past) (p : ℕ) (exists : p < s
       (λ i. option_map (overlapped_if (none i)) (is i))
       ∙ ap (λ b. Some (marked b)) (or-false (is_overlapped (moves_of o.access P)))
 
-  other-still : (q : ℕ) (marks : List Mark) (o : OpenBitAccess) → option_map given_access x ≡ option_map shown_as (watched s limit P (entry_with q None marks)) → p ≢ q →
+  other-still : (q : ℕ) (marks : List Mark) (o : OpenBitAccess) → option_map given_access x ≡ option_map shown_as (monitored s limit P (entry_with q None marks)) → p ≢ q →
       before ≡ Some (marked (is_overlapped (moves_of o.access P))) → open_with p before x ≡ Some (marked (is_overlapped (moves_of o.access P)))
   other-still q marks o shown apart is = by (nat_lt q s.processes) (dropped (drops marks) (opened q P)) shown
     where
@@ -219,12 +219,12 @@ module _ (s : Setup) (limit : WaveLimit) (past : Past) (p : ℕ) (exists : p < s
   quiet-writer None h = refl
   quiet-writer (Some r) h = ne_eqb r p (λ e. h (ap Some e))
 
-  other-made : (q : ℕ) (marks : List Mark) (a : Access) (o : OpenBitAccess) → option_map given_access x ≡ option_map shown_as (watched s limit P (entry_with q (Some a) marks)) → p ≢ q → q < s.processes →
+  other-made : (q : ℕ) (marks : List Mark) (a : Access) (o : OpenBitAccess) → option_map given_access x ≡ option_map shown_as (monitored s limit P (entry_with q (Some a) marks)) → p ≢ q → q < s.processes →
       (a.how ≡ BeginRead → a.reader ≡ q) → opened p P ≡ Some o → begins_read o.access.how ≡ true → IsOwnRead P p o.access → before ≡ Some (marked (is_overlapped (moves_of o.access P))) →
       open_with p before x ≡ Some (marked (is_overlapped (moves_of o.access (entry_with q (Some a) marks ∷ P))))
   other-made q marks a o shown apart there reader old read mine is =
-      let w = watched_by s limit P (entry_with q (Some a) marks) a in
-      let some : option_map shown_as (watched s limit P (entry_with q (Some a) marks)) ≡ Some (shown_made w) =
+      let w = monitored_by s limit P (entry_with q (Some a) marks) a in
+      let some : option_map shown_as (monitored s limit P (entry_with q (Some a) marks)) ≡ Some (shown_made w) =
       ap (λ t. option_map shown_as (cond t (Some (Made w)) None)) (lt-ltb q s.processes there) in
       let flag : get_or (first_overlaps P a 16) p false ≡ overlaps_by a.how a (writer_of a P) p (Some o) =
       flag-at P a 16 p (omega (arith, exists, few)) ∙ ap (overlaps_by a.how a (writer_of a P) p) old in
@@ -238,7 +238,7 @@ module _ (s : Setup) (limit : WaveLimit) (past : Past) (p : ℕ) (exists : p < s
 
   module _ (rest : (o : OpenBitAccess) → opened p P ≡ Some o → begins_read o.access.how ≡ true → Both p P before o) where
     abbrev Step : ℕ → Option Access → List Mark → OpenBitAccess → Type 0
-    Step q access marks o = option_map given_access x ≡ option_map shown_as (watched s limit P (entry_with q access marks)) → ((a : Access) → access ≡ Some a → IsPossible s q a) → ((a : Access) → access ≡ Some a → a.how ≡ BeginRead → IsOwnRead P q a) →
+    Step q access marks o = option_map given_access x ≡ option_map shown_as (monitored s limit P (entry_with q access marks)) → ((a : Access) → access ≡ Some a → IsPossible s q a) → ((a : Access) → access ≡ Some a → a.how ≡ BeginRead → IsOwnRead P q a) →
         opened p (entry_with q access marks ∷ P) ≡ Some o → begins_read o.access.how ≡ true → Both p (entry_with q access marks ∷ P) (open_with p before x) o
 
     still-own : (q : ℕ) (marks : List Mark) (o : OpenBitAccess) → Both p P before o → IsOwnRead (entry_with q None marks ∷ P) p o.access

@@ -12,11 +12,11 @@ use Rattle.model.specs.{Access, Entry, Past, moves_of, opening_bit, width}
 use Rattle.record_file.specs.{copy_word}
 use Rattle.picture_layout.specs.declared.limits.WaveLimit.{WaveLimit}
 use Rattle.record_accesses.specs.declared.opened.OpenBitAccess.{OpenBitAccess}
-use Rattle.record_accesses.specs.declared.watched.DroppedRead.{DroppedRead}
-use Rattle.record_accesses.specs.declared.watched.BitChange.{BitChange}
-use Rattle.record_accesses.specs.declared.watched.Watched.{Watched}
-use Rattle.record_accesses.specs.declared.watched.Watched.TheVariants.{Made, Dropped}
-use Rattle.record_accesses.specs.declared.watched.WatchedBitAccess.{WatchedBitAccess}
+use Rattle.record_accesses.specs.declared.monitored.DroppedRead.{DroppedRead}
+use Rattle.record_accesses.specs.declared.monitored.BitChange.{BitChange}
+use Rattle.record_accesses.specs.declared.monitored.Monitored.{Monitored}
+use Rattle.record_accesses.specs.declared.monitored.Monitored.TheVariants.{Made, Dropped}
+use Rattle.record_accesses.specs.declared.monitored.MonitoredBitAccess.{MonitoredBitAccess}
 use Rattle.record_accesses.specs.Moves.{kind_of}
 use Rattle.record_accesses.specs.Opened.{dropped, drops, opened, writes_bit}
 use Rattle.record_accesses.specs.Overlaps.{first_overlaps}
@@ -71,8 +71,8 @@ change_by s limit past e a = change_of limit.count (row_in (waves_since limit.fr
     (is_write_open (moves_of a (e ∷ past)))
 
 -- The access of an entry.
-abbrev pub watched_by : Setup → WaveLimit → Past → Entry → Access → WatchedBitAccess
-watched_by s limit past e a = record {
+abbrev pub monitored_by : Setup → WaveLimit → Past → Entry → Access → MonitoredBitAccess
+monitored_by s limit past e a = record {
   event = length past;
   process = e.process;
   access = a;
@@ -84,20 +84,20 @@ watched_by s limit past e a = record {
 }
 
 -- The read that an entry without an access drops.
-abbrev pub dropped_as : ℕ → ℕ → OpenBitAccess → Watched
+abbrev pub dropped_as : ℕ → ℕ → OpenBitAccess → Monitored
 dropped_as number p o = Dropped (record { event = number; process = p; read = o })
 
-abbrev pub dropped_by : Past → Entry → Option Watched
+abbrev pub dropped_by : Past → Entry → Option Monitored
 dropped_by past e = option_map (dropped_as (length past) e.process) (dropped (drops e.marks) (opened e.process past))
 
 -- What is shown of an entry: its access, or the end of the read that it drops.
-abbrev pub watched_of : Setup → WaveLimit → Past → Entry → Option Access → Option Watched
-watched_of s limit past e None = dropped_by past e
-watched_of s limit past e (Some a) = Some (Made (watched_by s limit past e a))
+abbrev pub monitored_of : Setup → WaveLimit → Past → Entry → Option Access → Option Monitored
+monitored_of s limit past e None = dropped_by past e
+monitored_of s limit past e (Some a) = Some (Made (monitored_by s limit past e a))
 
 -- The same, of an entry of a process that exists.
-abbrev pub watched : Setup → WaveLimit → Past → Entry → Option Watched
-watched s limit past e = cond (nat_lt e.process s.processes) (watched_of s limit past e e.access) None
+abbrev pub monitored : Setup → WaveLimit → Past → Entry → Option Monitored
+monitored s limit past e = cond (nat_lt e.process s.processes) (monitored_of s limit past e e.access) None
 
 -- What is shown, in words.
 
@@ -106,7 +106,7 @@ abbrev pub shown_change : List ℕ → BitChange → GivenChange
 shown_change cell c = record { row = c.row; name = cell; old = bit_word c.old; value = bit_word c.value; was_open = c.was_open; is_open = c.is_open }
 
 -- An access. Its cell is spelled as in a record file.
-abbrev pub shown_made : WatchedBitAccess → GivenAccess
+abbrev pub shown_made : MonitoredBitAccess → GivenAccess
 shown_made w = record {
   event = w.event;
   process = w.process;
@@ -133,11 +133,11 @@ shown_dropped d = record {
   change = None;
 }
 
-abbrev pub shown_as : Watched → GivenAccess
+abbrev pub shown_as : Monitored → GivenAccess
 shown_as (Made w) = shown_made w
 shown_as (Dropped d) = shown_dropped d
 
 -- What a picture shows of the access of an entry, where these entries came before it. An access that is not possible is not shown, and
 -- counts for nothing later.
 abbrev pub shown_access : Setup → WaveLimit → Past → Entry → Option GivenAccess
-shown_access s limit past e = option_map shown_as (watched s limit (possible_past s past) (possible s e))
+shown_access s limit past e = option_map shown_as (monitored s limit (possible_past s past) (possible s e))

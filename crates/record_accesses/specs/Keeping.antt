@@ -61,7 +61,7 @@ pub record HasOpened (all : List (Option OpenBitAccess)) (past : Past) : Type 0 
 -- The watch.
 
 -- The setup, the bits, the bits that have waves, the open accesses, and the limit of waves.
-pub record WatchState : Type 0 where
+pub record MonitorState : Type 0 where
   pub setup : Setup
   pub bits : BitsState
   pub waves : List Access
@@ -69,17 +69,17 @@ pub record WatchState : Type 0 where
   pub limit : WaveLimit
 
 -- It has taken these entries, whose accesses are possible.
-pub record HasTaken (w : WatchState) (past : Past) : Type 0 where
+pub record HasTaken (w : MonitorState) (past : Past) : Type 0 where
   pub bits : HasBits w.setup w.bits past
   pub waves : w.waves ≡ waves_since w.limit.from past
   pub opened : HasOpened w.opened past
 
 -- This holds of each past of so many entries that was taken, and of each list of marks that drop a read or not.
-abbrev pub OfTaken : WatchState → ℕ → Bool → (Past → List Mark → Type 0) → Type 0
+abbrev pub OfTaken : MonitorState → ℕ → Bool → (Past → List Mark → Type 0) → Type 0
 OfTaken w number drops_it P = (past : Past) (marks : List Mark) → HasTaken w past → number ≡ length past → drops marks ≡ drops_it → P past marks
 
 -- It has watched these entries of a record with this setup, and shows the waves within this limit.
-pub record HasWatched (w : WatchState) (s : Setup) (limit : WaveLimit) (past : Past) : Type 0 where
+pub record HasMonitored (w : MonitorState) (s : Setup) (limit : WaveLimit) (past : Past) : Type 0 where
   pub setup : w.setup ≡ s
   pub shows : w.limit ≡ limit
   pub taken : HasTaken w (possible_past s past)

@@ -9,9 +9,9 @@ pub mod Overlaps
 pub mod Rows
 pub mod Waves
 pub mod Words
-pub use Accesses.{begin_of, change_by, dropped_as, dropped_by, is_there, possible, possible_access, possible_past, shown_access, shown_as, shown_change, shown_dropped, shown_made, step_by, step_of, watched, watched_by, watched_of}
+pub use Accesses.{begin_of, change_by, dropped_as, dropped_by, is_there, possible, possible_access, possible_past, shown_access, shown_as, shown_change, shown_dropped, shown_made, step_by, step_of, monitored, monitored_by, monitored_of}
 pub use Bits.{bit_after, bit_of, new_bit, writer_after, writer_of, writer_with}
-pub use Keeping.{BitsState, HasBits, HasOpened, HasTaken, HasWatched, IsPossible, OfTaken, WatchState, bits_taken, entry_with, no_bits, opened_taken, state_at}
+pub use Keeping.{BitsState, HasBits, HasOpened, HasTaken, HasMonitored, IsPossible, OfTaken, MonitorState, bits_taken, entry_with, no_bits, opened_taken, state_at}
 pub use Marks.{AreOwnReads, AreShown, IsOwnRead, MarksOverlappedReads, MarksOverlappedReadsOfRuns, box_of}
 pub use Moves.{alters, begins, kind_of, writes}
 pub use Opened.{begins_read, begun_by, dropped, drops, drops_read, left_open, opened, read_of, reads_bit, write_of, writes_bit}
@@ -22,7 +22,7 @@ pub use Words.{arrow, other_than, unlike, words_of}
 pub use declared.bits.BitState.{BitState}
 pub use Rattle.picture_layout.specs.{WaveCount, WaveLimit}
 pub use declared.opened.OpenBitAccess.{OpenBitAccess}
-pub use declared.watched.DroppedRead.{DroppedRead}
-pub use declared.watched.BitChange.{BitChange}
-pub use declared.watched.Watched.{Watched}
-pub use declared.watched.WatchedBitAccess.{WatchedBitAccess}
+pub use declared.monitored.DroppedRead.{DroppedRead}
+pub use declared.monitored.BitChange.{BitChange}
+pub use declared.monitored.Monitored.{Monitored}
+pub use declared.monitored.MonitoredBitAccess.{MonitoredBitAccess}

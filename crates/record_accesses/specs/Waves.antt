@@ -3,7 +3,7 @@ use Rattle.std.specs.Prelude.{ℕ, nat_lt, Bool, cond, Option, None, Some, optio
 use Rattle.model.specs.safe_bit.{Move}
 use Rattle.picture_layout.specs.declared.limits.WaveCount.{WaveCount}
 use Rattle.picture_layout.specs.declared.limits.WaveCount.TheVariants.{Sixteen, All}
-use Rattle.record_accesses.specs.declared.watched.BitChange.{BitChange}
+use Rattle.record_accesses.specs.declared.monitored.BitChange.{BitChange}
 use Rattle.record_accesses.specs.Moves.{alters}
 
 -- A row is shown.

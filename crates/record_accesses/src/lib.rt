@@ -1,12 +1,12 @@
 //! The accesses of a run or of a record, good or bad, as a picture shows them.
 //!
-//! The definitions look back over the entries before an entry. A [`RecordAccessWatch`] observes the entries one by one. Its
+//! The definitions look back over the entries before an entry. A [`RecordAccessMonitor`] observes the entries one by one. Its
 //! method `observe` takes an entry with its number, and returns what is shown of the access of the entry. The watch keeps the
 //! access that each process has open, and the state of each bit that was written, so its memory does not grow with the number
 //! of entries. It is created before the first entry:
 //!
 //! ```rust
-//! let mut watch = RecordAccessWatch::new(alloc, setup, limit)?;
+//! let mut monitor = RecordAccessMonitor::new(alloc, setup, limit)?;
 //! ```
 //!
 //! Columns keep one open access for each process, whose place the next access of the process takes. The entries of a process
@@ -35,9 +35,9 @@
 //! | `opened` | the access that each process has open |
 //! | `openings` | which bits exist, and their opening values |
 //! | `overlaps` | which open accesses an access overlaps |
-//! | `watched` | an access in numbers |
+//! | `monitored` | an access in numbers |
 //! | `words` | an access in words |
-//! | `watch` | the watch |
+//! | `monitor` | the watch |
 //! | `wave_rows` | the row of each bit that has a wave |
 //! | `written_bits` | the state of each bit that was written |
 #![tactic(auto)]
@@ -49,8 +49,8 @@ mod moves;
 mod opened;
 mod openings;
 mod overlaps;
-mod watch;
-mod watched;
+mod monitor;
+mod monitored;
 mod wave_rows;
 mod words;
 mod written_bits;
@@ -59,7 +59,7 @@ pub use boxes::boxes_show_overlapped_reads;
 pub use picture_layout::{WaveCount, WaveLimit};
 pub use opened::drops_open_read;
 pub use plain_store;
-pub use watch::RecordAccessWatch;
+pub use monitor::RecordAccessMonitor;
 pub use wave_rows::written_bits_have_waves;
 
 #[cfg(test)]

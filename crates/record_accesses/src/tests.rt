@@ -2,7 +2,7 @@
 ghost use Rattle.std.specs.Prelude.{◌≡◌, Ok};
 ghost use Rattle.plain_store.specs.{checked};
 
-use crate::{RecordAccessWatch, WaveCount, WaveLimit};
+use crate::{RecordAccessMonitor, WaveCount, WaveLimit};
 use picture_layout::{AccessKind, AccessStep, ShownAccess, WaveChange};
 use plain_store::{Name, Setup, Value};
 use model::{Access, Act, Entry, Field, Mark, Move};
@@ -112,10 +112,10 @@ fn first_other(
 ) -> Result<Option<usize>, AllocError>
     requires { checked setup.now ≡ Ok tt }
 {
-    let mut watch = RecordAccessWatch::new(alloc, setup, limit)?;
+    let mut monitor = RecordAccessMonitor::new(alloc, setup, limit)?;
     for (number, case) in cases.iter().enumerate() {
         let entry = entry(alloc, case)?;
-        let text = match watch.observe(alloc, number as u64, &entry)? {
+        let text = match monitor.observe(alloc, number as u64, &entry)? {
             Some(access) => line(alloc, &access)?,
             None => Vec::new(alloc),
         };
@@ -331,11 +331,11 @@ fn seventeenth_row(
 ) -> Result<Option<u16>, AllocError>
     requires { checked setup.now ≡ Ok tt }
 {
-    let mut watch = RecordAccessWatch::new(alloc, setup, limit)?;
+    let mut monitor = RecordAccessMonitor::new(alloc, setup, limit)?;
     let mut row = None;
     for bit in 0..17 {
         let access = access((0, Field::Image0, bit, 0), Move::BeginWrite(true));
-        row = match watch.observe_access(alloc, u64::from(bit), 0, &Some(access), false)? {
+        row = match monitor.observe_access(alloc, u64::from(bit), 0, &Some(access), false)? {
             Some(shown) => match &shown.change {
                 Some(change) => Some(change.row),
                 None => None,

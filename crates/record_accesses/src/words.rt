@@ -7,12 +7,12 @@ ghost use Rattle.record_accesses.specs.Accesses.{shown_as, shown_change, shown_d
 ghost use Rattle.record_accesses.specs.Words.{unlike, words_of};
 
 use crate::moves::kind;
-use crate::watched::{BitChange, DroppedRead, Watched, WatchedBitAccess};
+use crate::monitored::{BitChange, DroppedRead, Monitored, MonitoredBitAccess};
 use picture_layout::{AccessKind, AccessStep, ShownAccess, WaveChange};
 use model::{Access, Move};
 use std::alloc::{AllocError, Global};
 
-impl Watched {
+impl Monitored {
     /// Returns what is shown, with its words.
     ///
     /// # Errors
@@ -22,8 +22,8 @@ impl Watched {
         ensures { IfOk result (λ access. given_access access ≡ shown_as self.now) }
     {
         match self {
-            Watched::Made(access) => access.shown(alloc),
-            Watched::Dropped(read) => read.shown(alloc),
+            Monitored::Made(access) => access.shown(alloc),
+            Monitored::Dropped(read) => read.shown(alloc),
         }
     }
 }
@@ -47,7 +47,7 @@ impl DroppedRead {
     }
 }
 
-impl WatchedBitAccess {
+impl MonitoredBitAccess {
     /// Returns the access with its words.
     fn shown(&self, alloc: Global) -> Result<ShownAccess, AllocError>
         ensures { IfOk result (λ access. given_access access ≡ shown_made self.now) }

@@ -66,19 +66,19 @@ pub signed_is : (m : Mark) → codes " : " ++ mark_text m ≡ behind_spaces (sig
 signed_is m = ap (λ t. codes " :" ++ t) (mark_is m)
 
 -- a line and the marks from a position on, one mark later
-pub marks_more : (told : List ℕ) (marks : List Mark) (k : ℕ) (here : Mark) → k < length marks → here ≡ get_or marks k here → (told ++ behind_spaces (signed_words here)) ++ behind_spaces (flat_map signed_words (drop (k + 1) marks)) ≡ told ++ behind_spaces (flat_map signed_words (drop k marks))
-marks_more told marks k here within is =
-    append_assoc told _ _
-    ∙ ap (λ t. told ++ t) (sym (spaces_append (signed_words here) (flat_map signed_words (drop (k + 1) marks))))
-    ∙ ap (λ ms. told ++ behind_spaces (flat_map signed_words ms)) (sym (drop_in marks k here within is))
+pub marks_more : (reported : List ℕ) (marks : List Mark) (k : ℕ) (here : Mark) → k < length marks → here ≡ get_or marks k here → (reported ++ behind_spaces (signed_words here)) ++ behind_spaces (flat_map signed_words (drop (k + 1) marks)) ≡ reported ++ behind_spaces (flat_map signed_words (drop k marks))
+marks_more reported marks k here within is =
+    append_assoc reported _ _
+    ∙ ap (λ t. reported ++ t) (sym (spaces_append (signed_words here) (flat_map signed_words (drop (k + 1) marks))))
+    ∙ ap (λ ms. reported ++ behind_spaces (flat_map signed_words ms)) (sym (drop_in marks k here within is))
 
 -- a process without an access
 pub no_access_is : (p : ℕ) → decimal p ≡ decimal p ++ behind_spaces (access_words None)
 no_access_is p = sym (append-nil (decimal p))
 
 -- three parts, put together after a text
-behind_text : (told a b c : List ℕ) → ((told ++ a) ++ b) ++ c ≡ told ++ ((a ++ b) ++ c)
-behind_text told a b c = simp append_assoc
+behind_text : (reported a b c : List ℕ) → ((reported ++ a) ++ b) ++ c ≡ reported ++ ((a ++ b) ++ c)
+behind_text reported a b c = simp append_assoc
 
 line_is : (e : Entry) → ((decimal e.process ++ behind_spaces (access_words e.access)) ++ behind_spaces (flat_map signed_words e.marks)) ++ codes "\n" ≡ entry_line e
 line_is e =
@@ -94,5 +94,5 @@ pub step_is : (p : ℕ) (a : Access) → (decimal p ++ behind_spaces (access_wor
 step_is p a = ap (λ t. t ++ codes "\n") (sym (append-nil (decimal p ++ behind_spaces (access_words (Some a))))) ∙ line_is (step_entry p a)
 
 -- the line of an entry after a text, by the words before its marks
-pub entry_is : (told : List ℕ) (e : Entry) → ((told ++ (decimal e.process ++ behind_spaces (access_words e.access))) ++ behind_spaces (flat_map signed_words e.marks)) ++ codes "\n" ≡ told ++ entry_line e
-entry_is told e = behind_text told (decimal e.process ++ behind_spaces (access_words e.access)) (behind_spaces (flat_map signed_words e.marks)) (codes "\n") ∙ ap (λ t. told ++ t) (line_is e)
+pub entry_is : (reported : List ℕ) (e : Entry) → ((reported ++ (decimal e.process ++ behind_spaces (access_words e.access))) ++ behind_spaces (flat_map signed_words e.marks)) ++ codes "\n" ≡ reported ++ entry_line e
+entry_is reported e = behind_text reported (decimal e.process ++ behind_spaces (access_words e.access)) (behind_spaces (flat_map signed_words e.marks)) (codes "\n") ∙ ap (λ t. reported ++ t) (line_is e)

@@ -156,9 +156,9 @@ short_fits e sound are =
     let others = and_parts (is_access e.access) (list_all is_mark e.marks) parts.1 in
     let process : length (decimal e.process) ≤ 3 = byte_digits e.process parts.0 in
     let access : size (access_words e.access) ≤ 32 = access_size e.access others.0 in
-    let told : size (flat_map signed_words e.marks) ≤ room e.marks = marks_size e.marks others.1 in
+    let reported : size (flat_map signed_words e.marks) ≤ room e.marks = marks_size e.marks others.1 in
     let small : room e.marks ≤ 71 = are.small in
     let both : size (access_words e.access ++ flat_map signed_words e.marks) ≡ size (access_words e.access) + size (flat_map signed_words e.marks) = size-append (access_words e.access) (flat_map signed_words e.marks) in
     let whole : size (entry_words e) ≡ length (decimal e.process) + (1 + size (access_words e.access ++ flat_map signed_words e.marks)) = refl in
     let within : length (spaced (entry_words e)) ≤ size (entry_words e) = length-spaced (entry_words e) in
-    record { entry = record { sound = sound; few = are.few }; short = omega (arith, process, access, told, small, both, whole, within) }
+    record { entry = record { sound = sound; few = are.few }; short = omega (arith, process, access, reported, small, both, whole, within) }

@@ -16,12 +16,12 @@ rank BadSetup = 7
 rank Memory = 8
 
 -- the fault that is reported, of the faults of two parts
-abbrev pub told_of : FaultKind → FaultKind → FaultKind
-told_of one other = if nat_le (rank one) (rank other) then one else other
+abbrev pub reported_of : FaultKind → FaultKind → FaultKind
+reported_of one other = if nat_le (rank one) (rank other) then one else other
 
 -- the values of two parts of a line, or the fault that is reported
 abbrev pub both : {A B : Type 0} → Result A FaultKind → Result B FaultKind → Result (A × B) FaultKind
 both (Ok a) (Ok b) = Ok (a, b)
 both (Ok a) (Err fault) = Err fault
 both (Err fault) (Ok b) = Err fault
-both (Err one) (Err other) = Err (told_of one other)
+both (Err one) (Err other) = Err (reported_of one other)

@@ -30,7 +30,7 @@ dotted = slice_split (λ b. b == 46)
 
 -- a word has these four parts, or another number of them
 abbrev pub AreFourParts : Option (Bor (List ℕ) × Bor (List ℕ) × Bor (List ℕ) × Bor (List ℕ)) → List ℕ → Type 0
-AreFourParts told word = MatchOption told (not (length (dotted word) == 4) ≡ true) (λ parts. dotted word ≡ parts.0.now ∷ parts.1.now ∷ parts.2.now ∷ parts.3.now ∷ [])
+AreFourParts reported word = MatchOption reported (not (length (dotted word) == 4) ≡ true) (λ parts. dotted word ≡ parts.0.now ∷ parts.1.now ∷ parts.2.now ∷ parts.3.now ∷ [])
 
 -- the register that the word of a copy names: it has four parts, of which the second is a register's word
 abbrev pub field_at : List (List ℕ) → Result Field FaultKind

@@ -78,14 +78,14 @@ fn up_to_dot(word: &[u8]) -> (&[u8], Option<&[u8]>)
     ensures split { dotted word.now ≡ result.0.now ∷ option_map_or (λ r. dotted r.now) result.1 [] }
     ensures more { IfSome result.1 (λ rest. 0 < length (dotted rest.now)) }
 {
-    match place_of_dot(word) {
+    match offset_of_dot(word) {
         None => (word, None),
         Some(at) => (&word[..at], Some(&word[at + 1..])),
     }
 }
 
 /// Returns the number of bytes before the first dot, if there is one.
-fn place_of_dot(word: &[u8]) -> Option<usize>
+fn offset_of_dot(word: &[u8]) -> Option<usize>
     ensures place { result ≡ position (λ b. b == 46) word.now }
     ensures within { IfSome result (λ at. at < length word.now) }
 {

@@ -89,12 +89,12 @@ fn marks(alloc: Global, signed: Option<&[&[u8]]>) -> Result<MarkList, FaultKind>
         read: SmallVec::new(alloc),
     });
     let mut number = 0;
-    let mut left = signed;
-    'marks: while let Some(words) = left {
+    let mut remaining = signed;
+    'marks: while let Some(words) = remaining {
         let (part, behind) = up_to_sign(words);
         marks = with_mark(number, marks, mark(part));
         number += 1;
-        left = behind;
+        remaining = behind;
     }
     marks
 }
@@ -126,14 +126,14 @@ fn up_to_sign<'a, 'w>(words: &'a [&'w [u8]]) -> (&'a [&'w [u8]], Option<&'a [&'w
     ensures split { parts_of (texts words.now) ≡ texts result.0.now ∷ parts_behind result.1 }
     ensures shorter { IfSome result.1 (λ behind. length behind.now < length words.now) }
 {
-    match place_of_sign(words) {
+    match offset_of_sign(words) {
         None => (words, None),
         Some(at) => (&words[..at], Some(&words[at + 1..])),
     }
 }
 
 /// Returns the number of words before the first sign, if there is one.
-fn place_of_sign(words: &[&[u8]]) -> Option<usize>
+fn offset_of_sign(words: &[&[u8]]) -> Option<usize>
     ensures place { result ≡ position (λ w. sign w.now) words.now }
     ensures within { IfSome result (λ at. at < length words.now) }
 {

@@ -1,6 +1,6 @@
 //! The order of the faults of a line.
 ghost use Rattle.std.specs.Prelude.{◌≡◌, Ok, IfOk};
-ghost use Rattle.record_file.specs.Faults.{both as both_of, rank as rank_of, told_of};
+ghost use Rattle.record_file.specs.Faults.{both as both_of, rank as rank_of, reported_of};
 
 use files::FaultKind;
 
@@ -21,8 +21,8 @@ fn rank(kind: FaultKind) -> u8
     }
 }
 
-fn told(one: FaultKind, other: FaultKind) -> FaultKind
-    ensures { result ≡ told_of one other }
+fn reported(one: FaultKind, other: FaultKind) -> FaultKind
+    ensures { result ≡ reported_of one other }
 {
     if rank(one) <= rank(other) { one } else { other }
 }
@@ -47,7 +47,7 @@ pub fn both<A: Drop, B: Drop>(
         },
         Err(fault) => match other {
             Ok(_) => Err(fault),
-            Err(further) => Err(told(fault, further)),
+            Err(further) => Err(reported(fault, further)),
         },
     }
 }

@@ -103,8 +103,8 @@ pub come-locks : (n : ℕ) (d : ProcessState) (locks new : List LockRows) → d 
 come-locks n d locks new door is goes = goes ∙ (λ i. (door_after n true (door i, is i)).1)
 
 -- the locks once it has failed
-pub fallen-locks : (n : ℕ) (d then : ProcessState) (locks new left : List LockRows) → d ≡ started two 0 → locks ≡ new_locks two → then ≡ (door_after n true (d, locks)).0 → new ≡ (door_after n true (d, locks)).1 → left ≡ dropped then new → left ≡ fallen n
-fallen-locks n d then locks new left door is goes makes drop = drop ∙ (λ i. dropped (come-door n d then locks door is goes i) (come-locks n d locks new door is makes i))
+pub fallen-locks : (n : ℕ) (d then : ProcessState) (locks new remaining : List LockRows) → d ≡ started two 0 → locks ≡ new_locks two → then ≡ (door_after n true (d, locks)).0 → new ≡ (door_after n true (d, locks)).1 → remaining ≡ dropped then new → remaining ≡ fallen n
+fallen-locks n d then locks new remaining door is goes makes drop = drop ∙ (λ i. dropped (come-door n d then locks door is goes i) (come-locks n d locks new door is makes i))
 
 -- and its memory unit
 pub unit-is : (n : ℕ) (s : Setup) (d then : ProcessState) (locks : List LockRows) (torn : Option TornBit) (unit : ProcessState) → s ≡ two → d ≡ started two 0 → locks ≡ new_locks two → then ≡ (door_after n true (d, locks)).0 →
@@ -113,5 +113,5 @@ unit-is n s d then locks torn unit is door all goes tears begins =
     begins ∙ (λ i. settling_with (process_after (is i) [] 0) ((tears ∙ ap (λ (x : ProcessState). torn_of x.setup x.process x.doing) (come-door n d then locks door all goes)) i))
 
 -- the locks once it is down
-pub down-locks : (n : ℕ) (value : Bool) (unit : ProcessState) (left new : List LockRows) (row : DataRow) → unit ≡ unit_there n → left ≡ fallen n → row ≡ opening → new ≡ locks_settled value unit 0 left row → new ≡ down n value
-down-locks n value unit left new row is gone opens settled = settled ∙ (λ i. locks_settled value (is i) 0 (gone i) (opens i))
+pub down-locks : (n : ℕ) (value : Bool) (unit : ProcessState) (remaining new : List LockRows) (row : DataRow) → unit ≡ unit_there n → remaining ≡ fallen n → row ≡ opening → new ≡ locks_settled value unit 0 remaining row → new ≡ down n value
+down-locks n value unit remaining new row is gone opens settled = settled ∙ (λ i. locks_settled value (is i) 0 (gone i) (opens i))

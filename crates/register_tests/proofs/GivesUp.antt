@@ -102,14 +102,14 @@ pub waited-locks : (waits d : ProcessState) (n : ℕ) (locks new : List LockRows
 waited-locks waits d n locks new door is goes = goes ∙ (λ i. (door_after n true (door i, is i)).1)
 
 -- the locks once it has given up
-pub left-locks : (waits d then : ProcessState) (n : ℕ) (locks new left : List LockRows) → d ≡ waits → locks ≡ both_wait → then ≡ (door_after n true (d, locks)).0 → new ≡ (door_after n true (d, locks)).1 → left ≡ dropped then new → left ≡ given_up waits n
-left-locks waits d then n locks new left door is goes makes drop =
+pub remaining-locks : (waits d then : ProcessState) (n : ℕ) (locks new remaining : List LockRows) → d ≡ waits → locks ≡ both_wait → then ≡ (door_after n true (d, locks)).0 → new ≡ (door_after n true (d, locks)).1 → remaining ≡ dropped then new → remaining ≡ given_up waits n
+remaining-locks waits d then n locks new remaining door is goes makes drop =
     drop ∙ (λ i. dropped (waited-door waits d then n locks door is goes i) (waited-locks waits d n locks new door is makes i))
 
 -- once its ticket is cleared
-pub cleared-locks : (waits : ProcessState) (p n : ℕ) (s : Setup) (left new : List LockRows) → s ≡ two → left ≡ given_up waits n → new ≡ after_clearing s p left → new ≡ cleared waits p n
-cleared-locks waits p n s left new is gone clears = clears ∙ (λ i. after_clearing (is i) p (gone i))
+pub cleared-locks : (waits : ProcessState) (p n : ℕ) (s : Setup) (remaining new : List LockRows) → s ≡ two → remaining ≡ given_up waits n → new ≡ after_clearing s p remaining → new ≡ cleared waits p n
+cleared-locks waits p n s remaining new is gone clears = clears ∙ (λ i. after_clearing (is i) p (gone i))
 
 -- and once they were read
-pub read-locks : (waits : ProcessState) (p n : ℕ) (s : Setup) (left new read : List LockRows) → s ≡ two → left ≡ given_up waits n → new ≡ after_clearing s p left → read ≡ after_lock_read new p p true → read ≡ cleared_read waits p n
-read-locks waits p n s left new read is gone clears reads = reads ∙ ap (λ (x : List LockRows). after_lock_read x p p true) (cleared-locks waits p n s left new is gone clears)
+pub read-locks : (waits : ProcessState) (p n : ℕ) (s : Setup) (remaining new read : List LockRows) → s ≡ two → remaining ≡ given_up waits n → new ≡ after_clearing s p remaining → read ≡ after_lock_read new p p true → read ≡ cleared_read waits p n
+read-locks waits p n s remaining new read is gone clears reads = reads ∙ ap (λ (x : List LockRows). after_lock_read x p p true) (cleared-locks waits p n s remaining new is gone clears)

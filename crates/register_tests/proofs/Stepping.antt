@@ -57,13 +57,13 @@ unit-stepped flick rest u then lock new versions changed a is unit after more =
 
 -- WHAT A CLEARING TELLS
 
-pub going-on : (goes : Bool) (told : Progress) → told ≡ progress_of (not goes) → told ≡ Going → goes ≡ true
-going-on true told is going = refl
-going-on false told is going = let f : Done ≡ Going = sym is ∙ going in cc
+pub going-on : (goes : Bool) (reported : Progress) → reported ≡ progress_of (not goes) → reported ≡ Going → goes ≡ true
+going-on true reported is going = refl
+going-on false reported is going = let f : Done ≡ Going = sym is ∙ going in cc
 
-pub gone-over : (goes : Bool) (told : Progress) → told ≡ progress_of (not goes) → told ≡ Done → goes ≡ false
-gone-over false told is done = refl
-gone-over true told is done = let f : Going ≡ Done = sym is ∙ done in cc
+pub gone-over : (goes : Bool) (reported : Progress) → reported ≡ progress_of (not goes) → reported ≡ Done → goes ≡ false
+gone-over false reported is done = refl
+gone-over true reported is done = let f : Going ≡ Done = sym is ∙ done in cc
 
 -- WHAT A UNIT LEAVES
 

@@ -70,35 +70,35 @@ ends-after going next zero s over = refl
 ends-after {S} going next (suc n) s over = ap (λ (b : Bool). elim b as (λ _. S) [ false ↦ s | true ↦ after going next n (next s) ]) over
 
 -- so many of them are left, which come to where all of them come
-abbrev pub IsAlong : {S : Type 0} → (going can : S → Bool) → (next : S → S) → (most left : ℕ) → (now start : S) → Type 0
-IsAlong going can next most left now start = (going now ≡ true) × (goes going can next left now ≡ true) × (after going next left now ≡ after going next most start)
+abbrev pub IsAlong : {S : Type 0} → (going can : S → Bool) → (next : S → S) → (most remaining : ℕ) → (now start : S) → Type 0
+IsAlong going can next most remaining now start = (going now ≡ true) × (goes going can next remaining now ≡ true) × (after going next remaining now ≡ after going next most start)
 
 -- at first all are left
-pub along-start : {S : Type 0} (going can : S → Bool) (next : S → S) (most left : ℕ) (s : S) → left ≡ most → going s ≡ true → goes going can next most s ≡ true → IsAlong going can next most left s s
-along-start going can next most left s is may h = (may, ap (λ k. goes going can next k s) is ∙ h, ap (λ k. after going next k s) is)
+pub along-start : {S : Type 0} (going can : S → Bool) (next : S → S) (most remaining : ℕ) (s : S) → remaining ≡ most → going s ≡ true → goes going can next most s ≡ true → IsAlong going can next most remaining s s
+along-start going can next most remaining s is may h = (may, ap (λ k. goes going can next k s) is ∙ h, ap (λ k. after going next k s) is)
 
 -- then the next one may be made
-pub may-on : {S : Type 0} (going can : S → Bool) (next : S → S) (most left m : ℕ) (now start : S) → IsAlong going can next most left now start → left ≡ suc m → can now ≡ true
-may-on going can next most left m now start along is = (first-goes going can next left m now is along.0 along.1).0
+pub may-on : {S : Type 0} (going can : S → Bool) (next : S → S) (most remaining m : ℕ) (now start : S) → IsAlong going can next most remaining now start → remaining ≡ suc m → can now ≡ true
+may-on going can next most remaining m now start along is = (first-goes going can next remaining m now is along.0 along.1).0
 
 -- it leaves one fewer
-pub along-on : {S : Type 0} (going can : S → Bool) (next : S → S) (most left m : ℕ) (now start then : S) → IsAlong going can next most left now start → left ≡ suc m → then ≡ next now → going then ≡ true →
+pub along-on : {S : Type 0} (going can : S → Bool) (next : S → S) (most remaining m : ℕ) (now start then : S) → IsAlong going can next most remaining now start → remaining ≡ suc m → then ≡ next now → going then ≡ true →
     IsAlong going can next most m then start
-along-on going can next most left m now start then along is step more = (
+along-on going can next most remaining m now start then along is step more = (
   more,
-  ap (goes going can next m) step ∙ (first-goes going can next left m now is along.0 along.1).1,
-  ap (after going next m) step ∙ sym (first-after going next left m now is along.0) ∙ along.2,
+  ap (goes going can next m) step ∙ (first-goes going can next remaining m now is along.0 along.1).1,
+  ap (after going next m) step ∙ sym (first-after going next remaining m now is along.0) ∙ along.2,
 )
 
 -- or comes to the end
-pub along-over : {S : Type 0} (going can : S → Bool) (next : S → S) (most left m : ℕ) (now start then : S) → IsAlong going can next most left now start → left ≡ suc m → then ≡ next now → going then ≡ false →
+pub along-over : {S : Type 0} (going can : S → Bool) (next : S → S) (most remaining m : ℕ) (now start then : S) → IsAlong going can next most remaining now start → remaining ≡ suc m → then ≡ next now → going then ≡ false →
     then ≡ after going next most start
-along-over going can next most left m now start then along is step over =
-    sym (ends-after going next m then over) ∙ ap (after going next m) step ∙ sym (first-after going next left m now is along.0) ∙ along.2
+along-over going can next most remaining m now start then along is step over =
+    sym (ends-after going next m then over) ∙ ap (after going next m) step ∙ sym (first-after going next remaining m now is along.0) ∙ along.2
 
 -- once none is left, all are made
-pub along-all : {S : Type 0} (going can : S → Bool) (next : S → S) (most left : ℕ) (now start : S) → IsAlong going can next most left now start → left ≡ 0 → now ≡ after going next most start
-along-all going can next most left now start along is = sym (ap (λ k. after going next k now) is) ∙ along.2
+pub along-all : {S : Type 0} (going can : S → Bool) (next : S → S) (most remaining : ℕ) (now start : S) → IsAlong going can next most remaining now start → remaining ≡ 0 → now ≡ after going next most start
+along-all going can next most remaining now start along is = sym (ap (λ k. after going next k now) is) ∙ along.2
 
 -- EACH NUMBER BELOW A BOUND
 

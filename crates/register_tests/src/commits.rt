@@ -286,7 +286,7 @@ fn is_settled(made: &CutCommit) -> bool {
 /// then the one written, where it is settled at 1, and else the empty one before it.
 fn settled_at(alloc: Global, value: bool) -> Result<[bool; 3], AllocError> {
     let _nested: NestedTypes = None;
-    let _told: Option<SectionProgress> = None;
+    let _reported: Option<SectionProgress> = None;
     let made = cut_in_the_commit(alloc, value)?;
     let newest = if value {
         has_five(&made.newest)

@@ -7,7 +7,7 @@ use model::Move;
 use std::test::Fail;
 
 /// Whether a step tells this: the copy of which reader, the move, and what remains.
-fn tells(step: (Made, Progress), reader: u8, how: Move, remains: Progress) -> bool {
+fn reports(step: (Made, Progress), reader: u8, how: Move, remains: Progress) -> bool {
     step.0 == Made { reader, how } && step.1 == remains
 }
 
@@ -40,12 +40,12 @@ fn writes_both_copies(rt: HostRuntime) -> Result<(), Fail> {
     let mut bit = CopiedBit::new(rt.alloc(), 2, false)?;
     let [one, two, three, four] = written(&mut bit);
     let (end, value) = read(&mut bit);
-    let first = tells(one, 0, Move::BeginWrite(true), Progress::Going)
-        && tells(two, 0, Move::EndWrite, Progress::Going);
-    let second = tells(three, 1, Move::BeginWrite(true), Progress::Going)
-        && tells(four, 1, Move::EndWrite, Progress::Done);
+    let first = reports(one, 0, Move::BeginWrite(true), Progress::Going)
+        && reports(two, 0, Move::EndWrite, Progress::Going);
+    let second = reports(three, 1, Move::BeginWrite(true), Progress::Going)
+        && reports(four, 1, Move::EndWrite, Progress::Done);
     assert!(rt; first && second);
-    assert!(rt; tells(end, 1, Move::EndRead(true), Progress::Done) && value == Some(true));
+    assert!(rt; reports(end, 1, Move::EndRead(true), Progress::Done) && value == Some(true));
     Ok(())
 }
 

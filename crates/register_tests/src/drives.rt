@@ -19,8 +19,8 @@ fn written_and_read(alloc: Global) -> Result<Option<(u64, u64, u64)>, NumberFaul
 // A register of 4 bits and 2 readers takes 16 accesses to write and 8 to read.
 #[test]
 fn register_steps_and_widths(rt: HostRuntime) -> Result<(), NumberFault> {
-    let told = written_and_read(rt.alloc())?;
-    assert!(rt; matches!(told, Some((16, 8, 5))));
+    let reported = written_and_read(rt.alloc())?;
+    assert!(rt; matches!(reported, Some((16, 8, 5))));
     Ok(())
 }
 
@@ -60,9 +60,9 @@ const CUTS: [(u32, bool, Option<u16>, u32, u64); 8] = [
 #[test]
 fn torn_write_table(rt: HostRuntime) -> Result<(), NumberFault> {
     for (steps, settled, torn, settling, number) in CUTS {
-        let left = cut_after(rt.alloc(), steps, settled)?;
+        let remaining = cut_after(rt.alloc(), steps, settled)?;
         assert!(rt;
-            left == Some((torn, settling, 4, number)),
+            remaining == Some((torn, settling, 4, number)),
             "after {steps} steps"
         );
     }

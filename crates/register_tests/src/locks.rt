@@ -46,8 +46,8 @@ fn halts(alloc: Global) -> Result<(Access, Option<(Field, u16, Made)>), AllocErr
     let mut locks = Locks::new(alloc, &setup)?;
     let mut door = Door::new(alloc, 0, &setup)?;
     door.start();
-    let (access, told) = door.step(&mut locks, true);
-    let DoorProgress::Doorway = told else {
+    let (access, reported) = door.step(&mut locks, true);
+    let DoorProgress::Doorway = reported else {
         return Ok((access, None));
     };
     let Some(torn) = door.fail(&mut locks) else {

@@ -20,7 +20,7 @@ fn first_step(alloc: Global) -> Result<(Access, UnitProgress), AllocError> {
 // On the registers of a process that failed before its first access, the unit begins to clear the ticket.
 #[test]
 fn clears_the_registers(rt: HostRuntime) -> Result<(), AllocError> {
-    let (access, told) = first_step(rt.alloc())?;
+    let (access, reported) = first_step(rt.alloc())?;
     assert!(rt;
         matches!(
             access,
@@ -33,7 +33,7 @@ fn clears_the_registers(rt: HostRuntime) -> Result<(), AllocError> {
             }
         )
     );
-    assert!(rt; matches!(told, UnitProgress::Clearing));
+    assert!(rt; matches!(reported, UnitProgress::Clearing));
     Ok(())
 }
 

@@ -2,8 +2,8 @@
 use Rattle.std.proofs.Common.{◌≡◌, ℕ, ◌+◌, ◌-◌, ◌*◌, ◌/◌, ◌%◌, ◌<◌, ◌≤◌, Bool, false, List, set, get_or, length, refl, subst, sym, ◌∙◌, arith, ap}
 use Rattle.safe_bit.specs.Cell.{Cell}
 use Rattle.reader_copies.specs.{after_read, after_write, cell_in, flag_in, over}
-use Rattle.registers.specs.{AreAhead, CursorState, Fits, HasLanes, IsAtCopy, LeadsTo, NumberRun, cell_at, first_lane, lane_number, lane_of, more_bits}
-use Rattle.registers.specs.declared.cursor.NumberRun.TheVariants.{Reads, Writes}
+use Rattle.registers.specs.{AreAhead, CursorState, Fits, HasLanes, IsAtCopy, LeadsTo, RegisterAccessKind, cell_at, first_lane, lane_number, lane_of, more_bits}
+use Rattle.registers.specs.declared.cursor.RegisterAccessKind.TheVariants.{Reads, Writes}
 use Rattle.reader_copies.proofs.Over.{over-same}
 use Rattle.registers.proofs.Iterates.{leads-same}
 use Rattle.registers.proofs.Over.{lanes-same, more-same, over_lanes}
@@ -24,7 +24,7 @@ read-at_once n lane bit word c new memory copies done reads ahead fits first bit
     let bits_are : more_bits n (λ j. flag_in word ((c.bit + j) % 64)) c.bits ≡ more_bits n (λ j. (cell_at memory (here c) (c.bit + j)).value) c.bits =
     more-same n (λ j. flag_in word ((c.bit + j) % 64)) (λ j. (cell_at memory (here c) (c.bit + j)).value) c.bits
     (λ j h. ap (λ b. flag_in word ((b + j) % 64)) (sym bit_is) ∙ word_is j h ∙ ap (λ (x : Cell). x.value) (cell_is j)) in
-    let by = λ (run : NumberRun) (bit : ℕ) (begun : Bool) (bits : List Bool). let r : CursorState = record c { run = run; bit = bit; begun = begun; bits = bits } in r in
+    let by = λ (run : RegisterAccessKind) (bit : ℕ) (begun : Bool) (bits : List Bool). let r : CursorState = record c { run = run; bit = bit; begun = begun; bits = bits } in r in
     leads-same (2 * n) (2 * n) (reading_at c c.bit c.bits) c _ new memory memory _ _ refl
     (λ i. by (sym reads i) c.bit (sym ahead.begun i) c.bits)
     refl
@@ -36,7 +36,7 @@ read-at_once n lane bit word c new memory copies done reads ahead fits first bit
 -- a write has all copies, reader 0's first
 pub lanes-written : (c : CursorState) (memory : List (List Cell)) → c.run ≡ Writes → Fits memory c → HasLanes memory (first_lane c) c.copies c.width
 lanes-written c memory writes fits =
-    let P : NumberRun → Type 0 = λ r. IsAtCopy r c.reader c.copy in
+    let P : RegisterAccessKind → Type 0 = λ r. IsAtCopy r c.reader c.copy in
     let first : c.reader ≡ 0 = subst P writes fits.at in
     subst (λ reader. HasLanes memory (lane_number c.copies c.register reader) c.copies c.width) (sym first) fits.lanes
 
@@ -47,7 +47,7 @@ pub write-at_once : (n lane bit copies word : ℕ) (c new : CursorState) (memory
     LeadsTo (2 * (copies * n)) c memory new now
 write-at_once n lane bit copies word c new memory now writes ahead fits lane_is bit_is copies_is word_is now_is new_is =
     let f : ℕ → Cell → Cell = λ i x. after_write (flag_in word (i % 64)) x in
-    let by = λ (run : NumberRun) (bit copy : ℕ) (begun : Bool). let w : CursorState = record c { run = run; bit = bit; copy = copy; begun = begun } in w in
+    let by = λ (run : RegisterAccessKind) (bit copy : ℕ) (begun : Bool). let w : CursorState = record c { run = run; bit = bit; copy = copy; begun = begun } in w in
     let written : now ≡ over_lanes c.copies (over n (of_value c.bits) c.bit) (first_lane c) memory =
     now_is ∙ (λ i. over_lanes (copies_is i) (over n f (bit_is i)) (lane_is i) memory)
     ∙ lanes-same c.copies (over n f c.bit) (over n (of_value c.bits) c.bit) (first_lane c) memory

@@ -5,7 +5,7 @@ use Rattle.std.proofs.lemmas.List.{get_or_push}
 use Rattle.safe_bit.specs.declared.moves.Move.TheVariants.{BeginWrite, EndWrite, EndRead}
 use Rattle.model.specs.{Call, value_of}
 use Rattle.model.specs.Parts.{Part, is_read, read_at, written_at}
-use Rattle.registers.specs.{CursorState, IsAtPart, NumberRun, ReadsAt, WritesAt, access_on, last_access, last_by_run, last_read, last_write, move_by, moved, next_access, read_after, read_move, write_after}
+use Rattle.registers.specs.{CursorState, IsAtPart, RegisterAccessKind, ReadsAt, WritesAt, access_on, last_access, last_by_run, last_read, last_write, move_by, moved, next_access, read_after, read_move, write_after}
 use Rattle.registers.specs.Accesses.{access_with}
 use Rattle.registers.proofs.CursorRuns.{read-moved, write-moved}
 
@@ -39,14 +39,14 @@ part-last : (c : Call) (part : Part) (cur : CursorState) (v b : Bool) →
     elim b as (λ _. Type 0) [ true ↦ ReadsAt c.setup c.process (read_at c part) cur | false ↦ WritesAt c.setup c.process (written_at c part) cur ] → last_access (moved cur v) ≡ Some (next_access cur v)
 part-last c part cur v true at =
     ap last_access (read-moved c.setup c.process (read_at c part) cur v at)
-    ∙ ap (λ (r : NumberRun). last_by_run r (read_after cur (value_of (read_move cur.begun v)))) at.run
+    ∙ ap (λ (r : RegisterAccessKind). last_by_run r (read_after cur (value_of (read_move cur.begun v)))) at.run
     ∙ read-last cur cur.begun v at.bits
-    ∙ sym (ap (λ (r : NumberRun). Some (access_with cur (move_by r cur v))) at.run)
+    ∙ sym (ap (λ (r : RegisterAccessKind). Some (access_with cur (move_by r cur v))) at.run)
 part-last c part cur v false at =
     ap last_access (write-moved c.setup c.process (written_at c part) cur v at)
-    ∙ ap (λ (r : NumberRun). last_by_run r (write_after cur)) at.run
+    ∙ ap (λ (r : RegisterAccessKind). last_by_run r (write_after cur)) at.run
     ∙ write-last cur cur.begun (cur.copy + 1 == cur.copies) refl
-    ∙ sym (ap (λ (r : NumberRun). Some (access_with cur (move_by r cur v))) at.run)
+    ∙ sym (ap (λ (r : RegisterAccessKind). Some (access_with cur (move_by r cur v))) at.run)
 
 pub last-made : (c : Call) (part : Part) (cur : CursorState) (v : Bool) → IsAtPart c part cur → last_access (moved cur v) ≡ Some (next_access cur v)
 last-made c part cur v at = part-last c part cur v (is_read part) at

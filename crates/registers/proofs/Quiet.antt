@@ -7,7 +7,7 @@ use Rattle.safe_bit.specs.declared.moves.Move.TheVariants.{BeginRead, EndRead}
 use Rattle.choices.specs.{FlickState, flick_of, after_flick}
 use Rattle.reader_copies.specs.{after_read, cell_in, over}
 use Rattle.registers.specs.{CursorState, LeadsTo, cell_at, lane_number, lane_of, memory_moved, more_bits}
-use Rattle.registers.specs.declared.cursor.NumberRun.TheVariants.{Reads}
+use Rattle.registers.specs.declared.cursor.RegisterAccessKind.TheVariants.{Reads}
 use Rattle.reader_copies.proofs.Over.{length-over, over-outside}
 use Rattle.registers.proofs.Iterates.{leads_more, leads-same}
 

@@ -8,9 +8,9 @@ use Rattle.safe_bit.specs.Cell.{Cell}
 use Rattle.safe_bit.specs.{Move}
 use Rattle.choices.specs.{FlickState, after_flick, flick_of, flicks_after}
 use Rattle.model.specs.{Access, value_of}
-use Rattle.registers.specs.{CursorState, Fits, HasLanes, IsAtCopy, LeadsTo, NumberRun, RegisterName, access_next, after_by, answered, applied, cursor_after, ends_copy, ends_overlapped, is_settling, lane_number, lane_of_access, memory_moved, newest_of, next_access, overlapped_of, rest_by, rest_of, run_of}
+use Rattle.registers.specs.{CursorState, Fits, HasLanes, IsAtCopy, LeadsTo, RegisterAccessKind, RegisterName, access_next, after_by, answered, applied, cursor_after, ends_copy, ends_overlapped, is_settling, lane_number, lane_of_access, memory_moved, newest_of, next_access, overlapped_of, rest_by, rest_of, run_of}
 use Rattle.registers.specs.Accesses.{made_by}
-use Rattle.registers.specs.declared.cursor.NumberRun.TheVariants.{Reads, Writes, Settles}
+use Rattle.registers.specs.declared.cursor.RegisterAccessKind.TheVariants.{Reads, Writes, Settles}
 use Rattle.registers.proofs.Iterates.{byte-one, overlapped-more, run-more}
 use Rattle.registers.proofs.Steps.{copy_inside, lanes-moved, read-counts, write-counts}
 
@@ -22,21 +22,21 @@ lanes-moved_anywhere memory at bit lane copies width how h = elim (cases_lt at (
 ]
 
 -- where a cursor's copy is after its access
-inside-by : (r : NumberRun) (c : CursorState) (how : Move) → c.run ≡ r → c.reader + c.copy < c.copies → IsAtCopy c.run c.reader c.copy →
+inside-by : (r : RegisterAccessKind) (c : CursorState) (how : Move) → c.run ≡ r → c.reader + c.copy < c.copies → IsAtCopy c.run c.reader c.copy →
     ((after_by r c how).reader + (after_by r c how).copy < (after_by r c how).copies) × IsAtCopy (after_by r c how).run (after_by r c how).reader (after_by r c how).copy
 inside-by Reads c how is inside at = (inside, at)
 inside-by Writes c how is inside at =
-    let P : NumberRun → Type 0 = λ r. IsAtCopy r c.reader c.copy in
+    let P : RegisterAccessKind → Type 0 = λ r. IsAtCopy r c.reader c.copy in
     let first : c.reader ≡ 0 = subst P is at in
-    let Q : NumberRun → Type 0 = λ r. IsAtCopy r c.reader (after_by Writes c how).copy in
+    let Q : RegisterAccessKind → Type 0 = λ r. IsAtCopy r c.reader (after_by Writes c how).copy in
     (omega (arith, first, copy_inside c.copies c.copy c.begun (omega (arith, first))), subst Q (sym is) first)
 inside-by (Settles cut value) c how is inside at =
-    let P : NumberRun → Type 0 = λ r. IsAtCopy r c.reader c.copy in
+    let P : RegisterAccessKind → Type 0 = λ r. IsAtCopy r c.reader c.copy in
     let first : c.reader ≡ 0 = subst P is at in
     (omega (arith, first, copy_inside c.copies c.copy (ends_copy cut c) (omega (arith, first))), first)
 
 -- its register is the same one
-pub same-by : (r : NumberRun) (c : CursorState) (how : Move) → ((after_by r c how).register ≡ c.register) × ((after_by r c how).copies ≡ c.copies) × ((after_by r c how).width ≡ c.width)
+pub same-by : (r : RegisterAccessKind) (c : CursorState) (how : Move) → ((after_by r c how).register ≡ c.register) × ((after_by r c how).copies ≡ c.copies) × ((after_by r c how).width ≡ c.width)
 same-by Reads c how = (refl, refl, refl)
 same-by Writes c how = (refl, refl, refl)
 same-by (Settles cut value) c how = (refl, refl, refl)
@@ -84,18 +84,18 @@ run-keeps (suc k) now d h =
     fits-moved d memory (lane_of_access c.copies a) a.bit a.how (run-keeps k now d h)
 
 -- a read or a write has one access fewer left
-run-by : (r : NumberRun) (c : CursorState) (how : Move) → is_settling r ≡ false → (after_by r c how).run ≡ c.run
+run-by : (r : RegisterAccessKind) (c : CursorState) (how : Move) → is_settling r ≡ false → (after_by r c how).run ≡ c.run
 run-by Reads c how plain = refl
 run-by Writes c how plain = refl
 run-by (Settles cut value) c how plain = absurd (cc)
 
-rest-by : (r : NumberRun) (c : CursorState) (how : Move) → is_settling r ≡ false → c.reader + c.copy < c.copies → 0 < rest_by r c → rest_by r (after_by r c how) + 1 ≡ rest_by r c
+rest-by : (r : RegisterAccessKind) (c : CursorState) (how : Move) → is_settling r ≡ false → c.reader + c.copy < c.copies → 0 < rest_by r c → rest_by r (after_by r c how) + 1 ≡ rest_by r c
 rest-by Reads c how plain inside some = omega (arith, read-counts c (value_of how), some)
 rest-by Writes c how plain inside some = omega (arith, write-counts c (omega (arith, inside)), some)
 rest-by (Settles cut value) c how plain inside some = absurd (cc)
 
 -- where accesses are left of it, bits are
-rest-going : (r : NumberRun) (c : CursorState) → is_settling r ≡ false → 0 < rest_by r c → c.bit < c.width
+rest-going : (r : RegisterAccessKind) (c : CursorState) → is_settling r ≡ false → 0 < rest_by r c → c.bit < c.width
 rest-going Reads c plain some = omega (arith, some)
 rest-going Writes c plain some = elim (cases_lt c.bit c.width) [
   | inl is ↦ is

@@ -5,8 +5,8 @@ use Rattle.std.proofs.lemmas.List.{get_or-set_same, get_or-set_other}
 use mir.Val.{bool_byte}
 use Rattle.reader_copies.proofs.Words.{bit-found, length-bits}
 use Rattle.reader_copies.specs.{IsMask, SetsFlag, bit_of_words, bits_of_words, flag_in}
-use Rattle.registers.specs.declared.cursor.NumberRun.TheVariants.{Reads, Writes, Settles}
-use Rattle.registers.specs.{NumberRun, bits_kept, more_bits}
+use Rattle.registers.specs.declared.cursor.RegisterAccessKind.TheVariants.{Reads, Writes, Settles}
+use Rattle.registers.specs.{RegisterAccessKind, bits_kept, more_bits}
 
 pub bits-same : (a b : List ℕ) (n : ℕ) → ((i : ℕ) → i < n → bit_of_words a i ≡ bit_of_words b i) → bits_of_words a n ≡ bits_of_words b n
 bits-same a b zero same = refl
@@ -73,10 +73,10 @@ word-written words bits word bit width i same inside word_is bits_are =
     ∙ ap (λ l. get_or l i false) bits_are
 
 -- the bits that a cursor keeps are the first ones of its words
-kept-first : (run : NumberRun) (words : List ℕ) (bit width : ℕ) → bits_of_words words (length (bits_kept run words bit width)) ≡ bits_kept run words bit width
+kept-first : (run : RegisterAccessKind) (words : List ℕ) (bit width : ℕ) → bits_of_words words (length (bits_kept run words bit width)) ≡ bits_kept run words bit width
 kept-first Reads words bit width = ap (bits_of_words words) (length-bits words bit)
 kept-first Writes words bit width = ap (bits_of_words words) (length-bits words width)
 kept-first (Settles cut value) words bit width = ap (bits_of_words words) (length-bits words width)
 
-pub bits-known : (run : NumberRun) (words : List ℕ) (bit width : ℕ) (bits : List Bool) → bits_kept run words bit width ≡ bits → bits_of_words words (length bits) ≡ bits
+pub bits-known : (run : RegisterAccessKind) (words : List ℕ) (bit width : ℕ) (bits : List Bool) → bits_kept run words bit width ≡ bits → bits_of_words words (length bits) ≡ bits
 bits-known run words bit width bits is = ap (λ (l : List Bool). bits_of_words words (length l)) (sym is) ∙ kept-first run words bit width ∙ is

@@ -8,7 +8,7 @@ use Rattle.safe_bit.specs.declared.moves.Move.TheVariants.{BeginWrite, EndWrite}
 use Rattle.choices.specs.{after_flick}
 use Rattle.reader_copies.specs.{after_write, cell_in, over}
 use Rattle.registers.specs.{CursorState, HasLanes, LeadsTo, first_lane, lane_number, lane_of}
-use Rattle.registers.specs.declared.cursor.NumberRun.TheVariants.{Writes}
+use Rattle.registers.specs.declared.cursor.RegisterAccessKind.TheVariants.{Writes}
 use Rattle.registers.proofs.Iterates.{leads_more, leads-same}
 use Rattle.reader_copies.proofs.Over.{length-over}
 use Rattle.registers.proofs.Over.{lanes-kept, lanes-nothing, lanes-twice, over_lanes}

@@ -8,8 +8,8 @@ use Rattle.choices.specs.{FlickState, flick_of, after_flick, flicks_after}
 use Rattle.model.specs.{Access, ended_with, value_of}
 use Rattle.registers.specs.Memory.{cell_at, memory_moved}
 use Rattle.registers.specs.Cursors.{CursorState, lane_number}
-use Rattle.registers.specs.declared.cursor.NumberRun.{NumberRun}
-use Rattle.registers.specs.declared.cursor.NumberRun.TheVariants.{Reads, Writes, Settles}
+use Rattle.registers.specs.declared.cursor.RegisterAccessKind.{RegisterAccessKind}
+use Rattle.registers.specs.declared.cursor.RegisterAccessKind.TheVariants.{Reads, Writes, Settles}
 
 -- THE NEXT ACCESS
 
@@ -25,7 +25,7 @@ write_move c = if c.begun then EndWrite else BeginWrite (slice_index_or c.bits c
 abbrev pub settle_move : ℕ → CursorState → Bool → Move
 settle_move cut c v = if c.begun then EndWrite else if is_open_at cut c.copy then Settle v else BeginWrite v
 
-abbrev pub move_by : NumberRun → CursorState → Bool → Move
+abbrev pub move_by : RegisterAccessKind → CursorState → Bool → Move
 move_by Reads c flick = read_move c.begun flick
 move_by Writes c flick = write_move c
 move_by (Settles cut value) c flick = settle_move cut c (unwrap_or value flick)
@@ -101,7 +101,7 @@ settle_after cut value c how = record c {
   begun = not (ends_copy cut c);
 }
 
-abbrev pub after_by : NumberRun → CursorState → Move → CursorState
+abbrev pub after_by : RegisterAccessKind → CursorState → Move → CursorState
 after_by Reads c how = read_after c (value_of how)
 after_by Writes c how = write_after c
 after_by (Settles cut value) c how = settle_after cut value c how

@@ -6,11 +6,11 @@ use Rattle.registers.specs.Accesses.{cursor_after, next_access}
 use Rattle.registers.specs.Begins.{is_fresh, reading, writing}
 use Rattle.registers.specs.Cursors.{CursorState, is_over}
 use Rattle.registers.specs.Rows.{write_kept}
-use Rattle.registers.specs.declared.cursor.NumberRun.{NumberRun}
-use Rattle.registers.specs.declared.cursor.NumberRun.TheVariants.{Reads, Writes}
+use Rattle.registers.specs.declared.cursor.RegisterAccessKind.{RegisterAccessKind}
+use Rattle.registers.specs.declared.cursor.RegisterAccessKind.TheVariants.{Reads, Writes}
 
 -- the progress of the register access of a script
-abbrev pub run_by : NumberRun → CursorState → Run
+abbrev pub run_by : RegisterAccessKind → CursorState → Run
 run_by Reads cur = Reading cur.bits cur.begun
 run_by _ cur = Writing (write_kept cur)
 

@@ -6,8 +6,8 @@ use Rattle.registers.specs.declared.fields.RegisterName.{RegisterName}
 use Rattle.model.specs.{TornBit, width}
 use Rattle.safe_number.specs.{bits_in}
 use Rattle.registers.specs.Cursors.{CursorState, IsAtCopy, lane_number}
-use Rattle.registers.specs.declared.cursor.NumberRun.{NumberRun}
-use Rattle.registers.specs.declared.cursor.NumberRun.TheVariants.{Reads, Writes, Settles}
+use Rattle.registers.specs.declared.cursor.RegisterAccessKind.{RegisterAccessKind}
+use Rattle.registers.specs.declared.cursor.RegisterAccessKind.TheVariants.{Reads, Writes, Settles}
 
 -- the cursor with no access to make
 abbrev pub idle_cursor : CursorState
@@ -26,11 +26,11 @@ abbrev pub made_of_bit : CursorState → ℕ
 made_of_bit c = 2 * c.copy + (if c.begun then 1 else 0)
 
 -- the access settles; below, the access writes
-abbrev pub is_settling : NumberRun → Bool
+abbrev pub is_settling : RegisterAccessKind → Bool
 is_settling (Settles cut value) = true
 is_settling _ = false
 
-abbrev pub is_writing : NumberRun → Bool
+abbrev pub is_writing : RegisterAccessKind → Bool
 is_writing Writes = true
 is_writing _ = false
 
@@ -65,7 +65,7 @@ settling_from s owner t = record {
 }
 
 -- the invariant of the fields of a cursor
-pub record KeepsCursor (register : RegisterName) (reader copies width lane : ℕ) (run : NumberRun) (bit copy : ℕ) (words : List ℕ) : Type 0 where
+pub record KeepsCursor (register : RegisterName) (reader copies width lane : ℕ) (run : RegisterAccessKind) (bit copy : ℕ) (words : List ℕ) : Type 0 where
   pub lane_is : lane ≡ lane_number copies register reader
   pub copy_in : reader + copy < copies
   pub few_copies : copies ≤ 16

@@ -5,8 +5,8 @@ use Rattle.registers.specs.declared.fields.RegisterName.{RegisterName}
 use Rattle.model.specs.{field_number}
 use Rattle.registers.specs.Memory.{HasLanes}
 use Rattle.reader_copies.specs.{bits_of_words}
-use Rattle.registers.specs.declared.cursor.NumberRun.{NumberRun}
-use Rattle.registers.specs.declared.cursor.NumberRun.TheVariants.{Reads, Writes, Settles}
+use Rattle.registers.specs.declared.cursor.RegisterAccessKind.{RegisterAccessKind}
+use Rattle.registers.specs.declared.cursor.RegisterAccessKind.TheVariants.{Reads, Writes, Settles}
 
 -- a register access
 pub record CursorState : Type 0 where
@@ -16,7 +16,7 @@ pub record CursorState : Type 0 where
   -- the number of copies of each bit, and the number of bits of the register
   pub copies : ℕ
   pub width : ℕ
-  pub run : NumberRun
+  pub run : RegisterAccessKind
   -- the present bit, the present copy of a write, and whether the access to it has begun
   pub bit : ℕ
   pub copy : ℕ
@@ -33,7 +33,7 @@ abbrev pub first_lane : CursorState → ℕ
 first_lane c = lane_number c.copies c.register c.reader
 
 -- a read has one copy, and a write begins with reader 0's
-abbrev pub IsAtCopy : NumberRun → ℕ → ℕ → Type 0
+abbrev pub IsAtCopy : RegisterAccessKind → ℕ → ℕ → Type 0
 IsAtCopy Reads reader copy = copy ≡ 0
 IsAtCopy Writes reader copy = reader ≡ 0
 IsAtCopy (Settles cut value) reader copy = reader ≡ 0
@@ -52,7 +52,7 @@ abbrev pub made_of_write : CursorState → ℕ
 made_of_write c = 2 * (c.copies * c.bit + c.copy) + (if c.begun then 1 else 0)
 
 -- the number of accesses that may be made at once: all that are left, or one for a settling
-abbrev pub rest_by : NumberRun → CursorState → ℕ
+abbrev pub rest_by : RegisterAccessKind → CursorState → ℕ
 rest_by Reads c = 2 * c.width - made_of_read c
 rest_by Writes c = 2 * (c.copies * c.width) - made_of_write c
 rest_by (Settles cut value) c = if c.bit == c.width then 0 else 1
@@ -65,7 +65,7 @@ abbrev pub is_over : CursorState → Bool
 is_over c = c.bit == c.width
 
 -- the bits that a cursor's words hold
-abbrev pub bits_kept : NumberRun → List ℕ → ℕ → ℕ → List Bool
+abbrev pub bits_kept : RegisterAccessKind → List ℕ → ℕ → ℕ → List Bool
 bits_kept Reads words bit width = bits_of_words words bit
 bits_kept Writes words bit width = bits_of_words words width
 bits_kept (Settles cut value) words bit width = bits_of_words words width

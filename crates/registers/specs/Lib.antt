@@ -27,6 +27,6 @@ pub use Rows.{bit_begun, register_number, settling_kept, values_held, write_kept
 pub use Words.{byte_of_word}
 pub use Wordwise.{AreAhead, more_bits}
 pub use declared.access_made.AccessMade.{AccessMade}
-pub use declared.cursor.NumberRun.{NumberRun}
+pub use declared.cursor.RegisterAccessKind.{RegisterAccessKind}
 pub use declared.fields.BitCopy.{BitCopy}
 pub use declared.fields.RegisterName.{RegisterName}

@@ -4,8 +4,8 @@ use Rattle.safe_bit.specs.{Move}
 use Rattle.safe_bit.specs.declared.moves.Move.TheVariants.{BeginWrite, EndWrite, BeginRead, EndRead}
 use Rattle.model.specs.{Access}
 use Rattle.registers.specs.Cursors.{CursorState, made_of_read, made_of_write}
-use Rattle.registers.specs.declared.cursor.NumberRun.{NumberRun}
-use Rattle.registers.specs.declared.cursor.NumberRun.TheVariants.{Reads, Writes, Settles}
+use Rattle.registers.specs.declared.cursor.RegisterAccessKind.{RegisterAccessKind}
+use Rattle.registers.specs.declared.cursor.RegisterAccessKind.TheVariants.{Reads, Writes, Settles}
 
 -- THE NUMBER OF ACCESSES
 
@@ -21,12 +21,12 @@ made_of_settling cut copy begun = 2 * copy + (if begun then 1 else 0) - (if is_c
 abbrev pub settling_in_all : (cut copies : ℕ) → ℕ
 settling_in_all cut copies = 2 * copies - (if is_cut_open cut then 1 else 0)
 
-abbrev pub made_by_run : NumberRun → CursorState → ℕ
+abbrev pub made_by_run : RegisterAccessKind → CursorState → ℕ
 made_by_run Reads c = made_of_read c
 made_by_run Writes c = made_of_write c
 made_by_run (Settles cut value) c = made_of_settling cut c.copy c.begun
 
-abbrev pub all_by_run : NumberRun → CursorState → ℕ
+abbrev pub all_by_run : RegisterAccessKind → CursorState → ℕ
 all_by_run Reads c = 2 * c.width
 all_by_run Writes c = 2 * (c.copies * c.width)
 all_by_run (Settles cut value) c = settling_in_all cut c.copies
@@ -57,7 +57,7 @@ last_write c = if c.begun then Some (access_on c c.bit c.copy (BeginWrite (slice
     else if c.bit == 0 then None
     else Some (access_on c (c.bit - 1) (c.copies - 1) EndWrite)
 
-abbrev pub last_by_run : NumberRun → CursorState → Option Access
+abbrev pub last_by_run : RegisterAccessKind → CursorState → Option Access
 last_by_run Reads c = last_read c
 last_by_run Writes c = last_write c
 last_by_run (Settles cut value) c = None

@@ -21,7 +21,7 @@ use std::marker::Model;
 
 /// The kind of a register access.
 #[derive(Clone, Copy)]
-pub enum NumberRun {
+pub enum RegisterAccessKind {
     /// It reads each bit: begin and end on the reader's own copy.
     Reads,
     /// It writes each bit: begin and end on each copy, reader 0's first.
@@ -46,7 +46,7 @@ pub struct Cursor {
     width: u16,
     /// The lane of its reader, which is the first of the lanes that it writes.
     pub(crate) lane: usize,
-    run: NumberRun,
+    run: RegisterAccessKind,
     /// The present bit, the present copy of a write, and whether the access to it has begun.
     pub(crate) bit: u16,
     copy: u8,
@@ -81,7 +81,7 @@ impl Cursor {
             copies: 1,
             width: 0,
             lane: 0,
-            run: NumberRun::Writes,
+            run: RegisterAccessKind::Writes,
             bit: 0,
             copy: 0,
             begun: false,
@@ -116,7 +116,7 @@ impl Cursor {
         self.copies = setup.processes;
         self.width = width_of(register.field, setup);
         self.lane = lane_number(self.copies, register, reader);
-        self.run = NumberRun::Reads;
+        self.run = RegisterAccessKind::Reads;
         self.bit = 0;
         self.copy = 0;
         self.begun = false;
@@ -133,7 +133,7 @@ impl Cursor {
         self.copies = setup.processes;
         self.width = width_of(register.field, setup);
         self.lane = lane_number(self.copies, register, 0);
-        self.run = NumberRun::Writes;
+        self.run = RegisterAccessKind::Writes;
         self.bit = 0;
         self.copy = 0;
         self.begun = false;
@@ -150,7 +150,7 @@ impl Cursor {
         self.copies = setup.processes;
         self.width = width_of(register.field, setup);
         self.lane = lane_number(self.copies, register, 0);
-        self.run = NumberRun::Writes;
+        self.run = RegisterAccessKind::Writes;
         self.bit = 0;
         self.copy = 0;
         self.begun = false;
@@ -159,11 +159,11 @@ impl Cursor {
 
     /// Begins to settle the present bit, whose write was interrupted, in place of its writer.
     pub fn settle(&mut self)
-        requires writes { self.old.run ≡ NumberRun.Writes }
+        requires writes { self.old.run ≡ RegisterAccessKind.Writes }
         ensures { self.new ≡ settling self.old }
     {
         let cut = 2 * self.copy + u8::from(self.begun);
-        self.run = NumberRun::Settles { cut, value: None };
+        self.run = RegisterAccessKind::Settles { cut, value: None };
         self.copy = 0;
         self.begun = false;
     }
@@ -180,7 +180,7 @@ impl Cursor {
             field: torn.field,
         };
         self.begin_write_bytes(setup, register, &[0; 216]);
-        self.run = NumberRun::Settles {
+        self.run = RegisterAccessKind::Settles {
             cut: torn.torn.made(),
             value: torn.torn.value(),
         };
@@ -197,14 +197,14 @@ impl Cursor {
         self.bit == 0
             && self.copy == 0
             && !self.begun
-            && !matches!(self.run, NumberRun::Settles { .. })
+            && !matches!(self.run, RegisterAccessKind::Settles { .. })
     }
 
     /// Returns whether it writes, and its present bit has begun and has not ended on every copy.
     pub fn is_torn(&self) -> bool
         ensures { result ≡ is_torn self.now }
     {
-        matches!(self.run, NumberRun::Writes) && (self.copy != 0 || self.begun)
+        matches!(self.run, RegisterAccessKind::Writes) && (self.copy != 0 || self.begun)
     }
 
     /// Returns the bit that it leaves unfinished if it halts now.
@@ -228,9 +228,9 @@ impl Cursor {
     {
         let word = word_at(&self.words, 0);
         match self.run {
-            NumberRun::Reads => low_bits(word, self.bit),
-            NumberRun::Writes => low_bits(word, self.width),
-            NumberRun::Settles { .. } => low_bits(word, self.width),
+            RegisterAccessKind::Reads => low_bits(word, self.bit),
+            RegisterAccessKind::Writes => low_bits(word, self.width),
+            RegisterAccessKind::Settles { .. } => low_bits(word, self.width),
         }
     }
 
@@ -258,7 +258,7 @@ impl Cursor {
 
     /// Returns the kind of its register access.
     #[inline]
-    pub fn run(&self) -> NumberRun
+    pub fn run(&self) -> RegisterAccessKind
         ensures { result ≡ self.now.run }
     {
         self.run
@@ -266,22 +266,22 @@ impl Cursor {
 
     /// Returns the number of accesses that may be made at once: all that are left, or one for a settling.
     #[inline(always)]
-    pub fn left(&self) -> u32
+    pub fn remaining(&self) -> u32
         ensures { result ≡ rest_of self.now }
     {
         match self.run {
-            NumberRun::Reads => {
+            RegisterAccessKind::Reads => {
                 let made = 2 * u32::from(self.bit) + u32::from(self.begun);
                 (2 * u32::from(self.width)).saturating_sub(made)
             }
-            NumberRun::Writes => {
+            RegisterAccessKind::Writes => {
                 let copies = u32::from(self.copies);
                 let bits = copies * u32::from(self.bit) + u32::from(self.copy);
                 (2 * (copies * u32::from(self.width))).saturating_sub(
                     2 * bits + u32::from(self.begun),
                 )
             }
-            NumberRun::Settles { .. } => u32::from(self.bit != self.width),
+            RegisterAccessKind::Settles { .. } => u32::from(self.bit != self.width),
         }
     }
 
@@ -293,9 +293,9 @@ impl Cursor {
         ensures { result ≡ next_access self.now flick }
     {
         let how = match self.run {
-            NumberRun::Reads => self.read_move(flick),
-            NumberRun::Writes => self.write_move(),
-            NumberRun::Settles { cut, value } => {
+            RegisterAccessKind::Reads => self.read_move(flick),
+            RegisterAccessKind::Writes => self.write_move(),
+            RegisterAccessKind::Settles { cut, value } => {
                 let value = match value {
                     Some(first) => first,
                     None => flick,
@@ -319,11 +319,11 @@ impl Cursor {
         ensures { self.new ≡ cursor_after self.old how }
     {
         match self.run {
-            NumberRun::Reads => self.read_on(given(how)),
-            NumberRun::Writes => self.write_on(),
-            NumberRun::Settles { cut, value } => {
+            RegisterAccessKind::Reads => self.read_on(given(how)),
+            RegisterAccessKind::Writes => self.write_on(),
+            RegisterAccessKind::Settles { cut, value } => {
                 let ends = self.begun || cut == 2 * self.copy + 1;
-                self.run = NumberRun::Settles {
+                self.run = RegisterAccessKind::Settles {
                     cut,
                     value: written(value, how),
                 };

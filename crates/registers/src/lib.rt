@@ -11,9 +11,9 @@ mod memory;
 mod word_bytes;
 
 pub use access_made::{AccessMade, AccessesMade};
-pub use cursor::{Cursor, NumberRun, given};
+pub use cursor::{Cursor, RegisterAccessKind, given};
 pub use fields::{BitCopy, RegisterName};
 pub use laws::cursors_follow_places;
 pub use memory::BitMemory;
-pub use reader_copies::BitSeen;
+pub use reader_copies::CopyState;
 pub use word_bytes::words_of;

@@ -14,7 +14,7 @@ mod held;
 mod seeing;
 
 use crate::access_made::{AccessMade, AccessesMade};
-use crate::cursor::{Cursor, NumberRun, word_at};
+use crate::cursor::{Cursor, RegisterAccessKind, word_at};
 use choices::Flicks;
 use plain_store::Setup;
 use reader_copies::Copies;
@@ -107,7 +107,7 @@ impl BitMemory {
         ensures flicks { flicks.new ≡ after_flick flicks.old }
     {
         let bit = cursor.bit as usize;
-        let NumberRun::Settles { .. } = cursor.run() else {
+        let RegisterAccessKind::Settles { .. } = cursor.run() else {
             return self.step_plain(cursor, flicks);
         };
         let next = cursor.next(flicks.flick());
@@ -133,7 +133,7 @@ impl BitMemory {
         ensures flicks { flicks.new ≡ after_flick flicks.old }
     {
         let bit = cursor.bit as usize;
-        if let NumberRun::Reads = cursor.run() {
+        if let RegisterAccessKind::Reads = cursor.run() {
             let copies = &mut self.lanes[cursor.lane];
             let seen = copies.seen(bit);
             let value = if seen.touched {
@@ -190,14 +190,14 @@ impl BitMemory {
         }
         let (lane, bit, n) = (cursor.lane, cursor.bit as usize, bits as usize);
         match cursor.run() {
-            NumberRun::Reads => {
+            RegisterAccessKind::Reads => {
                 let Some(word) = self.lanes[lane].read_word(bit, n) else {
                     return 0;
                 };
                 cursor.keep_word(n, word);
                 2 * bits
             }
-            NumberRun::Writes => {
+            RegisterAccessKind::Writes => {
                 let (copies, word) = (u32::from(cursor.copies), word_at(&cursor.words, bit));
                 for copy in 0..copies as usize {
                     self.lanes[lane + copy].write_word(bit, n, word);
@@ -205,7 +205,7 @@ impl BitMemory {
                 cursor.bit += bits as u16;
                 2 * (copies * bits)
             }
-            NumberRun::Settles { .. } => 0,
+            RegisterAccessKind::Settles { .. } => 0,
         }
     }
 }

@@ -12,13 +12,13 @@ use Rattle.calls.proofs.InCall.{first-mine, first-other}
 use Rattle.calls.proofs.world_proofs.laws_proofs.Frame.{Happens, a_call, a_closing, a_failure, a_restart, a_step, a_withdrawal, doing-other}
 use Rattle.calls.proofs.world_proofs.laws_proofs.FrameEvents.{accepted}
 use Rattle.calls.proofs.world_proofs.laws_proofs.FrameMarks.{called-is, is_resting, is_running}
-use Rattle.calls.specs.world.process.{left_at, process_after}
+use Rattle.calls.specs.world.process.{remaining_at, process_after}
 use Rattle.run_state.specs.{has_accessed}
 use Rattle.calls.proofs.Unfailed.{running_unfailed, runs_call}
 
 -- how many accesses are left to a process that does this
 abbrev left_doing : Setup → ℕ → Doing → ℕ
-left_doing s p d = left_at (record { setup = s; process = p; doing = d; command = Ask; number = 0 })
+left_doing s p d = remaining_at (record { setup = s; process = p; doing = d; command = Ask; number = 0 })
 
 -- a closing has none
 closing-none : (s : Setup) (p : ℕ) (d : Doing) (command : Command) (number : ℕ) (at : Closing) → d ≡ closes command number at → left_doing s p d ≡ 0
@@ -46,10 +46,10 @@ first-some None n = refl
 first-some (Some k) n = refl
 
 abbrev HasFirst : Setup → Past → Type 0
-HasFirst s past = IsGood s → (p : ℕ) → 0 < left_at (process_after s past p) → has_accessed s p past ≡ true
+HasFirst s past = IsGood s → (p : ℕ) → 0 < remaining_at (process_after s past p) → has_accessed s p past ≡ true
 
 -- so in every record
-pub has-first : (s : Setup) → IsGood s → (events : List Event) (p : ℕ) → 0 < left_at (process_after s (past_of s events) p) → has_accessed s p (past_of s events) ≡ true
+pub has-first : (s : Setup) → IsGood s → (events : List Event) (p : ℕ) → 0 < remaining_at (process_after s (past_of s events) p) → has_accessed s p (past_of s events) ≡ true
 has-first s g events p = past-induction HasFirst s (λ g p more. absurd (omega (arith, more))) on events g p
   where
     on : (events : List Event) (what : Event) (e : Entry) → entry_of s (past_of s events) what ≡ Some e → HasFirst s (past_of s events) → HasFirst s (e ∷ past_of s events)

@@ -7,13 +7,13 @@ use Rattle.std.specs.List.{list_any, range_with_len}
 use Rattle.std.specs.Prelude.{is_none, is_some, slice_index_or}
 use Rattle.plain_store.specs.{Command, Setup}
 use Rattle.model.specs.{Access, Entry, Mark, Past, called_in, calls_in, has, is_failed, own, width}
-use Rattle.run_state.specs.{FinishedRead, HasHeard, Passes, ProcessKept, SnapshotState, TellsNumber, failed_at, has_accessed, kept, kept_marked, kept_stepped, nothing_kept, opened_if, read_after, read_last, read_with, without_accesses}
-use Rattle.calls.specs.{CallStanding, EntryKnown, accessed_by, begun, ends_number, first_if, heard, marked_all, standing}
+use Rattle.run_state.specs.{FinishedRead, HasObserved, Passes, ProcessSummary, SnapshotState, ReportsNumber, failed_at, has_accessed, kept, kept_marked, kept_stepped, nothing_kept, opened_if, read_after, read_last, read_with, without_accesses}
+use Rattle.calls.specs.{CallState, EntryFacts, accessed_by, begun, ends_number, first_if, observed, marked_all, call_state}
 use Rattle.calls.specs.world.laws.{doing}
 use Rattle.calls.proofs.Folds.{marked_all-is}
-use Rattle.calls.proofs.Heard.{slice_get-set_other, slice_get-set_same}
+use Rattle.calls.proofs.Observed.{slice_get-set_other, slice_get-set_same}
 use Rattle.calls.proofs.InCall.{calls-few}
-use Rattle.calls.proofs.Steps.{known_of, standing-heard, standing-other}
+use Rattle.calls.proofs.Steps.{known_of, call_state-observed, call_state-other}
 use Rattle.calls.specs.world.process.{number_read}
 
 -- Before the first entry.
@@ -29,40 +29,40 @@ nothing_there n p below =
 
 -- One entry.
 
-kept_by : (k m : ProcessKept) → k.standing ≡ m.standing → k.failed ≡ m.failed → k.read ≡ m.read → k ≡ m
-kept_by k m a b c = λ i. record { standing = a i; failed = b i; read = c i }
+kept_by : (k m : ProcessSummary) → k.call_state ≡ m.call_state → k.failed ≡ m.failed → k.read ≡ m.read → k ≡ m
+kept_by k m a b c = λ i. record { call_state = a i; failed = b i; read = c i }
 
 -- the entry of another process
 pub kept_other : (s : Setup) (p : ℕ) (e : Entry) (past : Past) → (e.process == p) ≡ false → kept s p (e ∷ past) ≡ kept s p past
 kept_other s p e past h =
-    kept_by (kept s p (e ∷ past)) (kept s p past) (ap without_accesses (standing-other s p e past h))
+    kept_by (kept s p (e ∷ past)) (kept s p past) (ap without_accesses (call_state-other s p e past h))
     (ap (λ b. cond b (cond (has is_failed e) (length past) (failed_at p past)) (failed_at p past)) h)
     (ap (λ b. cond b (read_after s (number_read (doing s p past)) e (read_last s p past)) (read_last s p past)) h)
 
 -- how an access changes a call
-opened_by : (s : Setup) (number : ℕ) (known : EntryKnown) (o : Option Access) (k : CallStanding) → without_accesses (accessed_by s number known o k) ≡ opened_if (is_some o) number (without_accesses k)
+opened_by : (s : Setup) (number : ℕ) (known : EntryFacts) (o : Option Access) (k : CallState) → without_accesses (accessed_by s number known o k) ≡ opened_if (is_some o) number (without_accesses k)
 opened_by s number known None k = refl
 opened_by s number known (Some a) k = refl
 
 -- and marks
-marked_by : (number : ℕ) (k : CallStanding) (marks : List Mark) → without_accesses (marked_all number k marks) ≡ marked_all number (without_accesses k) marks
+marked_by : (number : ℕ) (k : CallState) (marks : List Mark) → without_accesses (marked_all number k marks) ≡ marked_all number (without_accesses k) marks
 marked_by number k marks = ap without_accesses (marked_all-is number k marks) ∙ sym (marked_all-is number (without_accesses k) marks)
 
-heard_by : (s : Setup) (number : ℕ) (known : EntryKnown) (o : Option Access) (marks : List Mark) (k : CallStanding) (c : Option Command) →
-    without_accesses (elim c as (λ _. CallStanding) [ Some c ↦ begun number c k | None ↦ marked_all number (accessed_by s number known o k) marks ])
-    ≡ elim c as (λ _. CallStanding) [ Some c ↦ begun number c (without_accesses k) | None ↦ marked_all number (opened_if (is_some o) number (without_accesses k)) marks ]
-heard_by s number known o marks k None = marked_by number (accessed_by s number known o k) marks ∙ ap (λ k. marked_all number k marks) (opened_by s number known o k)
-heard_by s number known o marks k (Some c) = refl
+observed_by : (s : Setup) (number : ℕ) (known : EntryFacts) (o : Option Access) (marks : List Mark) (k : CallState) (c : Option Command) →
+    without_accesses (elim c as (λ _. CallState) [ Some c ↦ begun number c k | None ↦ marked_all number (accessed_by s number known o k) marks ])
+    ≡ elim c as (λ _. CallState) [ Some c ↦ begun number c (without_accesses k) | None ↦ marked_all number (opened_if (is_some o) number (without_accesses k)) marks ]
+observed_by s number known o marks k None = marked_by number (accessed_by s number known o k) marks ∙ ap (λ k. marked_all number k marks) (opened_by s number known o k)
+observed_by s number known o marks k (Some c) = refl
 
 standing_on : (s : Setup) (p : ℕ) (e : Entry) (past : Past) → e.process ≡ p →
-    without_accesses (standing s p (e ∷ past)) ≡ elim (called_in e.marks) as (λ _. CallStanding) [
-      | Some c ↦ begun (length past) c (without_accesses (standing s p past))
-      | None ↦ marked_all (length past) (opened_if (is_some e.access) (length past) (without_accesses (standing s p past))) e.marks
+    without_accesses (call_state s p (e ∷ past)) ≡ elim (called_in e.marks) as (λ _. CallState) [
+      | Some c ↦ begun (length past) c (without_accesses (call_state s p past))
+      | None ↦ marked_all (length past) (opened_if (is_some e.access) (length past) (without_accesses (call_state s p past))) e.marks
     ]
 standing_on s p e past h =
     let (known, is) = known_of s past e in
-    ap (λ q. without_accesses (standing s q (e ∷ past))) (sym h) ∙ ap without_accesses (standing-heard s e past known is) ∙ ap (λ q. without_accesses (heard s (length past) known e.access e.marks (standing s q past))) h
-    ∙ heard_by s (length past) known e.access e.marks (standing s p past) (called_in e.marks)
+    ap (λ q. without_accesses (call_state s q (e ∷ past))) (sym h) ∙ ap without_accesses (call_state-observed s e past known is) ∙ ap (λ q. without_accesses (observed s (length past) known e.access e.marks (call_state s q past))) h
+    ∙ observed_by s (length past) known e.access e.marks (call_state s p past) (called_in e.marks)
 
 failed_on : (s : Setup) (p : ℕ) (e : Entry) (past : Past) → e.process ≡ p → failed_at p (e ∷ past) ≡ cond (list_any is_failed e.marks) (length past) (failed_at p past)
 failed_on s p e past h = ap (λ b. cond b (cond (has is_failed e) (length past) (failed_at p past)) (failed_at p past)) (eq-eqb e.process p h)
@@ -86,8 +86,8 @@ kept_with s p e past h some =
 abbrev quiet_entry : ℕ → Access → Entry
 quiet_entry p a = record { process = p; access = Some a; marks = [] }
 
-read_told : (s : Setup) (a : Access) (n m : ℕ) (found : Option FinishedRead) → (ends_number (width s a.field) a.bit a.how ≡ true → n ≡ m) → read_with s a n found ≡ read_with s a m found
-read_told s a n m found same = by (ends_number (width s a.field) a.bit a.how) same
+read_reported : (s : Setup) (a : Access) (n m : ℕ) (found : Option FinishedRead) → (ends_number (width s a.field) a.bit a.how ≡ true → n ≡ m) → read_with s a n found ≡ read_with s a m found
+read_reported s a n m found same = by (ends_number (width s a.field) a.bit a.how) same
   where
     by : (b : Bool) → (b ≡ true → n ≡ m) → cond b (Some (let r : FinishedRead = record { access = a; before = n } in r)) found
         ≡ cond b (Some (let r : FinishedRead = record { access = a; before = m } in r)) found
@@ -95,10 +95,10 @@ read_told s a n m found same = by (ends_number (width s a.field) a.bit a.how) sa
     by false same = refl
 
 pub kept_on : (s : Setup) (p : ℕ) (a : Access) (past : Past) (n : ℕ) → (ends_number (width s a.field) a.bit a.how ≡ true → n ≡ number_read (doing s p past)) → kept s p (quiet_entry p a ∷ past) ≡ kept_stepped s (length past) a n (kept s p past)
-kept_on s p a past n tells =
+kept_on s p a past n reports =
     kept_by (kept s p (quiet_entry p a ∷ past)) (kept_stepped s (length past) a n (kept s p past))
     (standing_on s p (quiet_entry p a) past refl) (failed_on s p (quiet_entry p a) past refl)
-    (read_on s p (quiet_entry p a) past refl ∙ sym (read_told s a n (number_read (doing s p past)) (read_last s p past) tells))
+    (read_on s p (quiet_entry p a) past refl ∙ sym (read_reported s a n (number_read (doing s p past)) (read_last s p past) reports))
 
 -- Entries within a number access.
 
@@ -110,13 +110,13 @@ opened_same number false (Some k) known = refl
 
 passed_on : (s : Setup) (p : ℕ) (a : Access) (past : Past) → ends_number (width s a.field) a.bit a.how ≡ false → has_accessed s p past ≡ true → kept s p (quiet_entry p a ∷ past) ≡ kept s p past
 passed_on s p a past none known =
-    let k : ProcessKept = kept s p past in
+    let k : ProcessSummary = kept s p past in
     let n : ℕ = number_read (doing s p past) in
-    let itself : Bool = is_none k.standing.last.marks.failed in
-    let first : first_if itself (length past) k.standing.last.accesses.doorway ≡ k.standing.last.accesses.doorway = opened_same (length past) itself k.standing.last.accesses.doorway known in
+    let itself : Bool = is_none k.call_state.last.marks.failed in
+    let first : first_if itself (length past) k.call_state.last.accesses.doorway ≡ k.call_state.last.accesses.doorway = opened_same (length past) itself k.call_state.last.accesses.doorway known in
     kept_on s p a past n (λ ends. refl)
     ∙ kept_by (kept_stepped s (length past) a n k) k
-    (ap (λ (o : Option ℕ). let then : CallStanding = record k.standing { last = record k.standing.last { accesses = record k.standing.last.accesses { doorway = o } } } in then) first)
+    (ap (λ (o : Option ℕ). let then : CallState = record k.call_state { last = record k.call_state.last { accesses = record k.call_state.last.accesses { doorway = o } } } in then) first)
     refl (ap (λ b. cond b (Some (let r : FinishedRead = record { access = a; before = n } in r)) k.read) none)
 
 -- for any process
@@ -137,60 +137,60 @@ passed_all s p (suc n) past after (a, none, known, more) =
 -- All that is kept.
 
 -- it goes on with what is kept of one process
-pub all_heard : (s : Setup) (list : List ProcessKept) (now : ProcessKept) (past after : Past) (p : ℕ) → p < s.processes → ((q : ℕ) → q < s.processes → slice_get list q ≡ Some (kept s q past)) →
+pub all_observed : (s : Setup) (list : List ProcessSummary) (now : ProcessSummary) (past after : Past) (p : ℕ) → p < s.processes → ((q : ℕ) → q < s.processes → slice_get list q ≡ Some (kept s q past)) →
     now ≡ kept s p after → ((q : ℕ) → (p == q) ≡ false → kept s q after ≡ kept s q past) → (q : ℕ) → q < s.processes → slice_get (slice_set list p now) q ≡ Some (kept s q after)
-all_heard s list now past after p here were is others q below = elim (cases_eq q p) [
+all_observed s list now past after p here were is others q below = elim (cases_eq q p) [
   | inl same ↦ ap (slice_get (slice_set list p now)) same
-      ∙ slice_get-set_same {A = ProcessKept} list p now (slice_get_within {A = ProcessKept} list p (kept s p past) (were p here))
+      ∙ slice_get-set_same {A = ProcessSummary} list p now (slice_get_within {A = ProcessSummary} list p (kept s p past) (were p here))
       ∙ ap Some (is ∙ ap (λ p. kept s p after) (sym same))
-  | inr apart ↦ slice_get-set_other {A = ProcessKept} list p q now apart ∙ were q below
+  | inr apart ↦ slice_get-set_other {A = ProcessSummary} list p q now apart ∙ were q below
       ∙ ap Some (sym (others q (ne_eqb p q (λ h. apart (sym h)))))
 ]
 
 -- The whole state.
 
 -- with another state of one process, and this number of entries
-abbrev pub state_with : SnapshotState → ℕ → ProcessKept → ℕ → SnapshotState
+abbrev pub state_with : SnapshotState → ℕ → ProcessSummary → ℕ → SnapshotState
 state_with t p k entries = record { setup = t.setup; kept = slice_set t.kept p k; entries = entries }
 
 -- the state of an existing process is found
-pub kept_found : (t : SnapshotState) (past : Past) (p : ℕ) (k : ProcessKept) → HasHeard t past → p < t.setup.processes → k ≡ slice_index_or t.kept p k → k ≡ kept t.setup p past
-kept_found t past p k h below found = found ∙ get_or_from_slice_get {X = ProcessKept} t.kept p (kept t.setup p past) k (h.kept p below)
+pub kept_found : (t : SnapshotState) (past : Past) (p : ℕ) (k : ProcessSummary) → HasObserved t past → p < t.setup.processes → k ≡ slice_index_or t.kept p k → k ≡ kept t.setup p past
+kept_found t past p k h below found = found ∙ get_or_from_slice_get {X = ProcessSummary} t.kept p (kept t.setup p past) k (h.kept p below)
 
 -- it has room for one call more
-pub room_found : (t : SnapshotState) (past : Past) (p : ℕ) (k : ProcessKept) → k ≡ kept t.setup p past → t.entries ≡ length past → t.entries < 2 ^ 64 - 1 → k.standing.last.call < 2 ^ 64 - 1
-room_found t past p k is count few = let same : k.standing.last.call ≡ calls_in (own p past) = ap (λ (k : ProcessKept). k.standing.last.call) is in omega (arith, same, calls-few p past, count, few)
+pub room_found : (t : SnapshotState) (past : Past) (p : ℕ) (k : ProcessSummary) → k ≡ kept t.setup p past → t.entries ≡ length past → t.entries < 2 ^ 64 - 1 → k.call_state.last.call < 2 ^ 64 - 1
+room_found t past p k is count few = let same : k.call_state.last.call ≡ calls_in (own p past) = ap (λ (k : ProcessSummary). k.call_state.last.call) is in omega (arith, same, calls-few p past, count, few)
 
 -- one more entry
-pub one_heard : (t : SnapshotState) (p : ℕ) (past : Past) (e : Entry) (now : ProcessKept) → e.process ≡ p → HasHeard t past → p < t.setup.processes → now ≡ kept t.setup p (e ∷ past) → HasHeard (state_with t p now (t.entries + 1)) (e ∷ past)
-one_heard t p past e now mine h below is = record {
-  kept = all_heard t.setup t.kept now past (e ∷ past) p below h.kept is (λ q apart. kept_other t.setup q e past (ap (λ n. n == q) mine ∙ apart));
+pub one_observed : (t : SnapshotState) (p : ℕ) (past : Past) (e : Entry) (now : ProcessSummary) → e.process ≡ p → HasObserved t past → p < t.setup.processes → now ≡ kept t.setup p (e ∷ past) → HasObserved (state_with t p now (t.entries + 1)) (e ∷ past)
+one_observed t p past e now mine h below is = record {
+  kept = all_observed t.setup t.kept now past (e ∷ past) p below h.kept is (λ q apart. kept_other t.setup q e past (ap (λ n. n == q) mine ∙ apart));
   entries = ap (λ n. n + 1) h.entries ∙ add-one (length past);
 }
 
 -- with marks
-pub mark_heard : (t : SnapshotState) (p : ℕ) (steps : Bool) (marks : List Mark) (before now : ProcessKept) → before ≡ slice_index_or t.kept p before → t.entries < 2 ^ 64 - 1 → (before.standing.last.call < 2 ^ 64 - 1 → now ≡ kept_marked t.entries steps marks before) →
-    (past : Past) (e : Entry) → e.process ≡ p → is_some e.access ≡ steps → e.marks ≡ marks → (marks ≡ [] → ⊥) → p < t.setup.processes → HasHeard t past → HasHeard (state_with t p now (t.entries + 1)) (e ∷ past)
-mark_heard t p steps marks before now found few goes past e mine o m some below h =
+pub mark_observed : (t : SnapshotState) (p : ℕ) (steps : Bool) (marks : List Mark) (before now : ProcessSummary) → before ≡ slice_index_or t.kept p before → t.entries < 2 ^ 64 - 1 → (before.call_state.last.call < 2 ^ 64 - 1 → now ≡ kept_marked t.entries steps marks before) →
+    (past : Past) (e : Entry) → e.process ≡ p → is_some e.access ≡ steps → e.marks ≡ marks → (marks ≡ [] → ⊥) → p < t.setup.processes → HasObserved t past → HasObserved (state_with t p now (t.entries + 1)) (e ∷ past)
+mark_observed t p steps marks before now found few goes past e mine o m some below h =
     let was : before ≡ kept t.setup p past = kept_found t past p before h below found in
-    one_heard t p past e now mine h below
+    one_observed t p past e now mine h below
     (goes (room_found t past p before was h.entries few) ∙ (λ i. kept_marked (h.entries i) (sym o i) (sym m i) (was i)) ∙ sym (kept_with t.setup p e past mine (λ none. some (sym m ∙ none))))
 
 -- without a mark
 entry_is : (p : ℕ) (a : Access) (e : Entry) → e.process ≡ p → e.access ≡ Some a → e.marks ≡ [] → e ≡ quiet_entry p a
 entry_is p a e mine o m = λ i. record { process = mine i; access = o i; marks = m i }
 
-pub step_heard : (t : SnapshotState) (p : ℕ) (a : Access) (read : ℕ) (before now : ProcessKept) → before ≡ slice_index_or t.kept p before → now ≡ kept_stepped t.setup t.entries a read before →
-    (past : Past) (e : Entry) → e.process ≡ p → e.access ≡ Some a → e.marks ≡ [] → TellsNumber t.setup past p a read → p < t.setup.processes → HasHeard t past → HasHeard (state_with t p now (t.entries + 1)) (e ∷ past)
-step_heard t p a read before now found goes past e mine o m tells below h =
+pub step_observed : (t : SnapshotState) (p : ℕ) (a : Access) (read : ℕ) (before now : ProcessSummary) → before ≡ slice_index_or t.kept p before → now ≡ kept_stepped t.setup t.entries a read before →
+    (past : Past) (e : Entry) → e.process ≡ p → e.access ≡ Some a → e.marks ≡ [] → ReportsNumber t.setup past p a read → p < t.setup.processes → HasObserved t past → HasObserved (state_with t p now (t.entries + 1)) (e ∷ past)
+step_observed t p a read before now found goes past e mine o m reports below h =
     let was : before ≡ kept t.setup p past = kept_found t past p before h below found in
     let is : e ≡ quiet_entry p a = entry_is p a e mine o m in
-    one_heard t p past e now mine h below
-    (goes ∙ (λ i. kept_stepped t.setup (h.entries i) a read (was i)) ∙ sym (kept_on t.setup p a past read tells) ∙ sym (ap (λ (e : Entry). kept t.setup p (e ∷ past)) is))
+    one_observed t p past e now mine h below
+    (goes ∙ (λ i. kept_stepped t.setup (h.entries i) a read (was i)) ∙ sym (kept_on t.setup p a past read reports) ∙ sym (ap (λ (e : Entry). kept t.setup p (e ∷ past)) is))
 
 -- within a register access
-pub pass_heard : (t : SnapshotState) (p n : ℕ) (past after : Past) → Passes t.setup p n past after → HasHeard t past → HasHeard (record t { entries = t.entries + n }) after
-pass_heard t p n past after passes h =
+pub pass_observed : (t : SnapshotState) (p n : ℕ) (past after : Past) → Passes t.setup p n past after → HasObserved t past → HasObserved (record t { entries = t.entries + n }) after
+pass_observed t p n past after passes h =
     let all = passed_all t.setup p n past after passes in
     record {
       kept = λ q below. h.kept q below ∙ ap Some (sym (all.1 q));

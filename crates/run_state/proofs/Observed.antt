@@ -20,7 +20,7 @@ use Rattle.judge.specs.safe_monitor.declared.verdicts.Verdict.TheVariants.{Good,
 use Rattle.judge.proofs.auditor.Recovers.{recovers}
 use Rattle.judge.proofs.auditor.Unique.{one_verdict}
 use Rattle.judge.proofs.auditor.Whole.{of_events}
-use Rattle.run_state.specs.{CoreShows, GoodEntries, HasHeard, HasObserved, IsNext, IsStored, RecordObserver, StoresNext, TellsNumber, good_ones, newest_stored, taken_with}
+use Rattle.run_state.specs.{CoreShows, GoodEntries, HasObserved, HasObservedRecord, IsNext, IsStored, RecordStateObserver, StoresNext, ReportsNumber, good_ones, newest_stored, taken_with}
 
 -- The good ones.
 
@@ -78,15 +78,15 @@ pub audited : (j : JudgeState) (s : Setup) (entries : List Entry) → HasJudged 
 audited j s entries judged = by j.verdict refl judged.verdict
   where
     by : (v : Verdict Law) → j.verdict ≡ v → IsVerdict s entries v → HasAudited j.auditor s (reverse (good_ones v entries))
-    by Good is verdict = let both = judged.goes_on is in record { setup = both.audited; heard = both.auditor }
+    by Good is verdict = let both = judged.goes_on is in record { setup = both.audited; observed = both.auditor }
     by (Bad k l) is verdict =
         subst (HasAudited j.auditor s) (before_is entries k verdict.entry verdict.past verdict.at) (judged.stays k l verdict.entry verdict.past is verdict.at)
 
 -- so its core shows them
 pub shows_good : (j : JudgeState) (s : Setup) (entries : List Entry) → HasJudged j s entries → CoreShows j.auditor.core (reverse (good_ones j.verdict entries))
 shows_good j s entries judged =
-    let heard = (audited j s entries judged).heard in
-    record { taken = history j.auditor.core.setup (reverse (good_ones j.verdict entries)); events = heard.events; shows = heard.shows; is = heard.past_is }
+    let observed = (audited j s entries judged).observed in
+    record { taken = history j.auditor.core.setup (reverse (good_ones j.verdict entries)); events = observed.events; shows = observed.shows; is = observed.past_is }
 
 -- As many items.
 
@@ -100,7 +100,7 @@ good_length (Bad k l) xs ys same = same_length k xs ys same
 -- One more entry.
 
 -- One more is judged.
-module _ (o : RecordObserver) (s : Setup) (entries : List Entry) (numbers : List ℕ) (e : Entry) (m : ℕ) (h : HasObserved o s entries numbers) where
+module _ (o : RecordStateObserver) (s : Setup) (entries : List Entry) (numbers : List ℕ) (e : Entry) (m : ℕ) (h : HasObservedRecord o s entries numbers) where
   module _ (j : JudgeState) (judged : HasJudged j s (entries ++ e ∷ [])) where
     -- It is good, and so it was.
     pub was_good : j.verdict ≡ Good → o.judge.verdict ≡ Good
@@ -168,14 +168,14 @@ newest_more : (entries : List Entry) (numbers : List ℕ) (e : Entry) (m : ℕ) 
 newest_more entries numbers e m = λ i. newest_stored (reverse-append numbers (m ∷ []) i) (reverse-append entries (e ∷ []) i)
 
 -- all of it is stored
-pub stored : (old new : GoodEntries) (m : ℕ) (e : Entry) (read : ℕ) (taken : Option Taken) → new.snapshot.setup ≡ old.snapshot.setup → ((past : Past) → IsNext old.snapshot.setup past e read → HasHeard old.snapshot past → HasHeard new.snapshot (e ∷ past)) →
+pub stored : (old new : GoodEntries) (m : ℕ) (e : Entry) (read : ℕ) (taken : Option Taken) → new.observed_run.setup ≡ old.observed_run.setup → ((past : Past) → IsNext old.observed_run.setup past e read → HasObserved old.observed_run past → HasObserved new.observed_run (e ∷ past)) →
     new.taken.items ≡ old.taken.items ++ option_to_list taken → new.newest ≡ Some (record { line = m; entry = e }) → StoresNext old new m e read taken
-stored old new m e read taken setup heard history_is newest s entries numbers next takes was =
+stored old new m e read taken setup observed history_is newest s entries numbers next takes was =
     let past : Past = reverse entries in
     let first : reverse (entries ++ e ∷ []) ≡ e ∷ past = newest_first entries e in
     record {
-      snapshot = setup ∙ was.snapshot;
-      heard = subst (HasHeard new.snapshot) (sym first) (heard past (subst (λ (t : Setup). IsNext t past e read) (sym was.snapshot) next) was.heard);
+      observed_run = setup ∙ was.observed_run;
+      observed = subst (HasObserved new.observed_run) (sym first) (observed past (subst (λ (t : Setup). IsNext t past e read) (sym was.observed_run) next) was.observed);
       newest = newest ∙ sym (newest_more entries numbers e m);
       taken = history_is ∙ ap (λ l. l ++ option_to_list taken) was.taken ∙ history_more s past e taken takes ∙ ap (history s) (sym first);
     }
@@ -183,13 +183,13 @@ stored old new m e read taken setup heard history_is newest s entries numbers ne
 -- The observer.
 
 -- nothing was observed yet
-pub observes_none : (o : RecordObserver) (s : Setup) → o.setup ≡ s → HasJudged o.judge s [] → o.good.snapshot.setup ≡ s → HasHeard o.good.snapshot [] → o.good.newest ≡ None → o.good.taken.items ≡ [] → HasObserved o s [] []
-observes_none o s setup judged snapshot heard newest taken = record {
+pub observes_none : (o : RecordStateObserver) (s : Setup) → o.setup ≡ s → HasJudged o.judge s [] → o.good.observed_run.setup ≡ s → HasObserved o.good.observed_run [] → o.good.newest ≡ None → o.good.taken.items ≡ [] → HasObservedRecord o s [] []
+observes_none o s setup judged observed_run observed newest taken = record {
   setup = setup;
   counted = refl;
   judged = judged;
   stores = subst (λ (l : List Entry). IsStored o.good s l (good_ones o.judge.verdict [])) (sym (good_none o.judge.verdict))
-      (subst (λ (l : List ℕ). IsStored o.good s [] l) (sym (good_none o.judge.verdict)) (record { snapshot = snapshot; heard = heard; newest = newest; taken = taken }));
+      (subst (λ (l : List ℕ). IsStored o.good s [] l) (sym (good_none o.judge.verdict)) (record { observed_run = observed_run; observed = observed; newest = newest; taken = taken }));
 }
 
 -- Parts of what the code finds.
@@ -210,9 +210,9 @@ pub marked_if_still : (s : Setup) (past : Past) (e : Entry) (read : ℕ) → IsN
 marked_if_still s past e read next still none = let unmarked = next.unmarked none in let two = sym still ∙ unmarked.1 in absurd (cc)
 
 -- before an access without a mark, this was read of the number
-pub tells_read : (s : Setup) (past : Past) (e : Entry) (a : Access) (read : ℕ) → IsNext s past e read → e.marks ≡ [] → e.access ≡ Some a → TellsNumber s past e.process a read
-tells_read s past e a read next none is =
+pub reports_read : (s : Setup) (past : Past) (e : Entry) (a : Access) (read : ℕ) → IsNext s past e read → e.marks ≡ [] → e.access ≡ Some a → ReportsNumber s past e.process a read
+reports_read s past e a read next none is =
     let unmarked = next.unmarked none in
     let two : Some unmarked.0 ≡ Some a = sym unmarked.1 ∙ is in
     let same : unmarked.0 ≡ a = cc in
-    subst (λ (a : Access). TellsNumber s past e.process a read) same unmarked.2
+    subst (λ (a : Access). ReportsNumber s past e.process a read) same unmarked.2

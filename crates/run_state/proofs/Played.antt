@@ -6,16 +6,16 @@ use Rattle.calls.specs.scenario.{Script}
 use Rattle.calls.specs.world.Cores.{InEachCorePast}
 use Rattle.calls.specs.scenario_run.world.{CoreState, with_history}
 use Rattle.calls.specs.scenario_run.world.Shows.{Shows, WorldState}
-use Rattle.calls.specs.scenario_run.{CourseState, Follows, LineMade, PlaysPart, PlaysUntil, events_in, past_in, run_at_start, tried}
-use Rattle.calls.specs.scenario_run.declared.until.Until.TheVariants as until
-use Rattle.run_state.specs.{HasSeen, Hears, Stands, StateObserver, WritesMade, head_lines, making_line, state_lines, state_of, stated}
+use Rattle.calls.specs.scenario_run.{ScenarioRunState, Follows, LineMade, PlaysPart, PlaysUntil, events_in, past_in, run_at_start, tried}
+use Rattle.calls.specs.scenario_run.declared.play_limit.PlayLimit.TheVariants as until
+use Rattle.run_state.specs.{HasSeen, Observes, HasObservedWorld, StateObserver, WritesMade, head_lines, making_line, state_lines, state_of, stated}
 use Rattle.run_state.proofs.Makers.{front_is}
 
-pub played : (said : Script) (n : ℕ) (old new : CourseState) (was is : StateObserver) (newest : Option LineMade) → old.world.setup ≡ said.setup → Follows old run_at_start →
-    PlaysUntil Hears (until.Event n) old said.lines new was is newest → PlaysPart Hears said.setup said.lines (until.Event n) run_at_start new was is newest
-played said n old new was is newest setup follows plays = subst (λ s. PlaysPart Hears s said.lines (until.Event n) run_at_start new was is newest) setup (plays run_at_start follows)
+pub played : (said : Script) (n : ℕ) (old new : ScenarioRunState) (was is : StateObserver) (newest : Option LineMade) → old.world.setup ≡ said.setup → Follows old run_at_start →
+    PlaysUntil Observes (until.Event n) old said.lines new was is newest → PlaysPart Observes said.setup said.lines (until.Event n) run_at_start new was is newest
+played said n old new was is newest setup follows plays = subst (λ s. PlaysPart Observes s said.lines (until.Event n) run_at_start new was is newest) setup (plays run_at_start follows)
 
-module _ (said : Script) (n : ℕ) (course : CourseState) (was observer : StateObserver) (newest : Option LineMade) (p : PlaysPart Hears said.setup said.lines (until.Event n) run_at_start course was observer newest) (seen : HasSeen said.setup [] was) (core : CoreState) (is : with_history core course.world.history ≡ course.world) where
+module _ (said : Script) (n : ℕ) (scenario_run : ScenarioRunState) (was observer : StateObserver) (newest : Option LineMade) (p : PlaysPart Observes said.setup said.lines (until.Event n) run_at_start scenario_run was observer newest) (seen : HasSeen said.setup [] was) (core : CoreState) (is : with_history core scenario_run.world.history ≡ scenario_run.world) where
   abbrev s : Setup
   s = said.setup
 
@@ -26,21 +26,21 @@ module _ (said : Script) (n : ℕ) (course : CourseState) (was observer : StateO
   events = tried p.now.happened
 
   now_seen : HasSeen s past observer
-  now_seen = p.plays.hears seen
+  now_seen = p.plays.observes seen
 
   setup_is : core.setup ≡ s
   setup_is = ap (λ (w : WorldState). w.setup) is ∙ p.plays.setup
 
-  shows : Shows (with_history core course.world.history) events
+  shows : Shows (with_history core scenario_run.world.history) events
   shows = subst (λ (w : WorldState). Shows w events) (sym is) p.plays.follows.shows
 
-  pub core_setup : core.setup ≡ observer.snapshot.setup
+  pub core_setup : core.setup ≡ observer.observed_run.setup
   core_setup = setup_is ∙ sym now_seen.setup
 
   -- the snapshot has observed the past of the course
-  stands : (taken : List Taken) → taken ≡ history course.world.setup (past_in course.world.setup p.now) → Stands observer.snapshot core taken past
+  stands : (taken : List Taken) → taken ≡ history scenario_run.world.setup (past_in scenario_run.world.setup p.now) → HasObservedWorld observer.observed_run core taken past
   stands taken are = record {
-    heard = now_seen.heard;
+    observed = now_seen.observed;
     setup = core_setup;
     events = events;
     shows = subst (λ l. Shows (with_history core l) events) (ap (λ (w : WorldState). w.history) p.plays.follows.shows.shown ∙ sym are) shows;
@@ -48,12 +48,12 @@ module _ (said : Script) (n : ℕ) (course : CourseState) (was observer : StateO
   }
 
   -- the lines of the newest event, then the line that made it, then those of processes, registers and the history
-  pub text_is : (numbers : List ℕ) (taken : List Taken) (count : ℕ) (start head made end : List ℕ) → start ≡ [] → taken ≡ history course.world.setup (past_in course.world.setup p.now) → count ≡ observer.snapshot.entries →
+  pub text_is : (numbers : List ℕ) (taken : List Taken) (count : ℕ) (start head made end : List ℕ) → start ≡ [] → taken ≡ history scenario_run.world.setup (past_in scenario_run.world.setup p.now) → count ≡ observer.observed_run.entries →
       InEachCorePast core (λ s past. HasSeen s past observer → head ≡ start ++ head_lines past) → WritesMade numbers said.lines newest count head made →
-      ((past : Past) → Stands observer.snapshot core taken past → end ≡ made ++ state_lines observer.snapshot.setup past) → end ≡ stated n numbers said
+      ((past : Past) → HasObservedWorld observer.observed_run core taken past → end ≡ made ++ state_lines observer.observed_run.setup past) → end ≡ stated n numbers said
   text_is numbers taken count start head made end none are counted first second third =
-      let writes : HasSeen s past observer → head ≡ start ++ head_lines past = subst (λ s. HasSeen s (past_of s events) observer → head ≡ start ++ head_lines (past_of s events)) setup_is (first course.world.history events shows) in
-      let count_is : count ≡ events_in s p.now = counted ∙ now_seen.heard.entries in
+      let writes : HasSeen s past observer → head ≡ start ++ head_lines past = subst (λ s. HasSeen s (past_of s events) observer → head ≡ start ++ head_lines (past_of s events)) setup_is (first scenario_run.world.history events shows) in
+      let count_is : count ≡ events_in s p.now = counted ∙ now_seen.observed.entries in
       let line : List ℕ = making_line numbers s (events_in s p.now) run_at_start said.lines in
       let rest : List ℕ = state_lines s past in
       let headed : head ≡ head_lines past = writes now_seen ∙ ap (λ l. l ++ head_lines past) none in

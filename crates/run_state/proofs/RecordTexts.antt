@@ -12,7 +12,7 @@ use Rattle.judge.specs.auditor.{AllKeep, Law, Verdict}
 use Rattle.judge.specs.safe_monitor.declared.verdicts.Verdict.TheVariants.{Good}
 use Rattle.judge.proofs.auditor.Unique.{one_verdict}
 use Rattle.judge.proofs.auditor.Whole.{good_of}
-use Rattle.run_state.specs.{HasObserved, RecordObserver, RecordsHaveStatesOfRuns, Stands, IsStored, TellsState, bad_line, count_line, first_of, good_ones, line_of_newest, newest_line, newest_lines, newest_stored, recorded_state, state_after, state_lines}
+use Rattle.run_state.specs.{HasObservedRecord, RecordStateObserver, RecordsHaveStatesOfRuns, HasObservedWorld, IsStored, ReportsState, bad_line, count_line, first_of, good_ones, line_of_newest, newest_line, newest_lines, newest_stored, recorded_state, state_after, state_lines}
 use Rattle.run_state.proofs.Observed.{audited, good_length}
 
 -- What is written.
@@ -29,27 +29,27 @@ in_order : (count newest made rest : List ℕ) → (count ++ (newest ++ made)) +
 in_order count newest made rest = ap (λ l. l ++ rest) (sym (append_assoc count newest made)) ∙ append_assoc (count ++ newest) made rest
 
 -- the snapshot has observed the past of the judge's core
-stands : (o : RecordObserver) (s : Setup) (entries : List Entry) (numbers : List ℕ) → HasAudited o.judge.auditor s (reverse entries) → IsStored o.good s entries numbers → Stands o.good.snapshot o.judge.auditor.core o.good.taken.items (reverse entries)
-stands o s entries numbers heard stores =
+stands : (o : RecordStateObserver) (s : Setup) (entries : List Entry) (numbers : List ℕ) → HasAudited o.judge.auditor s (reverse entries) → IsStored o.good s entries numbers → HasObservedWorld o.good.observed_run o.judge.auditor.core o.good.taken.items (reverse entries)
+stands o s entries numbers observed stores =
     let core : CoreState = o.judge.auditor.core in
     let past : Past = reverse entries in
-    let taken : o.good.taken.items ≡ history core.setup past = stores.taken ∙ ap (λ (t : Setup). history t past) (sym heard.setup) in
+    let taken : o.good.taken.items ≡ history core.setup past = stores.taken ∙ ap (λ (t : Setup). history t past) (sym observed.setup) in
     record {
-      heard = stores.heard;
-      setup = heard.setup ∙ sym stores.snapshot;
-      events = heard.heard.events;
-      shows = subst (λ (l : List Taken). Shows (with_history core l) heard.heard.events) (sym taken) heard.heard.shows;
-      is_past = sym heard.heard.past_is;
+      observed = stores.observed;
+      setup = observed.setup ∙ sym stores.observed_run;
+      events = observed.observed.events;
+      shows = subst (λ (l : List Taken). Shows (with_history core l) observed.observed.events) (sym taken) observed.observed.shows;
+      is_past = sym observed.observed.past_is;
     }
 
 -- the text of an observer, from its parts
-pub told_is : (o : RecordObserver) (s : Setup) (entries : List Entry) (numbers : List ℕ) (counted newest lined told : List ℕ) (status : ℕ) → HasObserved o s entries numbers →
-    counted ≡ count_line o.good.snapshot.entries → newest ≡ counted ++ newest_lines o.good.newest → ((past : Past) → Stands o.good.snapshot o.judge.auditor.core o.good.taken.items past → lined ≡ newest ++ state_lines o.good.snapshot.setup past) →
-    told ≡ lined ++ bad_line o.judge.verdict → status ≡ status_of_verdict o.judge.verdict → TellsState s entries numbers told status
-told_is o s entries numbers counted newest lined told status h first second third fourth answer = record {
+pub reported_is : (o : RecordStateObserver) (s : Setup) (entries : List Entry) (numbers : List ℕ) (counted newest lined reported : List ℕ) (status : ℕ) → HasObservedRecord o s entries numbers →
+    counted ≡ count_line o.good.observed_run.entries → newest ≡ counted ++ newest_lines o.good.newest → ((past : Past) → HasObservedWorld o.good.observed_run o.judge.auditor.core o.good.taken.items past → lined ≡ newest ++ state_lines o.good.observed_run.setup past) →
+    reported ≡ lined ++ bad_line o.judge.verdict → status ≡ status_of_verdict o.judge.verdict → ReportsState s entries numbers reported status
+reported_is o s entries numbers counted newest lined reported status h first second third fourth answer = record {
   verdict = v;
   is = h.judged.verdict;
-  state = fourth ∙ ap (λ l. l ++ bad_line v) (third past here ∙ (λ i. written i ++ state_lines (h.stores.snapshot i) past) ∙ in_order (count_line (length past)) (newest_line past) made (state_lines s past));
+  state = fourth ∙ ap (λ l. l ++ bad_line v) (third past here ∙ (λ i. written i ++ state_lines (h.stores.observed_run i) past) ∙ in_order (count_line (length past)) (newest_line past) made (state_lines s past));
   answer = answer;
 }
   where
@@ -68,14 +68,14 @@ told_is o s entries numbers counted newest lined told status h first second thir
     made : List ℕ
     made = line_of_newest (reverse lines)
 
-    here : Stands o.good.snapshot o.judge.auditor.core o.good.taken.items past
+    here : HasObservedWorld o.good.observed_run o.judge.auditor.core o.good.taken.items past
     here = stands o s good lines (audited o.judge s entries h.judged) h.stores
 
     same : length (reverse lines) ≡ length past
     same = length-reverse lines ∙ good_length v numbers entries h.counted ∙ sym (length-reverse good)
 
     written : newest ≡ count_line (length past) ++ (newest_line past ++ made)
-    written = second ∙ (λ i. (first ∙ ap count_line h.stores.heard.entries) i ++ (ap newest_lines h.stores.newest ∙ newest_written (reverse lines) past same) i)
+    written = second ∙ (λ i. (first ∙ ap count_line h.stores.observed.entries) i ++ (ap newest_lines h.stores.newest ∙ newest_written (reverse lines) past same) i)
 
 -- The record of a run.
 
@@ -103,10 +103,10 @@ keep_from s (suc i) [] all = all
 keep_from s (suc i) (e ∷ past) all = keep_from s i past all.1
 
 pub as_runs : RecordsHaveStatesOfRuns
-as_runs s good events given n numbers told status tells = (
-  tells.state ∙ ap (λ (v : Verdict Law). recorded_state s (good_ones v first) (good_ones v (take n numbers)) ++ bad_line v) is_good ∙ append-nil (recorded_state s first (take n numbers))
+as_runs s good events given n numbers reported status reports = (
+  reports.state ∙ ap (λ (v : Verdict Law). recorded_state s (good_ones v first) (good_ones v (take n numbers)) ++ bad_line v) is_good ∙ append-nil (recorded_state s first (take n numbers))
       ∙ ap (state_after (line_of_newest (reverse (take n numbers))) s) (first_entries n past),
-  tells.answer ∙ ap status_of_verdict is_good,
+  reports.answer ∙ ap status_of_verdict is_good,
 )
   where
     past : Past
@@ -118,5 +118,5 @@ as_runs s good events given n numbers told status tells = (
     kept : AllKeep s (reverse first)
     kept = subst (AllKeep s) (sym (first_entries n past)) (keep_from s (length past - n) past (good_of s good events given))
 
-    is_good : tells.verdict ≡ Good
-    is_good = one_verdict s first tells.verdict Good tells.is kept
+    is_good : reports.verdict ≡ Good
+    is_good = one_verdict s first reports.verdict Good reports.is kept

@@ -7,7 +7,7 @@ use Rattle.model.specs.{bytes_of_bits}
 use Rattle.model.specs.safe_number.{AreBytes, bit_in, bits_in, little_endian, number_of_bits}
 use Rattle.model.proofs.Bytes.{bytes-of-bits}
 use Rattle.model.proofs.safe_number.Bits.{bits-bytes}
-use Rattle.model.proofs.safe_number.Numbers.{bit_in-past, bit_in-take, bits-told, get-bits, length_bits, range_same}
+use Rattle.model.proofs.safe_number.Numbers.{bit_in-past, bit_in-take, bits-reported, get-bits, length_bits, range_same}
 use Rattle.calls.specs.world.process.registers.{register_bytes}
 use Rattle.calls.proofs.world_proofs.process_proofs.registers_proofs.CopyBytes.{register-made}
 use Rattle.calls.proofs.world_proofs.process_proofs.registers_proofs.MadeBytes.{register-bits}
@@ -33,7 +33,7 @@ first-bytes bytes n room are k = elim (cases_lt k n) [
 pub bytes-back : (bytes : List ℕ) (n : ℕ) → n ≤ length bytes → AreBytes bytes → take n bytes ≡ bytes_of_bits n (bits_in bytes (8 * n))
 bytes-back bytes n room are =
     bytes-of-bits n (bits_in bytes (8 * n)) (take n bytes) (length_bits bytes (8 * n)) (length-take-le n bytes room) (first-bytes bytes n room are)
-    (bits-told bytes (8 * n) n (omega arith) room (λ k above below. absurd (omega arith)))
+    (bits-reported bytes (8 * n) n (omega arith) room (λ k above below. absurd (omega arith)))
 
 -- the number of the first bits of bytes
 pub number-read : (bytes : List ℕ) (w : ℕ) → w ≤ 64 → 8 ≤ length bytes → AreBytes bytes → little_endian (take 8 bytes) % 2 ^ w ≡ number_of_bits (bits_in bytes w)

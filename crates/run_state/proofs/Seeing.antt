@@ -8,30 +8,30 @@ use Rattle.calls.proofs.course_proofs.laws.Steps.{step_is}
 use Rattle.calls.specs.scenario_run.world.laws.{doing}
 use Rattle.calls.specs.scenario_run.world.process.{number_read}
 use Rattle.calls.specs.{ends_number}
-use Rattle.run_state.specs.{HasSeen, HearsTold, IsNewestWithin, Passes, StateObserver, TellsNumber, newest, newest_line, unmarked_entry}
+use Rattle.run_state.specs.{HasSeen, ObservesReported, IsNewestWithin, Passes, StateObserver, ReportsNumber, newest, newest_line, unmarked_entry}
 use Rattle.run_state.proofs.FirstAccesses.{has-first}
 use Rattle.calls.proofs.world_proofs.WorldShows.{past-after}
 use Rattle.calls.proofs.UnmarkedSteps.{inside_never, not_so}
-use Rattle.calls.specs.scenario_run.{Happening, Happens, PassWithin, Stepped, StepsOn, StepsWithin, Told, Tries, past_after, told_unmarked, tried}
-use Rattle.calls.proofs.Tabling.{in_turn, past_told}
+use Rattle.calls.specs.scenario_run.{Happening, Happens, PassWithin, UnmarkedStep, StepsOn, StepsWithin, TurnReport, Tries, past_after, reported_unmarked, tried}
+use Rattle.calls.proofs.Tabling.{in_turn, past_reported}
 
 -- the report of a turn
-pub told_seen : (s : Setup) (before : List Happening) (this : Happening) (answer : Told) (old new : StateObserver) → Happens s before this answer → HearsTold answer old new → HasSeen s (past_after s before) old → HasSeen s (past_after s (this ∷ before)) new
-told_seen s before this answer old new h heard seen =
-    subst (λ past. HasSeen s past new) (sym (past_told s before this answer h.tells)) (heard s (past_after s before) (in_turn s before this answer h.tells h.marked) h.marked seen)
+pub reported_seen : (s : Setup) (before : List Happening) (this : Happening) (answer : TurnReport) (old new : StateObserver) → Happens s before this answer → ObservesReported answer old new → HasSeen s (past_after s before) old → HasSeen s (past_after s (this ∷ before)) new
+reported_seen s before this answer old new h observed seen =
+    subst (λ past. HasSeen s past new) (sym (past_reported s before this answer h.reports)) (observed s (past_after s before) (in_turn s before this answer h.reports h.marked) h.marked seen)
 
 -- A Step without a mark.
 
 -- a Step within a register access is reported without a number, and ends no access
-pub tells_number : (s : Setup) (before : List Happening) (made : Stepped) (n : ℕ) → ((m : ℕ) → made.number ≡ Some m → n ≡ m) → StepsOn s before made → TellsNumber s (past_after s before) made.process made.access n
-tells_number s before made n same on = λ ends. by made.number refl ends
+pub reports_number : (s : Setup) (before : List Happening) (made : UnmarkedStep) (n : ℕ) → ((m : ℕ) → made.number ≡ Some m → n ≡ m) → StepsOn s before made → ReportsNumber s (past_after s before) made.process made.access n
+reports_number s before made n same on = λ ends. by made.number refl ends
   where
     by : (o : Option ℕ) → made.number ≡ o → ends_number (width s made.access.field) made.access.bit made.access.how ≡ true → n ≡ number_read (doing s made.process (past_after s before))
     by None is ends = absurd (inside_never s on.good (tried before) made.process made.flick made.access on.adds (on.within is) ends)
     by (Some m) is ends = same m is ∙ on.number m is
 
-pub step_past : (s : Setup) (before : List Happening) (made : Stepped) → StepsOn s before made → past_after s (Tries (Step made.process made.flick) ∷ before) ≡ record { process = made.process; access = Some made.access; marks = [] } ∷ past_after s before
-step_past s before made on = past_told s before (Tries (Step made.process made.flick)) (told_unmarked made) (refl, on.adds, on.overlapped)
+pub step_past : (s : Setup) (before : List Happening) (made : UnmarkedStep) → StepsOn s before made → past_after s (Tries (Step made.process made.flick) ∷ before) ≡ record { process = made.process; access = Some made.access; marks = [] } ∷ past_after s before
+step_past s before made on = past_reported s before (Tries (Step made.process made.flick)) (reported_unmarked made) (refl, on.adds, on.overlapped)
 
 -- Steps within a register access.
 

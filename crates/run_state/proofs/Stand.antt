@@ -10,26 +10,26 @@ use Rattle.calls.specs.world.laws.{IsThere}
 use Rattle.calls.proofs.world_proofs.laws_proofs.HeldThere.{access_there}
 use Rattle.calls.specs.world.process.{ProcessState, process_after}
 use Rattle.calls.specs.world.{CoreState, InEachCorePast, WorldState, stage_in}
-use Rattle.run_state.specs.{AreGiven, AreOf, ComesNext, CoreShows, ProcessLines, SnapshotState, Stands, access_in}
+use Rattle.run_state.specs.{AreGiven, AreOf, ComesNext, CoreShows, ProcessLines, SnapshotState, HasObservedWorld, access_in}
 
 -- the past, by the snapshot's setup
-pub past_is : (t : SnapshotState) (c : CoreState) (taken : List Taken) (past : Past) → (u : Stands t c taken past) → past_of t.setup u.events ≡ past
+pub past_is : (t : SnapshotState) (c : CoreState) (taken : List Taken) (past : Past) → (u : HasObservedWorld t c taken past) → past_of t.setup u.events ≡ past
 past_is t c taken past u = ap (λ (s : Setup). past_of s u.events) (sym u.setup) ∙ sym u.is_past
 
 -- the history
-pub taken_is : (t : SnapshotState) (c : CoreState) (taken : List Taken) (past : Past) → Stands t c taken past → taken ≡ history t.setup past
+pub taken_is : (t : SnapshotState) (c : CoreState) (taken : List Taken) (past : Past) → HasObservedWorld t c taken past → taken ≡ history t.setup past
 taken_is t c taken past u =
     ap (λ (w : WorldState). w.history) u.shows.shown ∙ ap (λ (s : Setup). history s (past_of s u.events)) u.setup ∙ ap (history t.setup) (past_is t c taken past u)
 
 -- the stage of an existing process
-pub stage_is : (t : SnapshotState) (c : CoreState) (taken : List Taken) (past : Past) (p : ℕ) → p < t.setup.processes → (u : Stands t c taken past) → stage_in c.setup (past_of c.setup u.events) p ≡ Some (stage p past)
+pub stage_is : (t : SnapshotState) (c : CoreState) (taken : List Taken) (past : Past) (p : ℕ) → p < t.setup.processes → (u : HasObservedWorld t c taken past) → stage_in c.setup (past_of c.setup u.events) p ≡ Some (stage p past)
 stage_is t c taken past p there u =
     let within : nat_lt p t.setup.processes ≡ true = grind (arith, nat_tests) in
     ap (λ (s : Setup). stage_in s (past_of c.setup u.events) p) u.setup ∙ ap (λ (q : Past). stage_in t.setup q p) (sym u.is_past)
     ∙ ap (λ (b : Bool). cond b (Some (stage p past)) None) within
 
 -- the core shows the past
-pub core_shows : (t : SnapshotState) (c : CoreState) (taken : List Taken) (past : Past) → Stands t c taken past → CoreShows c past
+pub core_shows : (t : SnapshotState) (c : CoreState) (taken : List Taken) (past : Past) → HasObservedWorld t c taken past → CoreShows c past
 core_shows t c taken past u = record { taken = taken; events = u.events; shows = u.shows; is = sym u.is_past }
 
 -- a consequence, where no allocation failed

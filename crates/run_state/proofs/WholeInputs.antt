@@ -6,7 +6,7 @@ use Rattle.calls.specs.scenario.files.Engines.{Ran, Streams, text_by, text_or_no
 use Rattle.calls.specs.scenario.files.{Fault, LineFault, ReadsInput, UnlessMemory, WritesFront, ◌>>=◌}
 use Rattle.calls.specs.scenario.files.declared.faults.Fault.TheVariants as fault
 use Rattle.calls.specs.scenario.{Script, scenario_of}
-use Rattle.calls.proofs.scenario_proofs.CutTexts.{scenario_ended, scenario_told}
+use Rattle.calls.proofs.scenario_proofs.CutTexts.{scenario_ended, scenario_reported}
 use Rattle.calls.proofs.course_proofs.Written.{front_none as none_is_front}
 
 -- a fact on a result is one on an equal result
@@ -29,7 +29,7 @@ module _ (printed : List ℕ → Script → List ℕ) where
 
   -- all bytes of a good scenario file are read
   bytes_are : (bytes input : List ℕ) (rest : Option (List ℕ)) (said : Script) → ReadsInput (Some input) rest bytes → scenario_of input ≡ Ok said → bytes ≡ input
-  bytes_are bytes input rest said read good = Consumes-all (Some input) rest bytes [] bytes read.front (scenario_ended input bytes rest said read (scenario_told input bytes rest read ∙ good)) refl
+  bytes_are bytes input rest said read good = Consumes-all (Some input) rest bytes [] bytes read.front (scenario_ended input bytes rest said read (scenario_reported input bytes rest read ∙ good)) refl
 
   same_text : (bytes input : List ℕ) (rest : Option (List ℕ)) → ReadsInput (Some input) rest bytes → text_by scenario_of (printed bytes) input ≡ text_of input
   same_text bytes input rest read = by (scenario_of input) refl
@@ -47,7 +47,7 @@ module _ (printed : List ℕ → Script → List ℕ) where
       by (Some input) read = same_text bytes input new.to_come read
 
 -- an engine that finds no memory has written nothing
-pub memory_ran : (result : Result (Unit {0}) Fault) (text : List ℕ → Result (List ℕ) LineFault) (old new : Streams) → IsErrAnd result (λ told. told ≡ fault.Memory) → new.taken ≡ old.taken → Ran text result old new
+pub memory_ran : (result : Result (Unit {0}) Fault) (text : List ℕ → Result (List ℕ) LineFault) (old new : Streams) → IsErrAnd result (λ reported. reported ≡ fault.Memory) → new.taken ≡ old.taken → Ran text result old new
 memory_ran (Ok done) text old new is same = absurd is
 memory_ran (Err e) text old new is same = subst (λ e. Ran text (Err e) old new) (sym is) (by old.to_come)
   where

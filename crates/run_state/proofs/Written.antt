@@ -169,10 +169,10 @@ value_is fitting leaves s good events p a w writes within =
     let n : ℕ = s.processes in
     let fits : FitsItsRegister s w = fitting s good events p w writes in
     let all : (write_progress s a).all ≡ accesses_in_all n w = ap (λ f. 2 * (n * width s f)) within.field ∙ ap (λ k. 2 * (n * k)) (sym fits.run) in
-    let left : steps_alone s p ((write_progress s a).all - (write_progress s a).made) past ≡ write_ended s p w past = λ i. steps_alone s p (all i - within.made i) past in
+    let remaining : steps_alone s p ((write_progress s a).all - (write_progress s a).made) past ≡ write_ended s p w past = λ i. steps_alone s p (all i - within.made i) past in
     let first : 0 < n = omega (arith, (is_good s good).processes_is) in (
       fits.bits ∙ ap (width s) (sym within.field),
-      (λ i. copy_text s (left i) (within.owner i) (within.field i) 0)
+      (λ i. copy_text s (remaining i) (within.owner i) (within.field i) 0)
           ∙ copy-shown s (write_ended s p w past) p w.field w.bits fits.bits first (leaves s good events p w writes)
           ∙ ap (λ f. shown s f w.bits) (sym within.field),
       all,

@@ -13,14 +13,14 @@ use Rattle.model.specs.declared.access.Field.TheVariants.{Image0, Image1}
 use Rattle.calls.specs.world.{cells_held}
 use Rattle.calls.specs.world.laws.{cell_held}
 use Rattle.calls.specs.world.process.registers.{has_open_write, values_in}
-use Rattle.calls.specs.world.process.registers.reader_copies.{BitSeen, bit_seen}
+use Rattle.calls.specs.world.process.registers.reader_copies.{CopyState, copy_state}
 use Rattle.run_state.specs.Stores.{number_word, store_text}
 
 -- Bits.
 
 -- the state of the bit of an access
-abbrev pub bit_at : Setup → Past → Access → BitSeen
-bit_at s past a = bit_seen (cell_held s past a)
+abbrev pub bit_at : Setup → Past → Access → CopyState
+bit_at s past a = copy_state (cell_held s past a)
 
 -- the bits of a reader's copy of a register by their cells; none while a write of one of them is open
 abbrev pub bits_in_cells : List Cell → Option (List Bool)

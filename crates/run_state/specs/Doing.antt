@@ -12,11 +12,11 @@ use Rattle.judge.specs.record_file.scenario.{bit_word}
 use Rattle.calls.specs.{Called, holds_up, is_read_end, open_call}
 use Rattle.run_state.specs.declared.kept.FinishedRead.{FinishedRead}
 use Rattle.calls.specs.world.laws.{Doing, doing, steps_alone}
-use Rattle.calls.specs.world.process.{AccessProgress, TicketKnown, number_read, settling_of, ticket_known}
+use Rattle.calls.specs.world.process.{AccessProgress, KnownTicket, number_read, settling_of, ticket_known}
 use Rattle.calls.specs.world.process.declared.looks.Settling.{Settling as Torn}
-use Rattle.calls.specs.world.process.declared.looks.TicketKnown.TheVariants.{Above, Is}
-use Rattle.calls.specs.world.process.registers.reader_copies.{BitSeen}
-use Rattle.run_state.specs.declared.kept.ProcessKept.{ProcessKept}
+use Rattle.calls.specs.world.process.declared.looks.KnownTicket.TheVariants.{Above, Is}
+use Rattle.calls.specs.world.process.registers.reader_copies.{CopyState}
+use Rattle.run_state.specs.declared.kept.ProcessSummary.{ProcessSummary}
 use Rattle.run_state.specs.Copies.{bit_at, copy_text, is_image}
 use Rattle.run_state.specs.Keeping.{kept, number_finished}
 use Rattle.run_state.specs.Lines.{line_if, process_line}
@@ -31,7 +31,7 @@ abbrev pub above_words : ℕ → List ℕ
 above_words n = codes "ticket above " ++ decimal n
 
 -- in its doorway, by what is known of it
-abbrev pub doorway_ticket : Option TicketKnown → Option (List ℕ)
+abbrev pub doorway_ticket : Option KnownTicket → Option (List ℕ)
 doorway_ticket None = None
 doorway_ticket (Some (Above n)) = Some (above_words n)
 doorway_ticket (Some (Is n)) = Some (ticket_words n)
@@ -41,7 +41,7 @@ abbrev pub waiting_ticket : Option ℕ → Option (List ℕ)
 waiting_ticket None = None
 waiting_ticket (Some n) = Some (ticket_words n)
 
-abbrev pub ticket_at : Stage → Option TicketKnown → Called → Option (List ℕ)
+abbrev pub ticket_at : Stage → Option KnownTicket → Called → Option (List ℕ)
 ticket_at Doorway known c = doorway_ticket known
 ticket_at Waiting known c = waiting_ticket c.marks.ticket
 ticket_at Inside known c = waiting_ticket c.marks.ticket
@@ -65,12 +65,12 @@ waits_at p Waiting read c = waits_by p c.marks.ticket read
 waits_at p _ read c = None
 
 -- both lines, by what is known of the ticket, and by the number that was read last
-abbrev pub call_told : ℕ → Stage → Option TicketKnown → Option FinishedRead → Called → List ℕ
-call_told p stage known read c = line_if p (ticket_at stage known c) ++ line_if p (waits_at p stage read c)
+abbrev pub call_reported : ℕ → Stage → Option KnownTicket → Option FinishedRead → Called → List ℕ
+call_reported p stage known read c = line_if p (ticket_at stage known c) ++ line_if p (waits_at p stage read c)
 
-abbrev pub ticket_lines : ℕ → Stage → Option TicketKnown → Option FinishedRead → Option Called → List ℕ
+abbrev pub ticket_lines : ℕ → Stage → Option KnownTicket → Option FinishedRead → Option Called → List ℕ
 ticket_lines p stage known read None = []
-ticket_lines p stage known read (Some c) = call_told p stage known read c
+ticket_lines p stage known read (Some c) = call_reported p stage known read c
 
 -- Reading, writing and settling.
 
@@ -173,7 +173,7 @@ cut_open p None = None
 cut_open p (Some t) = cond (is_cut_first t) (Some (opened_words (cut_access p t) (written_word t.written))) None
 
 -- where the next access ends one, that one
-abbrev pub open_by : ℕ → Access → Move → BitSeen → Option Torn → Option (List ℕ)
+abbrev pub open_by : ℕ → Access → Move → CopyState → Option Torn → Option (List ℕ)
 open_by p a EndWrite b torn = Some (opened_words a (written_word b.value))
 open_by p a (EndRead v) b torn = Some (opened_words a (read_word b.touched))
 open_by p a _ b torn = cut_open p torn
@@ -189,7 +189,7 @@ failed_words Settling at = Some (codes "failed at " ++ decimal at)
 failed_words _ at = None
 
 -- where it does this, and this access comes next
-abbrev pub doing_with : Setup → Past → ℕ → Stage → Option Called → ProcessKept → Doing → Access → List ℕ
+abbrev pub doing_with : Setup → Past → ℕ → Stage → Option Called → ProcessSummary → Doing → Access → List ℕ
 doing_with s past p stage call k d a =
     line_if p (failed_words stage k.failed)
     ++ (ticket_lines p stage (ticket_known s d) k.read call ++ (busy_lines s past p a (number_read d) (settling_of d) ++ line_if p (open_words s past p a (settling_of d))))

@@ -3,14 +3,14 @@ use Rattle.std.specs.Prelude.{◌≡◌, ℕ, zero, suc, ◌==◌, Bool, true, f
 use Rattle.std.specs.List.{list_any}
 use Rattle.plain_store.specs.{Setup}
 use Rattle.model.specs.{Access, Entry, Mark, Past, called_in, has, is_failed, width}
-use Rattle.calls.specs.{CallStanding, Called, at_rest, begun, ends_number, first_if, marked_all, no_accesses, number_after, standing}
+use Rattle.calls.specs.{CallState, Called, at_rest, begun, ends_number, first_if, marked_all, no_accesses, number_after, call_state}
 use Rattle.run_state.specs.declared.kept.FinishedRead.{FinishedRead}
 use Rattle.calls.specs.world.laws.{doing}
 use Rattle.calls.specs.world.process.{number_read}
-use Rattle.run_state.specs.declared.kept.ProcessKept.{ProcessKept}
+use Rattle.run_state.specs.declared.kept.ProcessSummary.{ProcessSummary}
 
 -- a call without the columns of its accesses, except the first access that the process makes itself
-abbrev pub without_accesses : CallStanding → CallStanding
+abbrev pub without_accesses : CallState → CallState
 without_accesses k = record k { last = record k.last { accesses = record no_accesses { doorway = k.last.accesses.doorway } } }
 
 -- the number of the entry with which p failed last
@@ -36,43 +36,43 @@ read_last s p [] = None
 read_last s p (e ∷ past) = cond (e.process == p) (read_after s (number_read (doing s p past)) e (read_last s p past)) (read_last s p past)
 
 -- the state of p
-abbrev pub kept : Setup → ℕ → Past → ProcessKept
-kept s p past = record { standing = without_accesses (standing s p past); failed = failed_at p past; read = read_last s p past }
+abbrev pub kept : Setup → ℕ → Past → ProcessSummary
+kept s p past = record { call_state = without_accesses (call_state s p past); failed = failed_at p past; read = read_last s p past }
 
 -- without an entry
-abbrev pub nothing_kept : ℕ → ProcessKept
-nothing_kept p = record { standing = at_rest p; failed = 0; read = None }
+abbrev pub nothing_kept : ℕ → ProcessSummary
+nothing_kept p = record { call_state = at_rest p; failed = 0; read = None }
 
 -- with an access of the entry with this number, which counts unless the process has failed in its call
-abbrev pub opened : ℕ → CallStanding → CallStanding
+abbrev pub opened : ℕ → CallState → CallState
 opened number k = record k { last = record k.last { accesses = record k.last.accesses { doorway = first_if (is_none k.last.marks.failed) number k.last.accesses.doorway } } }
 
-abbrev pub opened_if : Bool → ℕ → CallStanding → CallStanding
+abbrev pub opened_if : Bool → ℕ → CallState → CallState
 opened_if b number k = cond b (opened number k) k
 
 -- with an entry of this number and with these marks, which has an access or not
-abbrev pub kept_marked : ℕ → Bool → List Mark → ProcessKept → ProcessKept
+abbrev pub kept_marked : ℕ → Bool → List Mark → ProcessSummary → ProcessSummary
 kept_marked number stepped marks k = record {
-  standing = elim (called_in marks) as (λ _. CallStanding) [ Some c ↦ begun number c k.standing | None ↦ marked_all number (opened_if stepped number k.standing) marks ];
+  call_state = elim (called_in marks) as (λ _. CallState) [ Some c ↦ begun number c k.call_state | None ↦ marked_all number (opened_if stepped number k.call_state) marks ];
   failed = cond (list_any is_failed marks) number k.failed;
   read = None;
 }
 
 -- with an access without a mark, before which n was read of the number
-abbrev pub kept_stepped : Setup → ℕ → Access → ℕ → ProcessKept → ProcessKept
-kept_stepped s number a n k = record { standing = opened number k.standing; failed = k.failed; read = read_with s a n k.read }
+abbrev pub kept_stepped : Setup → ℕ → Access → ℕ → ProcessSummary → ProcessSummary
+kept_stepped s number a n k = record { call_state = opened number k.call_state; failed = k.failed; read = read_with s a n k.read }
 
 -- the call that goes on, if one does
-abbrev pub call_kept : ProcessKept → Option Called
-call_kept k = cond k.standing.calling (Some k.standing.last) None
+abbrev pub call_kept : ProcessSummary → Option Called
+call_kept k = cond k.call_state.calling (Some k.call_state.last) None
 
 -- `n` is the number that was read before an access of p, if the access ends the read of a register
-abbrev pub TellsNumber : Setup → Past → ℕ → Access → ℕ → Type 0
-TellsNumber s past p a n = ends_number (width s a.field) a.bit a.how ≡ true → n ≡ number_read (doing s p past)
+abbrev pub ReportsNumber : Setup → Past → ℕ → Access → ℕ → Type 0
+ReportsNumber s past p a n = ends_number (width s a.field) a.bit a.how ≡ true → n ≡ number_read (doing s p past)
 
 -- p itself has made an access of its last call
 abbrev pub has_accessed : Setup → ℕ → Past → Bool
-has_accessed s p past = is_some (standing s p past).last.accesses.doorway
+has_accessed s p past = is_some (call_state s p past).last.accesses.doorway
 
 -- from one past to another p added a number of entries within a register access, none of them with the first access of its call
 abbrev pub Passes : Setup → ℕ → ℕ → Past → Past → Type 0

@@ -45,7 +45,7 @@ abbrev pub call_lines : ℕ → List Taken → Called → List ℕ
 call_lines p taken c =
     process_line p (call_words c)
     ++ (line_if p (span_words (codes "doorway") c.accesses.doorway c.marks.door_end)
-    ++ (line_if p (span_words (codes "inside") c.marks.entered c.marks.left)
+    ++ (line_if p (span_words (codes "inside") c.marks.entered c.marks.remaining)
     ++ (line_if p (taken_words taken c.marks.place c.marks.taken)
     ++ line_if p (at_words (codes "withdrew") c.marks.withdrew))))
 

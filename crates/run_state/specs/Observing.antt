@@ -4,13 +4,13 @@ use Rattle.plain_store.specs.{Reply, Setup}
 use Rattle.model.specs.{Access, Entry, Mark, Past, Taken, history, reply_taken}
 use Rattle.calls.specs.world.process.{process_after}
 use Rattle.judge.specs.Judging.{HasJudged}
-use Rattle.run_state.specs.Keeping.{TellsNumber}
+use Rattle.run_state.specs.Keeping.{ReportsNumber}
 use Rattle.run_state.specs.Processes.{newest_line}
 use Rattle.run_state.specs.RecordStates.{good_ones, line_of_newest}
-use Rattle.run_state.specs.Snapshots.{HasHeard}
+use Rattle.run_state.specs.ObservedRuns.{HasObserved}
 use Rattle.run_state.specs.declared.record_observer.GoodEntries.{GoodEntries}
 use Rattle.run_state.specs.declared.record_observer.NewestEntry.{NewestEntry}
-use Rattle.run_state.specs.declared.record_observer.RecordObserver.{RecordObserver}
+use Rattle.run_state.specs.declared.record_observer.RecordStateObserver.{RecordStateObserver}
 
 -- the newest entry and the number of its line
 abbrev pub newest_stored : List ℕ → Past → Option NewestEntry
@@ -31,12 +31,12 @@ taken_with s past p marks =
 -- number that it reads
 pub record IsNext (s : Setup) (past : Past) (e : Entry) (read : ℕ) : Type 0 where
   pub process : e.process < s.processes
-  pub unmarked : e.marks ≡ [] → (a : Access) × (e.access ≡ Some a) × TellsNumber s past e.process a read
+  pub unmarked : e.marks ≡ [] → (a : Access) × (e.access ≡ Some a) × ReportsNumber s past e.process a read
 
 -- these entries, which are in the lines with these numbers, were observed
 pub record IsStored (g : GoodEntries) (s : Setup) (entries : List Entry) (numbers : List ℕ) : Type 0 where
-  pub snapshot : g.snapshot.setup ≡ s
-  pub heard : HasHeard g.snapshot (reverse entries)
+  pub observed_run : g.observed_run.setup ≡ s
+  pub observed : HasObserved g.observed_run (reverse entries)
   pub newest : g.newest ≡ newest_stored (reverse numbers) (reverse entries)
   pub taken : g.taken.items ≡ history s (reverse entries)
 
@@ -46,7 +46,7 @@ StoresNext old new n e read taken = (s : Setup) (entries : List Entry) (numbers 
     taken ≡ taken_with s (reverse entries) e.process e.marks → IsStored old s entries numbers → IsStored new s (entries ++ e ∷ []) (numbers ++ n ∷ [])
 
 -- These entries were judged, and the good ones of them were stored.
-pub record HasObserved (o : RecordObserver) (s : Setup) (entries : List Entry) (numbers : List ℕ) : Type 0 where
+pub record HasObservedRecord (o : RecordStateObserver) (s : Setup) (entries : List Entry) (numbers : List ℕ) : Type 0 where
   pub setup : o.setup ≡ s
   pub counted : length numbers ≡ length entries
   pub judged : HasJudged o.judge s entries

@@ -3,7 +3,7 @@ use Rattle.std.specs.Prelude.{◌≡◌, ℕ, List, [], ◌∷◌, ◌++◌, cod
 use Rattle.plain_store.specs.{Setup, checked}
 use Rattle.model.specs.{AreGiven, Entry, Event, past_of}
 use Rattle.judge.specs.Ends.{TrialEnds}
-use Rattle.judge.specs.Firsts.{TellsFirsts}
+use Rattle.judge.specs.Firsts.{ReportsFirsts}
 use Rattle.judge.specs.Judgements.{status_of_verdict, verdict_line}
 use Rattle.judge.specs.ReasonLines.{number_line}
 use Rattle.judge.specs.auditor.{IsVerdict, Law, Verdict}
@@ -34,18 +34,18 @@ recorded_state s entries numbers = state_after (line_of_newest (reverse numbers)
 
 -- The state after these entries of a record, which are in the lines with these numbers. If one of them is bad, it is the state
 -- before the first bad entry, and the line of that entry follows.
-pub record TellsState (s : Setup) (entries : List Entry) (numbers told : List ℕ) (status : ℕ) : Type 0 where
+pub record ReportsState (s : Setup) (entries : List Entry) (numbers reported : List ℕ) (status : ℕ) : Type 0 where
   pub verdict : Verdict Law
   pub is : IsVerdict s entries verdict
-  pub state : told ≡ recorded_state s (good_ones verdict entries) (good_ones verdict numbers) ++ bad_line verdict
+  pub state : reported ≡ recorded_state s (good_ones verdict entries) (good_ones verdict numbers) ++ bad_line verdict
   pub answer : status ≡ status_of_verdict verdict
 
 -- How `state` ends on a record: with the state after the first n entries of the record in the whole input, or with its fault.
 abbrev pub StateEnds : ℕ → Result ℕ Fault → Streams → Streams → Type 0
-StateEnds n = TrialEnds (TellsFirsts (Some n) TellsState)
+StateEnds n = TrialEnds (ReportsFirsts (Some n) ReportsState)
 
 -- The record of each run has, after n entries, the state of the run after n events, except for the line of the newest one.
 abbrev pub RecordsHaveStatesOfRuns : Type 0
-RecordsHaveStatesOfRuns = (s : Setup) → checked s ≡ Ok tt → (events : List Event) → AreGiven s events → (n : ℕ) (numbers told : List ℕ) (status : ℕ) →
-    TellsFirsts (Some n) TellsState s (reverse (past_of s events)) numbers told status →
-    (told ≡ state_after (line_of_newest (reverse (take n numbers))) s (first_of n (past_of s events))) × (status ≡ 0)
+RecordsHaveStatesOfRuns = (s : Setup) → checked s ≡ Ok tt → (events : List Event) → AreGiven s events → (n : ℕ) (numbers reported : List ℕ) (status : ℕ) →
+    ReportsFirsts (Some n) ReportsState s (reverse (past_of s events)) numbers reported status →
+    (reported ≡ state_after (line_of_newest (reverse (take n numbers))) s (first_of n (past_of s events))) × (status ≡ 0)

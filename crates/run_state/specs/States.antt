@@ -5,10 +5,10 @@ use Rattle.plain_store.specs.{Setup}
 use Rattle.model.specs.{Access, Entry, Past}
 use Rattle.calls.specs.scenario.files.{FaultKind, LineFault, text_by}
 use Rattle.calls.specs.scenario.{Script, line_numbers, number_at, scenario_of}
-use Rattle.calls.specs.scenario_run.{Happening, IsMarked, Told, entry_made, happenings, past_after, run_at_start}
-use Rattle.calls.specs.world.process.{left_at, process_after}
+use Rattle.calls.specs.scenario_run.{Happening, IsMarked, TurnReport, entry_made, happenings, past_after, run_at_start}
+use Rattle.calls.specs.world.process.{remaining_at, process_after}
 use Rattle.run_state.specs.Processes.{count_line, newest_line}
-use Rattle.run_state.specs.Snapshots.{HasHeard, state_lines}
+use Rattle.run_state.specs.ObservedRuns.{HasObserved, state_lines}
 use Rattle.run_state.specs.Making.{making_line}
 use Rattle.calls.specs.Tables.{IsInTurn, past_with}
 use Rattle.run_state.specs.declared.observer.StateObserver.{StateObserver}
@@ -74,7 +74,7 @@ pub record IsNewestWithin (s : Setup) (p : ℕ) (past : Past) : Type 0 where
   pub access : Access
   pub before : Past
   pub is : past ≡ unmarked_entry p (Some access) ∷ before
-  pub within : 0 < left_at (process_after s before p)
+  pub within : 0 < remaining_at (process_after s before p)
 
 -- the entry of the newest event that was reported
 abbrev pub entry_reported : StateObserver → Option Entry
@@ -85,16 +85,16 @@ entry_reported observer = elim observer.stepped [
 
 -- These entries were observed. The newest was reported, or else it is a Step that has passed by since one was reported.
 pub record HasSeen (s : Setup) (past : Past) (observer : StateObserver) : Type 0 where
-  pub setup : observer.snapshot.setup ≡ s
-  pub heard : HasHeard observer.snapshot past
-  pub reported : observer.reported ≤ observer.snapshot.entries
-  pub newest_is : observer.reported ≡ observer.snapshot.entries → newest past ≡ entry_reported observer
-  pub passed : observer.reported < observer.snapshot.entries → IsNewestWithin s observer.process past
+  pub setup : observer.observed_run.setup ≡ s
+  pub observed : HasObserved observer.observed_run past
+  pub reported : observer.reported ≤ observer.observed_run.entries
+  pub newest_is : observer.reported ≡ observer.observed_run.entries → newest past ≡ entry_reported observer
+  pub passed : observer.reported < observer.observed_run.entries → IsNewestWithin s observer.process past
 
 -- all that has happened between two moments was observed
-abbrev pub Hears : StateObserver → Setup → List Happening → List Happening → StateObserver → Type 0
-Hears old s before after new = HasSeen s (past_after s before) old → HasSeen s (past_after s after) new
+abbrev pub Observes : StateObserver → Setup → List Happening → List Happening → StateObserver → Type 0
+Observes old s before after new = HasSeen s (past_after s before) old → HasSeen s (past_after s after) new
 
 -- a report is observed, after any past
-abbrev pub HearsTold : Told → StateObserver → StateObserver → Type 0
-HearsTold answer old new = (s : Setup) (past : Past) → IsInTurn s past answer → IsMarked answer → HasSeen s past old → HasSeen s (past_with past answer) new
+abbrev pub ObservesReported : TurnReport → StateObserver → StateObserver → Type 0
+ObservesReported answer old new = (s : Setup) (past : Past) → IsInTurn s past answer → IsMarked answer → HasSeen s past old → HasSeen s (past_with past answer) new

@@ -121,7 +121,7 @@ fn push_call(
         marks.door_end,
         text,
     )?;
-    push_span(alloc, process, "inside", marks.entered, marks.left, text)?;
+    push_span(alloc, process, "inside", marks.entered, marks.remaining, text)?;
     let taken = taken_words(alloc, history, marks.place, marks.taken)?;
     push_line_if(alloc, process, taken, text)?;
     let withdrew = withdrew_words(alloc, marks.withdrew)?;

@@ -7,7 +7,7 @@ ghost use Rattle.run_state.specs.Copies.{is_image};
 ghost use Rattle.run_state.specs.Doing.{access_in, awaited, chosen_words, cut_access, cut_open, doorway_ticket, failed_words, is_cut_open, open_by, opened_words, progress_words, read_word, reads_words, settles_words, so_far, ticket_at, ticket_words, torn_words, waiting_ticket, waits_at, waits_by, writes_words, written_word};
 
 use crate::kept::FinishedRead;
-use calls::world::{AccessProgress, BitSeen, Settling, TicketKnown};
+use calls::world::{AccessProgress, CopyState, Settling, KnownTicket};
 use calls::{Called, holds_up};
 use plain_store::NestedTypes;
 use model::{Access, Entry, Field, Move, Stage};
@@ -31,7 +31,7 @@ pub(crate) fn failed_words(
 pub(crate) fn ticket_at(
     alloc: Global,
     stage: Stage,
-    known: &Option<TicketKnown>,
+    known: &Option<KnownTicket>,
     called: &Called,
 ) -> Result<Option<String>, AllocError>
     ensures { IfOk result (λ words. option_map string_bytes words
@@ -45,13 +45,13 @@ pub(crate) fn ticket_at(
 }
 
 /// Returns the ticket of a process in its doorway, as far as it is known.
-fn doorway_ticket(alloc: Global, known: &Option<TicketKnown>) -> Result<Option<String>, AllocError>
+fn doorway_ticket(alloc: Global, known: &Option<KnownTicket>) -> Result<Option<String>, AllocError>
     ensures { IfOk result (λ words. option_map string_bytes words ≡ doorway_ticket known.now) }
 {
     match known {
         None => Ok(None),
-        Some(TicketKnown::Above(ticket)) => Ok(Some(format!(in alloc; "ticket above {ticket}")?)),
-        Some(TicketKnown::Is(ticket)) => Ok(Some(ticket_words(alloc, *ticket)?)),
+        Some(KnownTicket::Above(ticket)) => Ok(Some(format!(in alloc; "ticket above {ticket}")?)),
+        Some(KnownTicket::Is(ticket)) => Ok(Some(ticket_words(alloc, *ticket)?)),
     }
 }
 
@@ -251,7 +251,7 @@ pub(crate) fn opened_words(
     alloc: Global,
     process: u8,
     next: &Access,
-    seen: BitSeen,
+    seen: CopyState,
     torn: &Option<Settling>,
 ) -> Result<Option<String>, AllocError>
     ensures { IfOk result (λ words. option_map string_bytes words

@@ -5,7 +5,7 @@ ghost use Rattle.plain_store.specs.{checked};
 ghost use Rattle.model.specs.{is_failed};
 ghost use Rattle.run_state.specs.Keeping.{kept_marked, kept_stepped, nothing_kept, number_finished, opened};
 
-use calls::{CallStanding, Called, called_in, ends_number, number_after};
+use calls::{CallState, Called, called_in, ends_number, number_after};
 use plain_store::{NestedTypes, Setup};
 use model::{Access, Mark};
 
@@ -29,21 +29,21 @@ impl FinishedRead {
 
 /// The state of a process. Its last call stores no access except the first that the process makes itself.
 #[derive(Clone, Copy)]
-pub(crate) struct ProcessKept {
-    pub standing: CallStanding,
+pub(crate) struct ProcessSummary {
+    pub call_state: CallState,
     /// The number of the entry with which it failed last.
     pub failed: u64,
     /// The register read that it has finished last, unless an entry has had a mark since.
     pub read: Option<FinishedRead>,
 }
 
-impl ProcessKept {
+impl ProcessSummary {
     /// Creates the state of a process without an entry.
-    pub fn nothing(process: u8) -> ProcessKept
+    pub fn nothing(process: u8) -> ProcessSummary
         ensures { result ≡ nothing_kept process }
     {
-        ProcessKept {
-            standing: CallStanding::at_rest(process),
+        ProcessSummary {
+            call_state: CallState::at_rest(process),
             failed: 0,
             read: None,
         }
@@ -51,10 +51,10 @@ impl ProcessKept {
 
     /// Returns its call, if it has not ended.
     pub fn open_call(&self) -> Option<Called>
-        ensures { result ≡ cond self.now.standing.calling (Some self.now.standing.last) None }
+        ensures { result ≡ cond self.now.call_state.calling (Some self.now.call_state.last) None }
     {
-        if self.standing.calling {
-            Some(self.standing.last)
+        if self.call_state.calling {
+            Some(self.call_state.last)
         } else {
             None
         }
@@ -62,7 +62,7 @@ impl ProcessKept {
 
     /// Observes an entry with this number and these marks; `steps` is whether it has an access.
     pub fn mark(&mut self, number: u64, steps: bool, marks: &[Mark])
-        ensures { self.old.standing.last.call < 2 ^ 64 - 1
+        ensures { self.old.call_state.last.call < 2 ^ 64 - 1
             → self.new ≡ kept_marked number steps marks.now self.old }
     {
         let _nested: NestedTypes = None;
@@ -71,13 +71,13 @@ impl ProcessKept {
         }
         self.read = None;
         if let Some(command) = called_in(marks) {
-            self.standing.begin(number, &command);
+            self.call_state.begin(number, &command);
             return;
         }
         if steps {
             self.open(number);
         }
-        self.standing.mark_all(number, marks);
+        self.call_state.mark_all(number, marks);
     }
 
     /// Observes an entry with this number and this access and without a mark; `read` is what was read before of the number
@@ -99,9 +99,9 @@ impl ProcessKept {
     /// Adds the access of the entry with this number, which counts unless the process has failed in its call.
     #[inline]
     fn open(&mut self, number: u64)
-        ensures { self.new ≡ record self.old { standing = opened number self.old.standing } }
+        ensures { self.new ≡ record self.old { call_state = opened number self.old.call_state } }
     {
-        let last = &mut self.standing.last;
+        let last = &mut self.call_state.last;
         if last.accesses.doorway.is_none() && last.marks.failed.is_none() {
             last.accesses.doorway = Some(number);
         }

@@ -5,7 +5,7 @@
 //! crate re-exports the engines `calls`, and what finds the place of a fault in a file.
 //!
 //! ```rust
-//! snapshot.print(alloc, core, course.history(), &mut text)?;
+//! observed_run.print(alloc, core, scenario_run.history(), &mut text)?;
 //! ```
 #![tactic(auto)]
 
@@ -23,14 +23,14 @@ mod record_observing;
 mod record_stating;
 mod register_lines;
 mod register_text;
-mod snapshot;
+mod observed_run;
 mod stating;
 mod stores;
 
 pub use calls::{list_record, run_calls};
-pub use diagnostics::{FileKind, KeptFile, KeptInput, explanation};
+pub use diagnostics::{FileKind, StoredFile, TeeInput, explanation};
 pub use laws_of_lines::lines_make_events;
 pub use laws_of_records::records_have_states_of_runs;
 pub use record_stating::state_record;
-pub use snapshot::Snapshot;
+pub use observed_run::ObservedRun;
 pub use stating::{events_said, run_state};

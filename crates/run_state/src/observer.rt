@@ -2,15 +2,15 @@
 ghost use Rattle.std.specs.Prelude.{◌≡◌, ◌+◌, ◌-◌, ◌^◌, ◌<◌, ◌≤◌, ◌++◌, [], IfOk, Ok, OnOk, refl, false};
 ghost use Rattle.plain_store.specs.{checked};
 ghost use Rattle.calls.specs.scenario.files.declared.faults.Fault.TheVariants.{Memory};
-ghost use Rattle.calls.specs.scenario_run.{HearsUnmarked};
-ghost use Rattle.calls.specs.scenario_run.declared.told.Told.TheVariants.{Accepted as IsAccepted};
+ghost use Rattle.calls.specs.scenario_run.{ObservesUnmarked};
+ghost use Rattle.calls.specs.scenario_run.declared.reports.TurnReport.TheVariants.{Accepted as IsAccepted};
 ghost use Rattle.calls.specs.world.Cores.{InEachCorePast};
 ghost use Rattle.run_state.specs.Processes.{newest_line};
-ghost use Rattle.run_state.specs.States.{HasSeen, Hears, HearsTold, entry_reported, head_lines, newest as newest_of, unmarked_entry};
+ghost use Rattle.run_state.specs.States.{HasSeen, Observes, ObservesReported, entry_reported, head_lines, newest as newest_of, unmarked_entry};
 ghost use Rattle.calls.specs.Tables.{fewer};
 
-use crate::snapshot::Snapshot;
-use calls::scenario_run::{Accepted, Listener, Stepped, Told};
+use crate::observed_run::ObservedRun;
+use calls::scenario_run::{Accepted, RunObserver, UnmarkedStep, TurnReport};
 use calls::scenario::Fault;
 use calls::world::Core;
 use plain_store::{NestedTypes, Setup};
@@ -25,7 +25,7 @@ use std::alloc::{AllocError, Global};
 #[derive(Drop)]
 pub(crate) struct StateObserver {
     alloc: Global,
-    pub snapshot: Snapshot,
+    pub observed_run: ObservedRun,
     /// The newest event with marks, if there was one.
     marked: Option<Accepted>,
     /// The access of the newest event that was reported, if that was a Step without a mark.
@@ -42,12 +42,12 @@ impl StateObserver {
     pub fn new(alloc: Global, setup: &Setup) -> Result<StateObserver, AllocError>
         requires { checked setup.now ≡ Ok tt }
         ensures seen { IfOk result (HasSeen setup.now []) }
-        ensures entries { IfOk result (λ observer. observer.snapshot.entries ≡ 0) }
+        ensures entries { IfOk result (λ observer. observer.observed_run.entries ≡ 0) }
     {
-        let snapshot = Snapshot::new(alloc, setup)?;
+        let observed_run = ObservedRun::new(alloc, setup)?;
         Ok(StateObserver {
             alloc,
-            snapshot,
+            observed_run,
             marked: None,
             stepped: None,
             process: 0,
@@ -57,50 +57,50 @@ impl StateObserver {
 
     /// Observes what a turn reports, if it is an event.
     #[inline(never)]
-    fn hear_told(&mut self, told: &Told)
-        requires { self.old.snapshot.entries < 2 ^ 64 - 1 }
-        ensures entries { self.new.snapshot.entries ≤ self.old.snapshot.entries + 1 }
-        ensures heard { HearsTold told.now self.old self.new }
+    fn observe_reported(&mut self, reported: &TurnReport)
+        requires { self.old.observed_run.entries < 2 ^ 64 - 1 }
+        ensures entries { self.new.observed_run.entries ≤ self.old.observed_run.entries + 1 }
+        ensures observed { ObservesReported reported.now self.old self.new }
     {
         let _nested: NestedTypes = None;
-        match told {
-            Told::Accepted(made) => self.hear_event(*made),
-            Told::Refused { .. } => {}
-            Told::Tired(_) => {}
-            Told::Shown(_) => {}
+        match reported {
+            TurnReport::Accepted(made) => self.observe_event(*made),
+            TurnReport::Refused { .. } => {}
+            TurnReport::Tired(_) => {}
+            TurnReport::Shown(_) => {}
         }
     }
 
     /// Observes an event with marks. One without marks is reported as a Step.
-    fn hear_event(&mut self, made: Accepted)
-        requires { self.old.snapshot.entries < 2 ^ 64 - 1 }
-        ensures entries { self.new.snapshot.entries ≤ self.old.snapshot.entries + 1 }
-        ensures heard { HearsTold (IsAccepted made) self.old self.new }
+    fn observe_event(&mut self, made: Accepted)
+        requires { self.old.observed_run.entries < 2 ^ 64 - 1 }
+        ensures entries { self.new.observed_run.entries ≤ self.old.observed_run.entries + 1 }
+        ensures observed { ObservesReported (IsAccepted made) self.old self.new }
     {
         let _nested: NestedTypes = None;
         let marks = made.marks(self.alloc);
-        self.snapshot.hear(
+        self.observed_run.observe(
             made.event.process(),
             made.access.is_some(),
             marks.as_slice(),
         );
         self.marked = Some(made);
         self.stepped = None;
-        self.reported = self.snapshot.entries();
+        self.reported = self.observed_run.entries();
     }
 
     /// Observes a Step without a mark. One that is reported without a number ends no register read.
     #[inline(never)]
-    fn hear_step(&mut self, made: Stepped)
-        requires { self.old.snapshot.entries < 2 ^ 64 - 1 }
-        ensures entries { self.new.snapshot.entries ≡ self.old.snapshot.entries + 1 }
-        ensures heard { HearsUnmarked Hears made self.old self.new }
+    fn observe_step(&mut self, made: UnmarkedStep)
+        requires { self.old.observed_run.entries < 2 ^ 64 - 1 }
+        ensures entries { self.new.observed_run.entries ≡ self.old.observed_run.entries + 1 }
+        ensures observed { ObservesUnmarked Observes made self.old self.new }
     {
         let number = made.number.unwrap_or(0);
-        self.snapshot.step(made.process, &made.access, number);
+        self.observed_run.step(made.process, &made.access, number);
         self.stepped = Some(made.access);
         self.process = made.process;
-        self.reported = self.snapshot.entries();
+        self.reported = self.observed_run.entries();
     }
 
     /// Writes how many events there were and the entry of the newest one. The run's world keeps this core.
@@ -108,7 +108,7 @@ impl StateObserver {
         ensures { OnOk result (InEachCorePast core.now (λ s past. HasSeen s past self.now
             → text.new.items ≡ text.old.items ++ head_lines past)) }
     {
-        self.snapshot.print_count(self.alloc, text)?;
+        self.observed_run.print_count(self.alloc, text)?;
         self.print_entry(core, text)
     }
 
@@ -120,7 +120,7 @@ impl StateObserver {
         let _nested: NestedTypes = None;
         match self.newest_entry(core) {
             None => Ok(()),
-            Some(entry) => Snapshot::print_newest(self.alloc, &entry, text),
+            Some(entry) => ObservedRun::print_newest(self.alloc, &entry, text),
         }
     }
 
@@ -129,7 +129,7 @@ impl StateObserver {
         ensures { InEachCorePast core.now (λ s past. HasSeen s past self.now → result ≡ newest_of past) }
     {
         let _nested: NestedTypes = None;
-        if self.reported == self.snapshot.entries() {
+        if self.reported == self.observed_run.entries() {
             return self.reported_entry();
         }
         let access = core.last_access(self.process);
@@ -166,48 +166,48 @@ fn unmarked_entry(alloc: Global, process: u8, access: Option<Access>) -> Entry
 }
 
 /// Steps within a register access pass by.
-impl Listener for StateObserver {
-    ghost hears_steps = { λ _. false };
+impl RunObserver for StateObserver {
+    ghost observes_steps = { λ _. false };
 
     #[inline(always)]
-    fn hears_steps(&self) -> bool {
+    fn observes_steps(&self) -> bool {
         false
     }
 
     fn events(&self) -> u64 {
-        self.snapshot.entries()
+        self.observed_run.entries()
     }
 
-    ghost HasRoom = { λ observer more. observer.snapshot.entries + more < 2 ^ 64 };
+    ghost HasRoom = { λ observer more. observer.observed_run.entries + more < 2 ^ 64 };
 
-    ghost Hears = { Hears };
+    ghost Observes = { Observes };
 
     ghost Stops = { λ a s x y fault b. fault ≡ Memory };
 
-    fn hear(&mut self, told: &Told) -> Result<(), Fault> {
-        self.hear_told(told);
+    fn observe(&mut self, reported: &TurnReport) -> Result<(), Fault> {
+        self.observe_reported(reported);
         Ok(())
     }
 
     #[inline(always)]
-    fn step(&mut self, made: Stepped) -> Result<(), Fault> {
-        self.hear_step(made);
+    fn step(&mut self, made: UnmarkedStep) -> Result<(), Fault> {
+        self.observe_step(made);
         Ok(())
     }
 
     #[inline(always)]
     fn pass(&mut self, process: u8, steps: u32, _newest: Move, _overlapped: u32) {
-        self.snapshot.pass(steps);
+        self.observed_run.pass(steps);
         self.process = process;
     }
 
-    ghost room_less = { λ a n k few room. fewer a.snapshot.entries n k few room };
+    ghost room_less = { λ a n k few room. fewer a.observed_run.entries n k few room };
 
-    ghost hears_nothing = { λ a s x seen. seen };
+    ghost observes_nothing = { λ a s x seen. seen };
 
-    ghost hears_on = { λ a b c s x y z p q seen. q (p seen) };
+    ghost observes_on = { λ a b c s x y z p q seen. q (p seen) };
 
-    ghost stops_unheard = { λ a s x. refl };
+    ghost stops_unobserved = { λ a s x. refl };
 
     ghost stops_before = { λ a b s x y more fault p. p };
 

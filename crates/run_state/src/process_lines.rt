@@ -17,11 +17,11 @@ use crate::doing::{
     access_in, failed_words, opened_words, reads_words, settles_words, ticket_at, torn_words,
     waits_at, writes_words,
 };
-use crate::kept::ProcessKept;
+use crate::kept::ProcessSummary;
 use crate::next_lines::push_next;
 use crate::register_text::{bit_at, shown};
 use calls::world::laws::writes_leave_their_bits;
-use calls::world::{AccessProgress, Core, Settling, TicketKnown};
+use calls::world::{AccessProgress, Core, Settling, KnownTicket};
 use plain_store::{NestedTypes, Setup};
 use model::{Access, Entry, Stage, Taken};
 use std::alloc::{AllocError, Global};
@@ -35,7 +35,7 @@ pub(crate) struct ProcessLines<'a> {
     pub history: &'a [Taken],
     pub process: u8,
     pub stage: Stage,
-    pub kept: &'a ProcessKept,
+    pub kept: &'a ProcessSummary,
 }
 
 impl ProcessLines<'_> {
@@ -100,7 +100,7 @@ impl ProcessLines<'_> {
     }
 
     /// Writes its ticket, and for which process it waits.
-    fn push_ticket(&self, known: &Option<TicketKnown>, text: &mut Vec<u8>) -> Result<(), AllocError>
+    fn push_ticket(&self, known: &Option<KnownTicket>, text: &mut Vec<u8>) -> Result<(), AllocError>
         ensures { OnOk result (text.new.items ≡ text.old.items ++ ticket_lines self.now.process
             self.now.stage known.now self.now.kept.now.read (call_kept self.now.kept.now)) }
     {

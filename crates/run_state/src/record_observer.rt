@@ -1,7 +1,7 @@
 //! What an observer of the entries of a record stores.
 ghost use Rattle.std.specs.Prelude.{◌≡◌, ◌≤◌};
 
-use crate::snapshot::Snapshot;
+use crate::observed_run::ObservedRun;
 use judge::ThisLockJudge;
 use plain_store::Setup;
 use model::{Entry, Taken};
@@ -18,7 +18,7 @@ pub(crate) struct NewestEntry {
 /// What is stored of the good entries of a record. The memory grows with the commands taken, and not with the other entries.
 #[derive(Drop)]
 pub(crate) struct GoodEntries {
-    pub snapshot: Snapshot,
+    pub observed_run: ObservedRun,
     pub newest: Option<NewestEntry>,
     /// The commands taken.
     pub taken: Vec<Taken>,
@@ -26,12 +26,12 @@ pub(crate) struct GoodEntries {
 
 /// The state after the good ones among the entries of a record. Its core is that of the judge.
 #[derive(Drop)]
-pub(crate) struct RecordObserver {
+pub(crate) struct RecordStateObserver {
     pub alloc: Global,
     pub setup: Setup,
     pub judge: ThisLockJudge,
     pub good: GoodEntries,
     ghost core: { judge.auditor.core.setup ≡ setup },
-    ghost snapshot: { good.snapshot.setup ≡ setup },
-    ghost few: { good.snapshot.entries ≤ judge.entries },
+    ghost observed_run: { good.observed_run.setup ≡ setup },
+    ghost few: { good.observed_run.entries ≤ judge.entries },
 }

@@ -5,30 +5,30 @@ ghost use Rattle.plain_store.specs.declared.setups.Setup.{Setup as Given};
 ghost use Rattle.model.specs.{Entry as Noted, Past, Taken as Placed, history, reply_taken};
 ghost use Rattle.calls.specs.world.Cores.{InEachCorePast};
 ghost use Rattle.judge.specs.safe_monitor.{entry_by};
-ghost use Rattle.run_state.specs.Observing.{HasObserved, IsNext, StoresNext, newest_lines, taken_with};
-ghost use Rattle.run_state.specs.RecordStates.{TellsState, bad_line};
-ghost use Rattle.run_state.specs.Snapshots.{HasHeard};
+ghost use Rattle.run_state.specs.Observing.{HasObservedRecord, IsNext, StoresNext, newest_lines, taken_with};
+ghost use Rattle.run_state.specs.RecordStates.{ReportsState, bad_line};
+ghost use Rattle.run_state.specs.ObservedRuns.{HasObserved};
 ghost use Rattle.std.specs.Option.{option_to_list};
 
-use crate::record_observer::{GoodEntries, NewestEntry, RecordObserver};
-use crate::snapshot::Snapshot;
+use crate::record_observer::{GoodEntries, NewestEntry, RecordStateObserver};
+use crate::observed_run::ObservedRun;
 use judge::{
-    Audited, Hearer, RecordJudge, Telling, ThisLockJudge, Verdict, entry_of_parts, parts,
+    Audited, EntryObserver, RecordJudge, Reporting, ThisLockJudge, Verdict, entry_of_parts, parts,
     status_of, verdict_line,
 };
 use plain_store::{NestedTypes, Reply, Setup};
 use model::{Access, Entry, Mark, Taken};
 use std::alloc::{AllocError, Global};
 
-impl Hearer for RecordObserver {
-    ghost HasHeard = { HasObserved };
+impl EntryObserver for RecordStateObserver {
+    ghost HasObserved = { HasObservedRecord };
 
     ghost count = { λ o. o.judge.entries };
 
-    ghost Tells = { TellsState };
+    ghost Reports = { ReportsState };
 
-    fn begin(alloc: Global, setup: &Setup) -> Result<RecordObserver, AllocError> {
-        RecordObserver::new(alloc, setup)
+    fn begin(alloc: Global, setup: &Setup) -> Result<RecordStateObserver, AllocError> {
+        RecordStateObserver::new(alloc, setup)
     }
 
     fn take(
@@ -39,32 +39,32 @@ impl Hearer for RecordObserver {
         access: &Option<Access>,
         marks: &[Mark],
     ) -> Result<(), AllocError> {
-        self.observe(number, process, access, marks)
+        self.observe_parts(number, process, access, marks)
     }
 
     fn entries(&self) -> u64 {
         self.judge.entries()
     }
 
-    fn tell(&self, _alloc: Global) -> Result<Telling, AllocError> {
-        self.report()
+    fn report(&self, _alloc: Global) -> Result<Reporting, AllocError> {
+        self.report_state()
     }
 
     ghost counts = { λ o s noted numbers observed. observed.judged.count };
 }
 
-impl RecordObserver {
+impl RecordStateObserver {
     /// Creates an observer that has seen no entry of a record with this setup.
-    fn new(alloc: Global, setup: &Setup) -> Result<RecordObserver, AllocError>
+    fn new(alloc: Global, setup: &Setup) -> Result<RecordStateObserver, AllocError>
         requires { checked setup.now ≡ Ok tt }
-        ensures { IfOk result (λ observer. HasObserved observer setup.now [] []) }
+        ensures { IfOk result (λ observer. HasObservedRecord observer setup.now [] []) }
     {
-        Ok(RecordObserver {
+        Ok(RecordStateObserver {
             alloc,
             setup: *setup,
             judge: ThisLockJudge::begin(alloc, setup)?,
             good: GoodEntries {
-                snapshot: Snapshot::new(alloc, setup)?,
+                observed_run: ObservedRun::new(alloc, setup)?,
                 newest: None,
                 taken: Vec::new(alloc),
             },
@@ -72,7 +72,7 @@ impl RecordObserver {
     }
 
     /// Observes one more entry, by its parts, which is in line `line`.
-    fn observe(
+    fn observe_parts(
         &mut self,
         line: u64,
         process: u8,
@@ -81,12 +81,12 @@ impl RecordObserver {
     ) -> Result<(), AllocError>
         requires { self.old.judge.entries < 2 ^ 64 - 1 }
         ensures { OnOk result ((s : Given) (noted : List Noted) (numbers : List ℕ) →
-            HasObserved self.old s noted numbers →
-            HasObserved self.new s (noted ++ entry_by process access.now marks.now ∷ []) (numbers ++ line ∷ [])) }
+            HasObservedRecord self.old s noted numbers →
+            HasObservedRecord self.new s (noted ++ entry_by process access.now marks.now ∷ []) (numbers ++ line ∷ [])) }
     {
         let read = self.judge.core().number_read(process);
         let taken = self.taken_by(process, marks);
-        self.judge.observe(process, access, marks);
+        self.judge.observe_parts(process, access, marks);
         if !self.judge.is_good() {
             return Ok(());
         }
@@ -114,21 +114,21 @@ impl RecordObserver {
     }
 
     /// Returns the state, with the line of the bad entry if there is one, and the exit status.
-    fn report(&self) -> Result<Telling, AllocError>
-        ensures { IfOk result (λ telling. (s : Given) (noted : List Noted) (numbers : List ℕ) →
-            HasObserved self.now s noted numbers →
-            TellsState s noted numbers telling.text.items telling.status) }
+    fn report_state(&self) -> Result<Reporting, AllocError>
+        ensures { IfOk result (λ reporting. (s : Given) (noted : List Noted) (numbers : List ℕ) →
+            HasObservedRecord self.now s noted numbers →
+            ReportsState s noted numbers reporting.text.items reporting.status) }
     {
         let judged = self.judge.judged();
         let mut text = Vec::new(self.alloc);
-        self.good.snapshot.print_count(self.alloc, &mut text)?;
+        self.good.observed_run.print_count(self.alloc, &mut text)?;
         self.good.print_newest(self.alloc, &mut text)?;
         let history = self.good.taken.as_slice();
         self.good
-            .snapshot
+            .observed_run
             .print(self.alloc, self.judge.core(), history, &mut text)?;
         print_bad(self.alloc, &judged.verdict, &mut text)?;
-        Ok(Telling {
+        Ok(Reporting {
             text,
             status: status_of(&judged.verdict),
         })
@@ -144,13 +144,13 @@ impl GoodEntries {
         read: u32,
         taken: &Option<Taken>,
     ) -> Result<(), AllocError>
-        requires { self.old.snapshot.entries < 2 ^ 64 - 1 }
-        ensures setup { self.new.snapshot.setup ≡ self.old.snapshot.setup }
-        ensures entries { self.new.snapshot.entries ≡ self.old.snapshot.entries + 1 }
+        requires { self.old.observed_run.entries < 2 ^ 64 - 1 }
+        ensures setup { self.new.observed_run.setup ≡ self.old.observed_run.setup }
+        ensures entries { self.new.observed_run.entries ≡ self.old.observed_run.entries + 1 }
         ensures stores { OnOk result (StoresNext self.old self.new line entry read taken.now) }
     {
         let _nested: NestedTypes = None;
-        add_entry(&entry, read, &mut self.snapshot);
+        add_entry(&entry, read, &mut self.observed_run);
         push_taken(taken, &mut self.taken)?;
         self.newest = Some(NewestEntry { line, entry });
         Ok(())
@@ -164,7 +164,7 @@ impl GoodEntries {
         let Some(newest) = &self.newest else {
             return Ok(());
         };
-        Snapshot::print_newest(alloc, &newest.entry, text)?;
+        ObservedRun::print_newest(alloc, &newest.entry, text)?;
         let line = newest.line;
         let words = format!(in alloc; "line {line}\n")?;
         text.extend_from_slice(words.as_bytes())
@@ -172,18 +172,18 @@ impl GoodEntries {
 }
 
 /// Adds an entry to a snapshot. `read` is the number read before it.
-fn add_entry(entry: &Entry, read: u32, snapshot: &mut Snapshot)
-    requires { snapshot.old.entries < 2 ^ 64 - 1 }
-    ensures setup { snapshot.new.setup ≡ snapshot.old.setup }
-    ensures entries { snapshot.new.entries ≡ snapshot.old.entries + 1 }
-    ensures heard { (past : Past) → IsNext snapshot.old.setup past entry.now read →
-        HasHeard snapshot.old past → HasHeard snapshot.new (entry.now ∷ past) }
+fn add_entry(entry: &Entry, read: u32, observed_run: &mut ObservedRun)
+    requires { observed_run.old.entries < 2 ^ 64 - 1 }
+    ensures setup { observed_run.new.setup ≡ observed_run.old.setup }
+    ensures entries { observed_run.new.entries ≡ observed_run.old.entries + 1 }
+    ensures observed { (past : Past) → IsNext observed_run.old.setup past entry.now read →
+        HasObserved observed_run.old past → HasObserved observed_run.new (entry.now ∷ past) }
 {
     let _nested: NestedTypes = None;
     let (process, access, marks) = parts(entry);
     match access {
-        Some(access) if marks.is_empty() => snapshot.step(process, access, read),
-        _ => snapshot.hear(process, access.is_some(), marks),
+        Some(access) if marks.is_empty() => observed_run.step(process, access, read),
+        _ => observed_run.observe(process, access.is_some(), marks),
     }
 }
 

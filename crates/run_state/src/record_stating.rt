@@ -3,7 +3,7 @@ ghost use Rattle.std.specs.Prelude.{◌-◌, ◌^◌, ◌<◌};
 ghost use Rattle.judge.specs.files.{streams};
 ghost use Rattle.run_state.specs.RecordStates.{StateEnds};
 
-use crate::record_observer::RecordObserver;
+use crate::record_observer::RecordStateObserver;
 use judge::{Fault, Sink, Source, run_trial};
 use std::alloc::Global;
 
@@ -29,5 +29,5 @@ pub fn state_record<R: Source, W: Sink>(
         (streams ⟦<R as Source>⟧ ⟦<W as Sink>⟧ input.old output.old)
         (streams ⟦<R as Source>⟧ ⟦<W as Sink>⟧ input.new output.new) }
 {
-    run_trial::<RecordObserver, R, W>(alloc, Some(entries), input, output)
+    run_trial::<RecordStateObserver, R, W>(alloc, Some(entries), input, output)
 }

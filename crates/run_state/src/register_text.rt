@@ -9,7 +9,7 @@ ghost use Rattle.run_state.specs.Knowing.{CoreShows};
 ghost use Rattle.run_state.specs.Copies.{bit_at, image_text, shown};
 
 use crate::stores::push_store;
-use calls::world::{BitCopy, BitSeen, Core, Image};
+use calls::world::{BitCopy, CopyState, Core, Image};
 use plain_store::Setup;
 use model::{Access, Field, image_bytes, width_of};
 use safe_number::number_of;
@@ -70,7 +70,7 @@ fn number_text(alloc: Global, number: u64) -> Result<Vec<u8>, AllocError>
 }
 
 /// Returns the state of the copy of a bit to which an access is made, if there is one.
-pub(crate) fn bit_at(core: &Core, setup: &Setup, access: &Access) -> BitSeen
+pub(crate) fn bit_at(core: &Core, setup: &Setup, access: &Access) -> CopyState
     requires good { checked setup.now ≡ Ok tt }
     requires setup { core.now.setup ≡ setup.now }
     ensures { (past : Past) → CoreShows core.now past → IsThere setup.now access.now
@@ -80,11 +80,11 @@ pub(crate) fn bit_at(core: &Core, setup: &Setup, access: &Access) -> BitSeen
         && access.reader < setup.processes
         && access.bit < width_of(access.field, setup);
     if !there {
-        return BitSeen {
+        return CopyState {
             value: false,
             writing: false,
             touched: false,
         };
     }
-    core.bit_seen(BitCopy::of(access))
+    core.copy_state(BitCopy::of(access))
 }

@@ -8,10 +8,10 @@ ghost use Rattle.run_state.specs.Making.{WritesMade};
 ghost use Rattle.run_state.specs.States.{HasSeen, events_said as said_by, state_text, stated};
 
 use crate::observer::StateObserver;
-use calls::scenario_run::{Course, LineMade, Until};
+use calls::scenario_run::{ScenarioRun, LineMade, PlayLimit};
 use calls::scenario::operands::number;
 use calls::scenario::{Fault, Scenario, Sink, Source, read_input, read_scenario, write_all};
-use diagnostics::progress::Onlooker;
+use diagnostics::progress::ProgressObserver;
 use plain_store::NestedTypes;
 use std::alloc::{AllocError, Global};
 
@@ -31,19 +31,19 @@ pub fn events_said(word: &str) -> Option<u64>
 
 /// Reads a whole scenario file, makes the first `events` events of its run, or all if there are fewer, and then writes the
 /// state. It takes at most `INPUT_LIMIT` bytes from the start of the input, even if it fails. It reports its progress to the
-/// onlooker; `Nobody` ignores the reports.
+/// onlooker; `NoObserver` ignores the reports.
 ///
 /// # Errors
 ///
 /// Returns [`Fault::Read`] or [`Fault::Memory`] if the file cannot be read, [`Fault::Line`] for its first fault, and
 /// [`Fault::Memory`] if an allocation fails later; nothing is written then. Returns [`Fault::Write`] if the output fails; a
 /// prefix of the text may be written then.
-pub fn run_state<R: Source, W: Sink, L: Onlooker>(
+pub fn run_state<R: Source, W: Sink, L: ProgressObserver>(
     alloc: Global,
     events: u64,
     input: &mut R,
     output: &mut W,
-    onlooker: &mut L,
+    progress_observer: &mut L,
 ) -> Result<(), Fault>
     requires reads { R.failures input.old < 2 ^ 64 - 1 }
     requires writes { W.failures output.old < 2 ^ 64 - 1 }
@@ -54,58 +54,58 @@ pub fn run_state<R: Source, W: Sink, L: Onlooker>(
 {
     let file = read_input(alloc, input)?;
     let scenario = read_scenario(alloc, file.as_slice())?;
-    let text = state_text(alloc, events, &scenario, onlooker)?;
+    let text = state_text(alloc, events, &scenario, progress_observer)?;
     write_all(output, text.as_slice())
 }
 
 /// Returns the state after the first `events` events of a scenario's run.
-fn state_text<L: Onlooker>(
+fn state_text<L: ProgressObserver>(
     alloc: Global,
     events: u64,
     scenario: &Scenario,
-    onlooker: &mut L,
+    progress_observer: &mut L,
 ) -> Result<Vec<u8>, AllocError>
     ensures { IfOk result (λ text.
         text.items ≡ stated events scenario.now.numbers.items (script scenario.now)) }
 {
-    let mut course = Course::new(alloc, &scenario.setup)?;
+    let mut scenario_run = ScenarioRun::new(alloc, &scenario.setup)?;
     let mut observer = StateObserver::new(alloc, &scenario.setup)?;
     played_text(
         alloc,
         events,
         scenario,
-        &mut course,
+        &mut scenario_run,
         &mut observer,
-        onlooker,
+        progress_observer,
     )
 }
 
 /// Plays the first events of a scenario's run on a new course, and returns the state after them. It is a function of its
 /// own because values that are dropped at each return of a function are costly to prove.
-fn played_text<L: Onlooker>(
+fn played_text<L: ProgressObserver>(
     alloc: Global,
     events: u64,
     scenario: &Scenario,
-    course: &mut Course,
+    scenario_run: &mut ScenarioRun,
     observer: &mut StateObserver,
-    onlooker: &mut L,
+    progress_observer: &mut L,
 ) -> Result<Vec<u8>, AllocError>
-    requires course { Follows course.old run_at_start }
-    requires setup { course.old.world.setup ≡ scenario.now.setup }
+    requires scenario_run { Follows scenario_run.old run_at_start }
+    requires setup { scenario_run.old.world.setup ≡ scenario.now.setup }
     requires seen { HasSeen scenario.now.setup [] observer.old }
     ensures { IfOk result (λ text.
         text.items ≡ stated events scenario.now.numbers.items (script scenario.now)) }
 {
-    let until = Until::Event(events);
-    let Ok(newest) = course.play_all(scenario, until, observer, onlooker) else {
+    let until = PlayLimit::Event(events);
+    let Ok(newest) = scenario_run.play_all(scenario, until, observer, progress_observer) else {
         return Err(AllocError);
     };
-    let core = course.core();
-    let snapshot = &observer.snapshot;
+    let core = scenario_run.core();
+    let observed_run = &observer.observed_run;
     let mut text = Vec::new(alloc);
     observer.print_head(core, &mut text)?;
-    push_made(alloc, scenario, newest, snapshot.entries(), &mut text)?;
-    snapshot.print(alloc, core, course.history(), &mut text)?;
+    push_made(alloc, scenario, newest, observed_run.entries(), &mut text)?;
+    observed_run.print(alloc, core, scenario_run.history(), &mut text)?;
     Ok(text)
 }
 

@@ -5,7 +5,7 @@ use Rattle.model.specs.safe_bit.declared.Move.TheVariants.{BeginWrite, EndWrite,
 use Rattle.model.specs.{Access, Entry, Past, begins_read, moves_of, opening_bit}
 use Rattle.plain_store.specs.{Setup}
 use Rattle.safe_monitor.specs.{KeepsSafe, MatchBool, ReadEnd, ending_of}
-use Rattle.safe_monitor.specs.declared.look.ReadEnd.TheVariants.{Free, Writing, Bound}
+use Rattle.safe_monitor.specs.declared.monitored_bit.ReadEnd.TheVariants.{Free, Writing, Bound}
 
 -- while a write is open, the read that began last is overlapped
 pub open_overlaps : (moves : List Move) → is_write_open moves ≡ true → (begins_read moves && not (is_overlapped moves)) ≡ false

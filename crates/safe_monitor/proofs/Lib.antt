@@ -1,6 +1,6 @@
 pub use Rattle.laws.proofs as laws
 pub mod Calm
-pub mod Hears
+pub mod Observes
 pub mod Opened
 pub mod Openings
 pub mod OwnPlaces

@@ -19,9 +19,9 @@ MatchBool true P Q = P
 MatchBool false P Q = Q
 
 -- the result is whether this holds
-abbrev pub Tells : Bool → Type 0 → Type 0
-Tells told P = MatchBool told P (P → ⊥)
+abbrev pub Reports : Bool → Type 0 → Type 0
+Reports reported P = MatchBool reported P (P → ⊥)
 
 -- the result is whether an entry keeps the law
-abbrev pub TellsSafe : Bool → Setup → Past → Entry → Type 0
-TellsSafe told s past e = Tells told (KeepsSafe s past e)
+abbrev pub ReportsSafe : Bool → Setup → Past → Entry → Type 0
+ReportsSafe reported s past e = Reports reported (KeepsSafe s past e)

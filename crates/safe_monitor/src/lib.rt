@@ -3,14 +3,14 @@
 #![tactic(auto)]
 
 mod by_parts;
-mod look;
+mod monitored_bit;
 mod packed;
 mod places;
 mod shown;
 mod verdicts;
-mod watch;
+mod monitor;
 
 pub use by_parts::parts;
 pub use shown::NamedLaw;
 pub use verdicts::{Audited, Law, Verdict};
-pub use watch::Watch;
+pub use monitor::SafeMonitor;

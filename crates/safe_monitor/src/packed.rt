@@ -1,9 +1,9 @@
 //! Looks, each in four bits.
 ghost use Rattle.std.specs.Prelude.{◌≡◌, ℕ, ◌<◌, ◌%◌, length, replicate, slice_index_or, slice_set, IfOk, [], false};
-ghost use Rattle.safe_monitor.specs.Looks.{look_of};
-ghost use Rattle.safe_monitor.specs.Packing.{ending_from, four_bits, look_from};
+ghost use Rattle.safe_monitor.specs.MonitoredBits.{monitored_after};
+ghost use Rattle.safe_monitor.specs.Packing.{ending_from, four_bits, monitored_from};
 
-use crate::look::{Look, ReadEnd};
+use crate::monitored_bit::{MonitoredBit, ReadEnd};
 use std::alloc::{AllocError, Global};
 use std::marker::Model;
 
@@ -35,11 +35,11 @@ impl ReadEnd {
     }
 }
 
-impl Look {
+impl MonitoredBit {
     /// Returns the number of this look, below 16.
     #[inline]
     fn code(self) -> u8
-        ensures same { look_from result ≡ self }
+        ensures same { monitored_from result ≡ self }
         ensures most { result < 16 }
     {
         u8::from(self.begun) + 2 * u8::from(self.written) + 4 * self.ending.code()
@@ -47,10 +47,10 @@ impl Look {
 
     /// Returns the look with this number.
     #[inline]
-    fn from_code(code: u8) -> Look
-        ensures { result ≡ look_from code }
+    fn from_code(code: u8) -> MonitoredBit
+        ensures { result ≡ monitored_from code }
     {
-        Look {
+        MonitoredBit {
             begun: code % 2 == 1,
             written: code / 2 % 2 == 1,
             ending: ReadEnd::from_code(code / 4),
@@ -82,34 +82,34 @@ fn with_four_bits(byte: u8, k: usize, code: u8) -> u8
 
 /// A list of looks, two in a byte.
 #[derive(Drop)]
-pub(crate) struct Looks {
+pub(crate) struct MonitoredBits {
     bytes: Vec<u8>,
     len: usize,
 }
 
-impl Model for Looks {
+impl Model for MonitoredBits {
     ghost use Rattle.std.specs.Prelude.{◌≡◌, List, ◌+◌, ◌/◌, length};
-    ghost use Rattle.safe_monitor.specs.declared.look.Look.{Look as Seen};
-    ghost use Rattle.safe_monitor.specs.Packing.{looks_of};
+    ghost use Rattle.safe_monitor.specs.declared.monitored_bit.MonitoredBit.{MonitoredBit as Seen};
+    ghost use Rattle.safe_monitor.specs.Packing.{monitored_bits_of};
 
     ghost Value = { List Seen };
 
-    ghost view = { λ l. looks_of l.bytes.items l.len };
+    ghost view = { λ l. monitored_bits_of l.bytes.items l.len };
 
     ghost invariant = { λ l. length l.bytes.items ≡ (l.len + 1) / 2 };
 }
 
-impl Looks {
+impl MonitoredBits {
     /// Creates the looks of `len` bits that are initially 0.
     ///
     /// # Errors
     ///
     /// Returns [`AllocError`] if memory runs out.
-    pub fn new(alloc: Global, len: usize) -> Result<Looks, AllocError>
-        ensures { IfOk result (λ looks. looks ≡ replicate len (look_of false [])) }
+    pub fn new(alloc: Global, len: usize) -> Result<MonitoredBits, AllocError>
+        ensures { IfOk result (λ monitored_bits. monitored_bits ≡ replicate len (monitored_after false [])) }
     {
         let bytes = vec![in alloc; 0u8; len.div_ceil(2)]?;
-        Ok(Looks { bytes, len })
+        Ok(MonitoredBits { bytes, len })
     }
 
     /// Copies the looks.
@@ -117,12 +117,12 @@ impl Looks {
     /// # Errors
     ///
     /// Returns [`AllocError`] if memory runs out.
-    pub fn twin(&self, alloc: Global) -> Result<Looks, AllocError>
-        ensures { IfOk result (λ looks. looks ≡ self.now) }
+    pub fn twin(&self, alloc: Global) -> Result<MonitoredBits, AllocError>
+        ensures { IfOk result (λ monitored_bits. monitored_bits ≡ self.now) }
     {
         let mut bytes = Vec::new(alloc);
         bytes.extend_from_slice(self.bytes.as_slice())?;
-        Ok(Looks {
+        Ok(MonitoredBits {
             bytes,
             len: self.len,
         })
@@ -138,19 +138,19 @@ impl Looks {
 
     /// Returns look `k`.
     #[inline]
-    pub fn get(&self, k: usize) -> Look
+    pub fn get(&self, k: usize) -> MonitoredBit
         requires { k < length self.now }
-        ensures { result ≡ slice_index_or self.now k (look_of false []) }
+        ensures { result ≡ slice_index_or self.now k (monitored_after false []) }
     {
-        Look::from_code(four_bits(self.bytes[k / 2], k))
+        MonitoredBit::from_code(four_bits(self.bytes[k / 2], k))
     }
 
     /// Replaces look `k`.
     #[inline]
-    pub fn set(&mut self, k: usize, look: Look)
+    pub fn set(&mut self, k: usize, monitored_bit: MonitoredBit)
         requires { k < length self.old }
-        ensures { self.new ≡ slice_set self.old k look }
+        ensures { self.new ≡ slice_set self.old k monitored_bit }
     {
-        self.bytes[k / 2] = with_four_bits(self.bytes[k / 2], k, look.code());
+        self.bytes[k / 2] = with_four_bits(self.bytes[k / 2], k, monitored_bit.code());
     }
 }

@@ -2,7 +2,7 @@
 ghost use Rattle.std.specs.Prelude.{◌≡◌, ◌↔◌, ◌≤◌, ◌<◌, IsTrue, Ok};
 ghost use Rattle.plain_store.specs.{checked};
 ghost use Rattle.laws.specs.{IsThere};
-ghost use Rattle.safe_monitor.specs.Watching.{copy_of, register_of};
+ghost use Rattle.safe_monitor.specs.Monitoring.{copy_of, register_of};
 
 use plain_store::Setup;
 use model::{Access, number_of_field, width_of};

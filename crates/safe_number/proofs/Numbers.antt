@@ -68,8 +68,8 @@ pub bit_in-take : (bytes : List ℕ) (n k : ℕ) → k / 8 < n → bit_in (take 
 bit_in-take bytes n k h = ap (λ x. bit_at x (k % 8) == 1) (get_or-take n bytes (k / 8) 0 h)
 
 -- the bytes of a read have the bits that were read, and 0 after them
-pub bits-told : (bytes : List ℕ) (bit n : ℕ) → bit ≤ 8 * n → n ≤ length bytes → ((k : ℕ) → bit ≤ k → k / 8 < n → bit_in bytes k ≡ false) → (k : ℕ) → bit_in (take n bytes) k ≡ get_or (bits_in bytes bit) k false
-bits-told bytes bit n fits room rest k = elim (cases_lt k bit) [
+pub bits-reported : (bytes : List ℕ) (bit n : ℕ) → bit ≤ 8 * n → n ≤ length bytes → ((k : ℕ) → bit ≤ k → k / 8 < n → bit_in bytes k ≡ false) → (k : ℕ) → bit_in (take n bytes) k ≡ get_or (bits_in bytes bit) k false
+bits-reported bytes bit n fits room rest k = elim (cases_lt k bit) [
   | inl read ↦ bit_in-take bytes n k (omega arith) ∙ sym (get-bits bytes bit k read)
   | inr unread ↦
       elim (cases_lt (k / 8) n) [

@@ -39,9 +39,9 @@ abbrev pub rest_of_number_write : ℕ → List ℕ → NumberWrite → List (ℕ
 rest_of_number_write n value w = rest_of_bits n value w (w.width - w.bit)
 
 -- the next k accesses of a write
-abbrev pub told_by_write : ℕ → ℕ → List ℕ → NumberWrite → List (ℕ × Made)
-told_by_write zero n value w = []
-told_by_write (suc k) n value w = next_of_write value w ∷ told_by_write k n value (number_write_after n value w)
+abbrev pub reported_by_write : ℕ → ℕ → List ℕ → NumberWrite → List (ℕ × Made)
+reported_by_write zero n value w = []
+reported_by_write (suc k) n value w = next_of_write value w ∷ reported_by_write k n value (number_write_after n value w)
 
 -- the write after them
 abbrev pub write_after_steps : ℕ → ℕ → List ℕ → NumberWrite → NumberWrite
@@ -53,9 +53,9 @@ abbrev pub made_by_read : ℕ → NumberRead → List (ℕ × Made)
 made_by_read reader r = number_reads reader r.bits ++ (if r.begun then at_bit (length r.bits) (record { reader = reader; how = BeginRead }) ∷ [] else [])
 
 -- the next accesses of a read, one for each value that is handed in
-abbrev pub told_by_read : ℕ → NumberRead → List Bool → List (ℕ × Made)
-told_by_read reader r [] = []
-told_by_read reader r (v ∷ values) = next_of_read reader r v ∷ told_by_read reader (number_read_after r v) values
+abbrev pub reported_by_read : ℕ → NumberRead → List Bool → List (ℕ × Made)
+reported_by_read reader r [] = []
+reported_by_read reader r (v ∷ values) = next_of_read reader r v ∷ reported_by_read reader (number_read_after r v) values
 
 -- the read after them
 abbrev pub read_after_steps : NumberRead → List Bool → NumberRead

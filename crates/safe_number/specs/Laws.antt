@@ -3,7 +3,7 @@ use Rattle.std.specs.Prelude.{◌≡◌, ◌≢◌, ℕ, ◌*◌, ◌^◌, ◌<�
 use Rattle.std.specs.Int.{bit_at}
 use Rattle.reader_copies.specs.safe_bit.Cell.{Cell}
 use Rattle.reader_copies.specs.{CanMake, HasCell, IsRow, IsWritten, Settling, cell_at, cut_values, next_read, next_settle, next_write, row_after, settle_after, settled_at, with_cell, with_value}
-use Rattle.safe_number.specs.Accesses.{number_writes, number_reads, rest_of_number_write, told_by_write, write_after_steps, made_by_read, told_by_read, read_after_steps}
+use Rattle.safe_number.specs.Accesses.{number_writes, number_reads, rest_of_number_write, reported_by_write, write_after_steps, made_by_read, reported_by_read, read_after_steps}
 use Rattle.safe_number.specs.Bytes.{bit_in, bits_in, little_endian, AreBytes, IsBytesOf, number_of_bits, bits_of_number}
 use Rattle.safe_number.specs.Intervals.{Moment, WriteState, write_interval, IsWriteInterval, SettleState, settle_interval, IsSettleInterval, first_given, ReadState, read_interval, IsUndisturbedInterval}
 use Rattle.safe_number.specs.Runs.{NumberWrite, NumberRead, bit_write, bit_read, next_of_write, number_write_after, next_of_read, number_read_after, new_write, new_read, torn_bit, preset_number}
@@ -69,7 +69,7 @@ CutWriteIsSettled = (row : List (List Cell)) (old : ℕ → Bool) (value : List 
 
 -- a whole write makes exactly its 2 * n * width accesses, and is then done
 abbrev pub WholeWrite : Type 0
-WholeWrite = (n : ℕ) (value : List ℕ) (width : ℕ) → 0 < n → (told_by_write (2 * n * width) n value (new_write width) ≡ number_writes n (bits_in value width)) × ((write_after_steps (2 * n * width) n value (new_write width)).bit ≡ (write_after_steps (2 * n * width) n value (new_write width)).width)
+WholeWrite = (n : ℕ) (value : List ℕ) (width : ℕ) → 0 < n → (reported_by_write (2 * n * width) n value (new_write width) ≡ number_writes n (bits_in value width)) × ((write_after_steps (2 * n * width) n value (new_write width)).bit ≡ (write_after_steps (2 * n * width) n value (new_write width)).width)
 
 -- a whole write with n copies has 2 * n accesses for each bit
 abbrev pub WriteCount : Type 0
@@ -89,7 +89,7 @@ RestOfDoneWrite = (n : ℕ) (value : List ℕ) (w : NumberWrite) → w.bit ≡ w
 
 -- a whole read makes exactly its 2 * width accesses, gives as many bits as the register has, and is then done
 abbrev pub WholeRead : Type 0
-WholeRead = (reader width room : ℕ) (values : List Bool) → length values ≡ 2 * width → let r : NumberRead = read_after_steps (new_read width room) values in (told_by_read reader (new_read width room) values ≡ number_reads reader r.bits) × (length r.bits ≡ width) × (r.begun ≡ false)
+WholeRead = (reader width room : ℕ) (values : List Bool) → length values ≡ 2 * width → let r : NumberRead = read_after_steps (new_read width room) values in (reported_by_read reader (new_read width room) values ≡ number_reads reader r.bits) × (length r.bits ≡ width) × (r.begun ≡ false)
 
 -- the next access of a read comes after those that it has made
 abbrev pub NextOfRead : Type 0

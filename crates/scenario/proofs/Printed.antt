@@ -44,10 +44,10 @@ setup_lines_are kind s = sym (
     ∙ ap (λ t. codes "stamps " ++ (decimal s.stamp_bits ++ (codes "\n" ++ t))) (two_words (codes "slots") (decimal s.slots) [])))))
 
 -- a text and the pairs from a position on, one pair later
-pub opening_more : (told : List ℕ) (pairs : List Pair) (k : ℕ) (p : Pair) → slice_get pairs k ≡ Some p → (told ++ printed_line (open_words p)) ++ flat_map printed_line (map open_words (drop (k + 1) pairs)) ≡ told ++ flat_map printed_line (map open_words (drop k pairs))
-opening_more told pairs k p at = append_assoc told _ _ ∙ ap (λ ps. told ++ flat_map printed_line (map open_words ps)) (sym (drop-next pairs k p at))
+pub opening_more : (reported : List ℕ) (pairs : List Pair) (k : ℕ) (p : Pair) → slice_get pairs k ≡ Some p → (reported ++ printed_line (open_words p)) ++ flat_map printed_line (map open_words (drop (k + 1) pairs)) ≡ reported ++ flat_map printed_line (map open_words (drop k pairs))
+opening_more reported pairs k p at = append_assoc reported _ _ ∙ ap (λ ps. reported ++ flat_map printed_line (map open_words ps)) (sym (drop-next pairs k p at))
 
 -- a text and the lines from a position on, one line later
-pub lines_more : (told : List ℕ) (lines : List Line) (k : ℕ) (here : Line) → k < length lines → here ≡ get_or lines k here → (told ++ printed_line (line_words here)) ++ flat_map printed_line (map line_words (drop (k + 1) lines)) ≡ told ++ flat_map printed_line (map line_words (drop k lines))
-lines_more told lines k here within is =
-    append_assoc told _ _ ∙ ap (λ ls. told ++ flat_map printed_line (map line_words ls)) (sym (drop_in lines k here within is))
+pub lines_more : (reported : List ℕ) (lines : List Line) (k : ℕ) (here : Line) → k < length lines → here ≡ get_or lines k here → (reported ++ printed_line (line_words here)) ++ flat_map printed_line (map line_words (drop (k + 1) lines)) ≡ reported ++ flat_map printed_line (map line_words (drop k lines))
+lines_more reported lines k here within is =
+    append_assoc reported _ _ ∙ ap (λ ls. reported ++ flat_map printed_line (map line_words ls)) (sym (drop_in lines k here within is))

@@ -12,13 +12,13 @@ many_from n zero = refl
 many_from n (suc k) = ap suc (many_from (n + 1) k)
 
 -- one more number, and the remaining numbers
-pub count_more : (made now : List ℕ) (n left less : ℕ) → now ≡ made ++ n ∷ [] → left ≡ suc less → now ++ numbers_from (n + 1) less ≡ made ++ numbers_from n left
-count_more made now n left less is one =
+pub count_more : (made now : List ℕ) (n remaining less : ℕ) → now ≡ made ++ n ∷ [] → remaining ≡ suc less → now ++ numbers_from (n + 1) less ≡ made ++ numbers_from n remaining
+count_more made now n remaining less is one =
     ap (λ ns. ns ++ numbers_from (n + 1) less) is ∙ append_assoc made (n ∷ []) (numbers_from (n + 1) less) ∙ ap (λ k. made ++ numbers_from n k) (sym one)
 
 -- no number remains
-pub count_ended : (made : List ℕ) (n left : ℕ) → left ≡ 0 → made ++ numbers_from n left ≡ made
-count_ended made n left none = ap (λ k. made ++ numbers_from n k) none ∙ append-nil made
+pub count_ended : (made : List ℕ) (n remaining : ℕ) → remaining ≡ 0 → made ++ numbers_from n remaining ≡ made
+count_ended made n remaining none = ap (λ k. made ++ numbers_from n k) none ∙ append-nil made
 
 -- without the first j
 without_first : (j n k m : ℕ) → m ≡ j + k → drop j (numbers_from n m) ≡ numbers_from (n + j) k

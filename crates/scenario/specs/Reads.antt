@@ -1,7 +1,7 @@
 -- The result of reading a scenario file, compared with that of the grammar.
 use Rattle.std.specs.Prelude.{◌≡◌, ◌≤◌, ℕ, List, length, Option, Some, Result, Ok, Err}
 use Rattle.std.specs.Io.KnownBytes.{IsAtEnd}
-use Rattle.files.specs.{LineFault, ReadsInput, TellsAtLimit, UnlessMemory, input_limit}
+use Rattle.files.specs.{LineFault, ReadsInput, ReportsAtLimit, UnlessMemory, input_limit}
 use Rattle.scenario.specs.Printing.{scenario_text}
 use Rattle.scenario.specs.Reading.{Script, scenario_of}
 use Rattle.scenario.specs.declared.scenarios.Scenario.{Scenario}
@@ -25,7 +25,7 @@ Gives (Err fault) said = UnlessMemory fault.kind (said ≡ Err fault)
 
 -- A text at the limit, or longer, has the fault of its beginning.
 abbrev pub CutTextsHaveTheFault : Type 0
-CutTextsHaveTheFault = (text : List ℕ) → input_limit ≤ length text → TellsAtLimit scenario_of text
+CutTextsHaveTheFault = (text : List ℕ) → input_limit ≤ length text → ReportsAtLimit scenario_of text
 
 -- The bytes that were read of an input have the result of the whole input.
 abbrev pub ReadTextsSayTheSame : Type 0

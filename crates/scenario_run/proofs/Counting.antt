@@ -2,23 +2,23 @@
 use Rattle.std.proofs.Common.{◌≡◌, ℕ, zero, suc, ◌+◌, List, ◌∷◌, ◌++◌, length, Some, refl, ap, sym, subst, ◌∙◌, arith, add-zero, append-nil}
 use Rattle.plain_store.specs.{Setup}
 use Rattle.model.specs.declared.events.Event.TheVariants.{Step}
-use Rattle.scenario_run.specs.{Happening, Happens, PassQuietly, Stepped, StepsOn, Summary, Told, Tries, counted, past_after, refusals, text_of, told_text}
+use Rattle.scenario_run.specs.{Happening, Happens, PassQuietly, UnmarkedStep, StepsOn, Summary, TurnReport, Tries, counted, past_after, refusals, text_of, reported_text}
 use Rattle.scenario_run.specs.Writing.{Counts}
-use Rattle.scenario_run.proofs.Tellings.{Quietly, counts_more, quiet_counts, told_is}
+use Rattle.scenario_run.proofs.Reportings.{Quietly, counts_more, quiet_counts, reported_is}
 
 -- a summary with n events more
 abbrev pub with_events : ℕ → Summary → Summary
 with_events n summary = record summary { events = summary.events + n }
 
 -- a report is counted
-pub counts_heard : (s : Setup) (before : List Happening) (this : Happening) (told : Told) (had has : Summary) → Happens s before this told → has ≡ counted told had → Counts s before had → Counts s (this ∷ before) has
-counts_heard s before this told had has h is counts =
-    let more = counts_more s before this told had h.tells counts.events counts.refused in
+pub counts_observed : (s : Setup) (before : List Happening) (this : Happening) (reported : TurnReport) (had has : Summary) → Happens s before this reported → has ≡ counted reported had → Counts s before had → Counts s (this ∷ before) has
+counts_observed s before this reported had has h is counts =
+    let more = counts_more s before this reported had h.reports counts.events counts.refused in
     subst (λ (n : Summary). Counts s (this ∷ before) n) (sym is) (record { events = more.0; refused = more.1 })
 
 -- the text of a report is that of what happens
-pub text_heard : (s : Setup) (before : List Happening) (this : Happening) (told : Told) (had : Summary) → Happens s before this told → Counts s before had → text_of s (this ∷ before) ≡ text_of s before ++ told_text had.events told
-text_heard s before this told had h counts = ap (λ l. text_of s before ++ l) (sym (ap (λ n. told_text n told) counts.events ∙ told_is s (past_after s before) this told h.tells))
+pub text_observed : (s : Setup) (before : List Happening) (this : Happening) (reported : TurnReport) (had : Summary) → Happens s before this reported → Counts s before had → text_of s (this ∷ before) ≡ text_of s before ++ reported_text had.events reported
+text_observed s before this reported had h counts = ap (λ l. text_of s before ++ l) (sym (ap (λ n. reported_text n reported) counts.events ∙ reported_is s (past_after s before) this reported h.reports))
 
 -- events without a mark are counted, and have no text
 pub counts_passed : (s : Setup) (n : ℕ) (before after : List Happening) (summary : Summary) → PassQuietly s n before after → Counts s before summary → Counts s after (with_events n summary)
@@ -40,8 +40,8 @@ text_passed s (suc n) before after (this, quiet, more) =
     text_passed s n (this ∷ before) after more ∙ ap (λ l. text_of s before ++ l) q.text ∙ append-nil (text_of s before)
 
 -- a Step without a mark is one of them
-pub step_passes : (s : Setup) (before : List Happening) (made : Stepped) → StepsOn s before made → PassQuietly s 1 before (Tries (Step made.process made.flick) ∷ before)
+pub step_passes : (s : Setup) (before : List Happening) (made : UnmarkedStep) → StepsOn s before made → PassQuietly s 1 before (Tries (Step made.process made.flick) ∷ before)
 step_passes s before made on = (Tries (Step made.process made.flick), (Some made.access, on.adds), refl)
 
-pub counts_stepped : (s : Setup) (before : List Happening) (made : Stepped) (summary : Summary) → StepsOn s before made → Counts s before summary → Counts s (Tries (Step made.process made.flick) ∷ before) (with_events 1 summary)
+pub counts_stepped : (s : Setup) (before : List Happening) (made : UnmarkedStep) (summary : Summary) → StepsOn s before made → Counts s before summary → Counts s (Tries (Step made.process made.flick) ∷ before) (with_events 1 summary)
 counts_stepped s before made summary on counts = counts_passed s 1 before (Tries (Step made.process made.flick) ∷ before) summary (step_passes s before made on) counts

@@ -6,8 +6,8 @@ use Rattle.plain_store.specs.{Setup, checked}
 use Rattle.model.specs.{Entry, Past, entry_of}
 use Rattle.scenario.specs.{Line}
 use Rattle.scenario.specs.files.{Fault}
-use Rattle.scenario_run.specs.{CourseState, Follows, Happening, IsFront, IsLineMade, IsPart, Lacks, LineMade, Looks, MadeNewest, Plays, PlaysPart, Run, StopsLine, Tires, Tries, Until, events_in, events_to, part_of_line, past_after, rest_of, run_after, runs, turns_in}
-use Rattle.scenario_run.specs.declared.until.Until.TheVariants.{End, Event}
+use Rattle.scenario_run.specs.{ScenarioRunState, Follows, Happening, IsFront, IsLineMade, IsPart, Lacks, LineMade, Looks, MadeNewest, Plays, PlaysPart, Run, StopsLine, Tires, Tries, PlayLimit, events_in, events_to, part_of_line, past_after, rest_of, run_after, runs, turns_in}
+use Rattle.scenario_run.specs.declared.play_limit.PlayLimit.TheVariants.{End, Event}
 use Rattle.scenario_run.proofs.EventsMade.{FrontMade, all_made, front_made, none_made}
 use Rattle.scenario_run.proofs.Grows.{Grows, line_grows, lines_grow}
 use Rattle.scenario_run.proofs.Played.{good_of}
@@ -52,12 +52,12 @@ events_more s now whole more is =
 -- A part of a run.
 
 -- if events are still to be made, all of the lines so far were played
-all_so_far : (s : Setup) (until : Until) (start now whole : Run) (made : ℕ) → events_in s now ≡ events_in s start + made → 0 < events_to until made → IsPart s until start now whole → now ≡ whole
+all_so_far : (s : Setup) (until : PlayLimit) (start now whole : Run) (made : ℕ) → events_in s now ≡ events_in s start + made → 0 < events_to until made → IsPart s until start now whole → now ≡ whole
 all_so_far s End start now whole made events more part = part
 all_so_far s (Event n) start now whole made events more part = elim part.ends [ inl many ↦ absurd (omega (arith, many, events, more)) | inr all ↦ sym all ]
 
 -- one more line is played
-part_on : (s : Setup) → checked s ≡ Ok tt → (until : Until) (line : Line) (start now whole : Run) (made : ℕ) → turns_in line < 2 ^ 32 → events_in s now ≡ events_in s start + made → IsPart s until start now whole →
+part_on : (s : Setup) → checked s ≡ Ok tt → (until : PlayLimit) (line : Line) (start now whole : Run) (made : ℕ) → turns_in line < 2 ^ 32 → events_in s now ≡ events_in s start + made → IsPart s until start now whole →
     IsPart s until start (part_of_line s (events_to until made) line now) (run_after s line whole)
 part_on s good End line start now whole made few events part =
     all_made s good line (2 ^ 64 - 1) (turns_in line) now (omega (arith, few)) (omega arith) ∙ rest_whole s line now ∙ ap (run_after s line) part
@@ -99,7 +99,7 @@ newest_same s lines start now now' (Some line) same made =
     record { before = made.before; line = made.line; after = made.after; is = made.is; index = made.index; events = made.events; fewer = omega (arith, fewer, same); enough = omega (arith, enough, same) }
 
 -- a line that makes events
-newest_new : (s : Setup) → checked s ≡ Ok tt → (until : Until) (lines : List Line) (start now : Run) (made k : ℕ) (line : Line) (more : ℕ) → k < length lines → drop k lines ≡ line ∷ drop (k + 1) lines → events_in s now ≡ events_in s start + made → IsPart s until start now (runs s (take k lines) start) →
+newest_new : (s : Setup) → checked s ≡ Ok tt → (until : PlayLimit) (lines : List Line) (start now : Run) (made k : ℕ) (line : Line) (more : ℕ) → k < length lines → drop k lines ≡ line ∷ drop (k + 1) lines → events_in s now ≡ events_in s start + made → IsPart s until start now (runs s (take k lines) start) →
     events_in s (part_of_line s (events_to until made) line now) ≡ events_in s now + more → 0 < more → IsLineMade s lines start (part_of_line s (events_to until made) line now) (record { line = k; before = made })
 newest_new s good until lines start now made k line more within next events part longer some =
     let most : ℕ = events_to until made in
@@ -123,60 +123,60 @@ newest_new s good until lines start now made k line more within next events part
 -- Lines.
 
 -- the first k lines were played: the run now, what was observed, the number of events made, and the line that made the newest
-pub record PlayedTo {L : Type 0} (Hears : L → Setup → List Happening → List Happening → L → Type 0) (s : Setup) (lines : List Line) (until : Until) (k : ℕ) (start : Run) (course : CourseState) (was is : L) (made : ℕ) (newest : Option LineMade) : Type 0 where
+pub record PlayedTo {L : Type 0} (Observes : L → Setup → List Happening → List Happening → L → Type 0) (s : Setup) (lines : List Line) (until : PlayLimit) (k : ℕ) (start : Run) (scenario_run : ScenarioRunState) (was is : L) (made : ℕ) (newest : Option LineMade) : Type 0 where
   pub now : Run
-  pub plays : Plays Hears s start now course was is
+  pub plays : Plays Observes s start now scenario_run was is
   pub part : IsPart s until start now (runs s (take k lines) start)
   pub events : events_in s now ≡ events_in s start + made
   pub newest_made : MadeNewest s lines start now newest
 
-module _ {L : Type 0} (Hears : L → Setup → List Happening → List Happening → L → Type 0) (s : Setup) (lines : List Line) (until : Until) (start : Run) (was : L) where
+module _ {L : Type 0} (Observes : L → Setup → List Happening → List Happening → L → Type 0) (s : Setup) (lines : List Line) (until : PlayLimit) (start : Run) (was : L) where
   -- before the first
-  pub lines_start : (course : CourseState) → ((a : L) (s : Setup) (x : List Happening) → Hears a s x x a) → course.world.setup ≡ s → Follows course start → PlayedTo Hears s lines until 0 start course was was 0 None
-  lines_start course nothing setup follows = record {
+  pub lines_start : (scenario_run : ScenarioRunState) → ((a : L) (s : Setup) (x : List Happening) → Observes a s x x a) → scenario_run.world.setup ≡ s → Follows scenario_run start → PlayedTo Observes s lines until 0 start scenario_run was was 0 None
+  lines_start scenario_run nothing setup follows = record {
     now = start;
-    plays = record { follows = record { shows = follows.shows; flicks = follows.flicks }; setup = setup; hears = nothing was s start.happened };
+    plays = record { follows = record { shows = follows.shows; flicks = follows.flicks }; setup = setup; observes = nothing was s start.happened };
     part = by until;
     events = omega arith;
     newest_made = refl;
   }
     where
-      by : (until : Until) → IsPart s until start start start
+      by : (until : PlayLimit) → IsPart s until start start start
       by End = refl
       by (Event n) = record { more = []; is = refl; most = omega arith; ends = inr refl }
 
   -- after the last
-  pub lines_ended : (k : ℕ) (course : CourseState) (is : L) (made : ℕ) (newest : Option LineMade) → length lines ≤ k → PlayedTo Hears s lines until k start course was is made newest → PlaysPart Hears s lines until start course was is newest
-  lines_ended k course is made newest last u = record {
+  pub lines_ended : (k : ℕ) (scenario_run : ScenarioRunState) (is : L) (made : ℕ) (newest : Option LineMade) → length lines ≤ k → PlayedTo Observes s lines until k start scenario_run was is made newest → PlaysPart Observes s lines until start scenario_run was is newest
+  lines_ended k scenario_run is made newest last u = record {
     now = u.now;
-    plays = record { follows = u.plays.follows; setup = u.plays.setup; hears = u.plays.hears };
+    plays = record { follows = u.plays.follows; setup = u.plays.setup; observes = u.plays.observes };
     part = subst (λ l. IsPart s until start u.now (runs s l start)) (take_all k lines last) u.part;
     newest_made = u.newest_made;
   }
 
-  module _ (k : ℕ) (line : Line) (course : CourseState) (is is' : L) (made : ℕ) (newest : Option LineMade) (within : k < length lines) (next : drop k lines ≡ line ∷ drop (k + 1) lines) (u : PlayedTo Hears s lines until k start course was is made newest) where
+  module _ (k : ℕ) (line : Line) (scenario_run : ScenarioRunState) (is is' : L) (made : ℕ) (newest : Option LineMade) (within : k < length lines) (next : drop k lines ≡ line ∷ drop (k + 1) lines) (u : PlayedTo Observes s lines until k start scenario_run was is made newest) where
     good : checked s ≡ Ok tt
-    good = (good_of s course u.now u.plays.setup u.plays.follows).0
+    good = (good_of s scenario_run u.now u.plays.setup u.plays.follows).0
 
     -- the first k + 1 lines are the first k lines and the next one
     one_more : runs s (take (k + 1) lines) start ≡ run_after s line (runs s (take k lines) start)
     one_more = let same : k + 1 ≡ suc k = omega arith in ap (λ n. runs s (take n lines) start) same ∙ ap (λ l. runs s l start) (take_next lines k line (drop (k + 1) lines) next) ∙ runs_both s (take k lines) (line ∷ []) start
 
     -- one more line, which was observed: if it makes events, it made the newest
-    pub lines_on : (course' : CourseState) (more : ℕ) (newest' : Option LineMade) → ((a b c : L) (s : Setup) (x y z : List Happening) → Hears a s x y b → Hears b s y z c → Hears a s x z c) → turns_in line < 2 ^ 32 →
-        ((run : Run) → Follows course run → Plays Hears course.world.setup run (part_of_line course.world.setup (events_to until made) line run) course' is is') →
-        ((run : Run) → Follows course run → events_in course.world.setup (part_of_line course.world.setup (events_to until made) line run) ≡ events_in course.world.setup run + more) →
+    pub lines_on : (scenario_run' : ScenarioRunState) (more : ℕ) (newest' : Option LineMade) → ((a b c : L) (s : Setup) (x y z : List Happening) → Observes a s x y b → Observes b s y z c → Observes a s x z c) → turns_in line < 2 ^ 32 →
+        ((run : Run) → Follows scenario_run run → Plays Observes scenario_run.world.setup run (part_of_line scenario_run.world.setup (events_to until made) line run) scenario_run' is is') →
+        ((run : Run) → Follows scenario_run run → events_in scenario_run.world.setup (part_of_line scenario_run.world.setup (events_to until made) line run) ≡ events_in scenario_run.world.setup run + more) →
         ((0 < more) × (newest' ≡ Some (record { line = k; before = made }))) ⊎ ((more ≡ 0) × (newest' ≡ newest)) →
-        PlayedTo Hears s lines until (k + 1) start course' was is' (made + more) newest'
-    lines_on course' more newest' hears_on few plays counts made_by =
+        PlayedTo Observes s lines until (k + 1) start scenario_run' was is' (made + more) newest'
+    lines_on scenario_run' more newest' observes_on few plays counts made_by =
         let most : ℕ = events_to until made in
         let after : Run = part_of_line s most line u.now in
-        let p : Plays Hears s u.now after course' is is' = subst (λ s. Plays Hears s u.now (part_of_line s most line u.now) course' is is') u.plays.setup (plays u.now u.plays.follows) in
+        let p : Plays Observes s u.now after scenario_run' is is' = subst (λ s. Plays Observes s u.now (part_of_line s most line u.now) scenario_run' is is') u.plays.setup (plays u.now u.plays.follows) in
         let count : events_in s after ≡ events_in s u.now + more = subst (λ s. events_in s (part_of_line s most line u.now) ≡ events_in s u.now + more) u.plays.setup (counts u.now u.plays.follows) in
         let events = u.events in
         record {
           now = after;
-          plays = record { follows = p.follows; setup = p.setup; hears = hears_on was is is' s start.happened u.now.happened after.happened u.plays.hears p.hears };
+          plays = record { follows = p.follows; setup = p.setup; observes = observes_on was is is' s start.happened u.now.happened after.happened u.plays.observes p.observes };
           part = subst (λ (whole : Run). IsPart s until start after whole) (sym one_more) (part_on s good until line start u.now (runs s (take k lines) start) made few u.events u.part);
           events = omega (arith, count, events);
           newest_made = elim made_by [
@@ -187,7 +187,7 @@ module _ {L : Type 0} (Hears : L → Setup → List Happening → List Happening
 
     -- a fault in the next line
     pub lines_cut : (Stops : L → Setup → List Happening → List Happening → Fault → L → Type 0) (fault : Fault) → ((a b : L) (s : Setup) (x y more : List Happening) (fault : Fault) → Stops a s x y fault b → Stops a s x (more ++ y) fault b) →
-        ((a b c : L) (s : Setup) (x y z : List Happening) (fault : Fault) → Hears a s x y b → Stops b s y z fault c → Stops a s x z fault c) → StopsLine Stops course line is is' fault → 0 < events_to until made → Stops was s start.happened (runs s lines start).happened fault is'
+        ((a b c : L) (s : Setup) (x y z : List Happening) (fault : Fault) → Observes a s x y b → Stops b s y z fault c → Stops a s x z fault c) → StopsLine Stops scenario_run line is is' fault → 0 < events_to until made → Stops was s start.happened (runs s lines start).happened fault is'
     lines_cut Stops fault stops_before stops_on cut some =
         let after : Run = run_after s line u.now in
         let rest : List Line = drop (k + 1) lines in
@@ -198,16 +198,16 @@ module _ {L : Type 0} (Hears : L → Setup → List Happening → List Happening
         ∙ ap (λ r. runs s rest (run_after s line r)) (sym (all_so_far s until start u.now (runs s (take k lines) start) made u.events some u.part)) in
         let all : (runs s lines start).happened ≡ grows.more ++ after.happened = ap (λ (r : Run). r.happened) whole ∙ grows.is in
         subst (λ l. Stops was s start.happened l fault is') (sym all)
-        (stops_on was is is' s start.happened u.now.happened (grows.more ++ after.happened) fault u.plays.hears (stops_before is is' s u.now.happened after.happened grows.more fault torn))
+        (stops_on was is is' s start.happened u.now.happened (grows.more ++ after.happened) fault u.plays.observes (stops_before is is' s u.now.happened after.happened grows.more fault torn))
 
 -- lines that are played to the end
-pub plays_whole : {L : Type 0} (Hears : L → Setup → List Happening → List Happening → L → Type 0) (s : Setup) (lines : List Line) (until : Until) (start : Run) (course : CourseState) (was is : L) (newest : Option LineMade) → until ≡ End → PlaysPart Hears s lines until start course was is newest → Plays Hears s start (runs s lines start) course was is
-plays_whole Hears s lines until start course was is newest end u =
+pub plays_whole : {L : Type 0} (Observes : L → Setup → List Happening → List Happening → L → Type 0) (s : Setup) (lines : List Line) (until : PlayLimit) (start : Run) (scenario_run : ScenarioRunState) (was is : L) (newest : Option LineMade) → until ≡ End → PlaysPart Observes s lines until start scenario_run was is newest → Plays Observes s start (runs s lines start) scenario_run was is
+plays_whole Observes s lines until start scenario_run was is newest end u =
     let part : u.now ≡ runs s lines start = subst (λ until. IsPart s until start u.now (runs s lines start)) end u.part in
-    subst (λ (r : Run). Plays Hears s start r course was is) part u.plays
+    subst (λ (r : Run). Plays Observes s start r scenario_run was is) part u.plays
 
 -- if a line may make all its turns, its part is the whole line
-pub line_whole : {L : Type 0} (Hears : L → Setup → List Happening → List Happening → L → Type 0) (s : Setup) (l : Line) (most : ℕ) (run : Run) (course : CourseState) (was is : L) → turns_in l ≤ most → Plays Hears s run (part_of_line s most l run) course was is → Plays Hears s run (run_after s l run) course was is
-line_whole Hears s l most run course was is all plays =
-    let good : checked s ≡ Ok tt = (good_of s course (part_of_line s most l run) plays.setup plays.follows).0 in
-    subst (λ (r : Run). Plays Hears s run r course was is) (all_made s good l most (turns_in l) run all (omega arith) ∙ rest_whole s l run) plays
+pub line_whole : {L : Type 0} (Observes : L → Setup → List Happening → List Happening → L → Type 0) (s : Setup) (l : Line) (most : ℕ) (run : Run) (scenario_run : ScenarioRunState) (was is : L) → turns_in l ≤ most → Plays Observes s run (part_of_line s most l run) scenario_run was is → Plays Observes s run (run_after s l run) scenario_run was is
+line_whole Observes s l most run scenario_run was is all plays =
+    let good : checked s ≡ Ok tt = (good_of s scenario_run (part_of_line s most l run) plays.setup plays.follows).0 in
+    subst (λ (r : Run). Plays Observes s run r scenario_run was is) (all_made s good l most (turns_in l) run all (omega arith) ∙ rest_whole s l run) plays

@@ -4,7 +4,7 @@ use Rattle.plain_store.specs.{Setup}
 use Rattle.model.specs.{stage}
 use Rattle.scenario.specs.{Line, Target}
 use Rattle.scenario.specs.declared.lines.Line.TheVariants as line
-use Rattle.scenario_run.specs.{Happening, Lacks, Run, Tires, go_rest, goes, is_there, may_step, movers, once, past_in, picked, rest_of, run_after, runs, stepped, steps, wanders, with_happening}
+use Rattle.scenario_run.specs.{Happening, Lacks, Run, Tires, go_rest, goes, is_there, may_step, enabled, once, past_in, picked, rest_of, run_after, runs, stepped, steps, wanders, with_happening}
 
 -- the later happenings are the earlier ones, and more
 pub record Grows (before after : List Happening) : Type 0 where
@@ -53,36 +53,36 @@ goes_grow s p target (suc n) run = by (is_there target (stage p (past_in s run))
 
 wanders_grow : (s : Setup) (n : ℕ) (run : Run) → Grows run.happened (wanders s n run).happened
 wanders_grow s zero run = grows_none run.happened
-wanders_grow s (suc n) run = by (movers s (past_in s run)) (λ ps. wanders_grow s n (picked ps run))
+wanders_grow s (suc n) run = by (enabled s (past_in s run)) (λ ps. wanders_grow s n (picked ps run))
   where
     by : (ps : List ℕ) → ((qs : List ℕ) → Grows (picked qs run).happened (wanders s n (picked qs run)).happened) →
         Grows run.happened (elim ps as (λ _. Run) [ [] ↦ run | p ∷ ps ↦ wanders s n (picked (p ∷ ps) run) ]).happened
     by [] more = grows_none run.happened
     by (p ∷ ps) more = grows_both run.happened (picked (p ∷ ps) run).happened (wanders s n (picked (p ∷ ps) run)).happened (grows_one run.happened _) (more (p ∷ ps))
 
-once_grows : (s : Setup) (left : ℕ) (run after : Run) → Grows run.happened after.happened → Grows run.happened (once left run after).happened
+once_grows : (s : Setup) (remaining : ℕ) (run after : Run) → Grows run.happened after.happened → Grows run.happened (once remaining run after).happened
 once_grows s zero run after grows = grows_none run.happened
-once_grows s (suc left) run after grows = grows
+once_grows s (suc remaining) run after grows = grows
 
-go_grows : (s : Setup) (p : ℕ) (target : Target) (left : ℕ) (run : Run) → Grows run.happened (go_rest s p target left run).happened
+go_grows : (s : Setup) (p : ℕ) (target : Target) (remaining : ℕ) (run : Run) → Grows run.happened (go_rest s p target remaining run).happened
 go_grows s p target zero run = grows_none run.happened
-go_grows s p target (suc left) run = by (nat_lt p s.processes)
+go_grows s p target (suc remaining) run = by (nat_lt p s.processes)
   where
-    by : (b : Bool) → Grows run.happened (elim b as (λ _. Run) [ true ↦ goes s p target left run | false ↦ with_happening (Lacks p) run ]).happened
-    by true = goes_grow s p target left run
+    by : (b : Bool) → Grows run.happened (elim b as (λ _. Run) [ true ↦ goes s p target remaining run | false ↦ with_happening (Lacks p) run ]).happened
+    by true = goes_grow s p target remaining run
     by false = grows_one run.happened (Lacks p)
 
 -- the turns that are left of a line
-pub rest_grows : (s : Setup) (line : Line) (left : ℕ) (run : Run) → Grows run.happened (rest_of s line left run).happened
-rest_grows s (line.Call p command) left run = once_grows s left run (run_after s (line.Call p command) run) (grows_one run.happened _)
-rest_grows s (line.Step p n) left run = steps_grow s p left run
-rest_grows s (line.Go p target) left run = go_grows s p target left run
-rest_grows s (line.Fail p) left run = once_grows s left run (run_after s (line.Fail p) run) (grows_one run.happened _)
-rest_grows s (line.Withdraw p) left run = once_grows s left run (run_after s (line.Withdraw p) run) (grows_one run.happened _)
-rest_grows s (line.Restart p) left run = once_grows s left run (run_after s (line.Restart p) run) (grows_one run.happened _)
-rest_grows s (line.Flick flick) left run = once_grows s left run (run_after s (line.Flick flick) run) (grows_none run.happened)
-rest_grows s (line.Wander n) left run = wanders_grow s left run
-rest_grows s line.Show left run = once_grows s left run (run_after s line.Show run) (grows_one run.happened _)
+pub rest_grows : (s : Setup) (line : Line) (remaining : ℕ) (run : Run) → Grows run.happened (rest_of s line remaining run).happened
+rest_grows s (line.Call p command) remaining run = once_grows s remaining run (run_after s (line.Call p command) run) (grows_one run.happened _)
+rest_grows s (line.Step p n) remaining run = steps_grow s p remaining run
+rest_grows s (line.Go p target) remaining run = go_grows s p target remaining run
+rest_grows s (line.Fail p) remaining run = once_grows s remaining run (run_after s (line.Fail p) run) (grows_one run.happened _)
+rest_grows s (line.Withdraw p) remaining run = once_grows s remaining run (run_after s (line.Withdraw p) run) (grows_one run.happened _)
+rest_grows s (line.Restart p) remaining run = once_grows s remaining run (run_after s (line.Restart p) run) (grows_one run.happened _)
+rest_grows s (line.Flick flick) remaining run = once_grows s remaining run (run_after s (line.Flick flick) run) (grows_none run.happened)
+rest_grows s (line.Wander n) remaining run = wanders_grow s remaining run
+rest_grows s line.Show remaining run = once_grows s remaining run (run_after s line.Show run) (grows_one run.happened _)
 
 -- a whole line, and a list of lines
 pub line_grows : (s : Setup) (line : Line) (run : Run) → Grows run.happened (run_after s line run).happened

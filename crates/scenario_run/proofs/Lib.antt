@@ -4,13 +4,13 @@ pub use Rattle.auditor.proofs.safe_monitor as safe_monitor
 pub use Rattle.model.proofs as model
 -- The turns of a line
 pub mod TurnLaw
-pub mod CourseTurns
-pub mod StepsTold
+pub mod ScenarioRunTurns
+pub mod StepsReported
 pub mod Within
 pub mod Runnings
 pub mod Goes
 pub mod Alone
-pub mod Movers
+pub mod Enabled
 pub mod Wanders
 pub mod Counted
 pub mod Lone
@@ -20,10 +20,10 @@ pub mod Refusals
 pub mod InTurn
 -- The happenings of a run, and their text
 pub mod Grows
-pub mod Tellings
+pub mod Reportings
 pub mod Images
 -- The audit of a run
-pub mod Listeners
+pub mod Observers
 -- A run from line to line, up to its end
 pub mod Underways
 pub mod Played

@@ -8,9 +8,9 @@ use Rattle.scenario.specs.declared.lines.Line.TheVariants as line
 use Rattle.world.specs.choices.{FlickState, Mode, after_flick, after_pick, flick_of, is_constant, pick_of, picks_after}
 use Rattle.world.specs.choices.Flicks.{after_flick_by, flick_by, is_constant_by}
 use Rattle.world.specs.choices.declared.Mode.TheVariants.{Constant, Generator}
-use Rattle.scenario_run.specs.{ComesAlong, ComesOn, ComesTo, CourseState, Follows, Happening, IsAlone, IsQuiet, QuietTurns, Run, RunsTo, Tells, Told, Tries, Turn, course, made_turn, may_step, movers, next_step, past_in, step_turn, stepped, tried, turn_of, wander_turn}
+use Rattle.scenario_run.specs.{ComesAlong, ComesOn, ComesTo, ScenarioRunState, Follows, Happening, IsAlone, IsQuiet, QuietTurns, Run, RunsTo, Reports, TurnReport, Tries, Turn, scenario_run, made_turn, may_step, enabled, next_step, past_in, step_turn, stepped, tried, turn_of, wander_turn}
 use Rattle.scenario_run.proofs.Runnings.{comes_down, drawn_run}
-use Rattle.scenario_run.proofs.Movers.{MaySteps, movers_quiet, pick_steps}
+use Rattle.scenario_run.proofs.Enabled.{MaySteps, enabled_quiet, pick_steps}
 use Rattle.scenario_run.proofs.Wanders.{ArePicked}
 
 -- Constant flicks.
@@ -48,106 +48,106 @@ pick_one p f =
     ap (slice_index (p ∷ [])) none
 
 -- the Step of the only process that can make one is not refused
-lone_may : (s : Setup) (p : ℕ) (run : Run) → movers s (past_in s run) ≡ p ∷ [] → MaySteps p s run.happened
+lone_may : (s : Setup) (p : ℕ) (run : Run) → enabled s (past_in s run) ≡ p ∷ [] → MaySteps p s run.happened
 lone_may s p run are = subst (λ q. MaySteps q s run.happened) (pick_one p run.flicks) (pick_steps s run (p ∷ []) are (omega arith))
 
-lone_step : (s : Setup) (p left : ℕ) (run : Run) → movers s (past_in s run) ≡ p ∷ [] → step_turn s p left run ≡ made_turn p left run
-lone_step s p left run are =
+lone_step : (s : Setup) (p remaining : ℕ) (run : Run) → enabled s (past_in s run) ≡ p ∷ [] → step_turn s p remaining run ≡ made_turn p remaining run
+lone_step s p remaining run are =
     let may : may_step s p run ≡ true = ap is_none (lone_may s p run are (flick_of run.flicks)) in
-    ap (λ b. made_turn p (elim b as (λ _. ℕ) [ true ↦ left | false ↦ 0 ]) run) may
+    ap (λ b. made_turn p (elim b as (λ _. ℕ) [ true ↦ remaining | false ↦ 0 ]) run) may
 
 -- the turn that picks the process makes the Step that it would make in a line of its Steps
 abbrev lone_made : ℕ → ℕ → Run → FlickState → Turn
-lone_made p left run source = record { this = Some (Tries (next_step p run)); left = left; run = drawn_run (stepped p run) (after_pick source) }
+lone_made p remaining run source = record { this = Some (Tries (next_step p run)); remaining = remaining; run = drawn_run (stepped p run) (after_pick source) }
 
-lone_turn : (s : Setup) (n p left : ℕ) (bit : Bool) (run : Run) (source : FlickState) → run.flicks.mode ≡ Constant bit → source.mode ≡ Constant bit → movers s (past_in s run) ≡ p ∷ [] →
-    turn_of s (line.Wander n) (suc left) (drawn_run run source) ≡ lone_made p left run source
-lone_turn s n p left bit run source here there are =
+lone_turn : (s : Setup) (n p remaining : ℕ) (bit : Bool) (run : Run) (source : FlickState) → run.flicks.mode ≡ Constant bit → source.mode ≡ Constant bit → enabled s (past_in s run) ≡ p ∷ [] →
+    turn_of s (line.Wander n) (suc remaining) (drawn_run run source) ≡ lone_made p remaining run source
+lone_turn s n p remaining bit run source here there are =
     let flick : flick_of (after_pick source) ≡ flick_of run.flicks = bit_of (after_pick source) bit there ∙ sym (bit_of run.flicks bit here) in
-    let made : Bool → FlickState → Turn = λ b f. record { this = Some (Tries (Step p b)); left = left; run = record { happened = Tries (Step p b) ∷ run.happened; flicks = f } } in
-    ap (wander_turn left (drawn_run run source)) are ∙ ap (λ q. made_turn q left (drawn_run run (after_pick source))) (pick_one p source) ∙ (λ i. made (flick i) (flick_stays (after_pick source) bit there i))
+    let made : Bool → FlickState → Turn = λ b f. record { this = Some (Tries (Step p b)); remaining = remaining; run = record { happened = Tries (Step p b) ∷ run.happened; flicks = f } } in
+    ap (wander_turn remaining (drawn_run run source)) are ∙ ap (λ q. made_turn q remaining (drawn_run run (after_pick source))) (pick_one p source) ∙ (λ i. made (flick i) (flick_stays (after_pick source) bit there i))
 
 -- turns without a mark
-record Lone (s : Setup) (n p : ℕ) (bit : Bool) (quiet left : ℕ) (run : Run) (source : FlickState) (left' : ℕ) (run' : Run) : Type 0 where
-  turns : QuietTurns s (line.Wander n) quiet left (drawn_run run source) left' (drawn_run run' (picks_after quiet source))
+record Lone (s : Setup) (n p : ℕ) (bit : Bool) (quiet remaining : ℕ) (run : Run) (source : FlickState) (remaining' : ℕ) (run' : Run) : Type 0 where
+  turns : QuietTurns s (line.Wander n) quiet remaining (drawn_run run source) remaining' (drawn_run run' (picks_after quiet source))
   flicks : run'.flicks ≡ run.flicks
-  are : movers s (past_in s run') ≡ p ∷ []
-  count : left' + quiet ≡ left
+  are : enabled s (past_in s run') ≡ p ∷ []
+  count : remaining' + quiet ≡ remaining
 
-lone_quiet : (s : Setup) (steps n p : ℕ) (bit : Bool) (quiet left : ℕ) (run : Run) (source : FlickState) (left' : ℕ) (run' : Run) → run.flicks.mode ≡ Constant bit → source.mode ≡ Constant bit → movers s (past_in s run) ≡ p ∷ [] → QuietTurns s (line.Step p steps) quiet left run left' run' →
-    Lone s n p bit quiet left run source left' run'
-lone_quiet s steps n p bit zero left run source left' run' here there are (same, at) = record {
+lone_quiet : (s : Setup) (steps n p : ℕ) (bit : Bool) (quiet remaining : ℕ) (run : Run) (source : FlickState) (remaining' : ℕ) (run' : Run) → run.flicks.mode ≡ Constant bit → source.mode ≡ Constant bit → enabled s (past_in s run) ≡ p ∷ [] → QuietTurns s (line.Step p steps) quiet remaining run remaining' run' →
+    Lone s n p bit quiet remaining run source remaining' run'
+lone_quiet s steps n p bit zero remaining run source remaining' run' here there are (same, at) = record {
   turns = (same, λ i. drawn_run (at i) source);
   flicks = ap (λ (r : Run). r.flicks) at;
-  are = ap (λ (r : Run). movers s (past_in s r)) at ∙ are;
-  count = add-zero left' ∙ same;
+  are = ap (λ (r : Run). enabled s (past_in s r)) at ∙ are;
+  count = add-zero remaining' ∙ same;
 }
-lone_quiet s steps n p bit (suc quiet) zero run source left' run' here there are (first, more) = absurd first
-lone_quiet s steps n p bit (suc quiet) (suc left) run source left' run' here there are (first, more) =
-    let rest : QuietTurns s (line.Step p steps) quiet left (stepped p run) left' run' = subst (λ (t : Turn). QuietTurns s (line.Step p steps) quiet t.left t.run left' run') (lone_step s p left run are) more in
-    let u = lone_quiet s steps n p bit quiet left (stepped p run) (after_pick source) left' run' here there (movers_quiet s (tried run.happened) (next_step p run) first ∙ are) rest in
+lone_quiet s steps n p bit (suc quiet) zero run source remaining' run' here there are (first, more) = absurd first
+lone_quiet s steps n p bit (suc quiet) (suc remaining) run source remaining' run' here there are (first, more) =
+    let rest : QuietTurns s (line.Step p steps) quiet remaining (stepped p run) remaining' run' = subst (λ (t : Turn). QuietTurns s (line.Step p steps) quiet t.remaining t.run remaining' run') (lone_step s p remaining run are) more in
+    let u = lone_quiet s steps n p bit quiet remaining (stepped p run) (after_pick source) remaining' run' here there (enabled_quiet s (tried run.happened) (next_step p run) first ∙ are) rest in
     record {
-      turns = subst (λ (t : Turn). IsQuiet s (past_in s run) t.this × QuietTurns s (line.Wander n) quiet t.left t.run left' (drawn_run run' (picks_after (suc quiet) source))) (sym (lone_turn s n p left bit run source here there are))
-          (first, subst (λ f. QuietTurns s (line.Wander n) quiet left (drawn_run (stepped p run) (after_pick source)) left' (drawn_run run' f)) (picks_first quiet source) u.turns);
+      turns = subst (λ (t : Turn). IsQuiet s (past_in s run) t.this × QuietTurns s (line.Wander n) quiet t.remaining t.run remaining' (drawn_run run' (picks_after (suc quiet) source))) (sym (lone_turn s n p remaining bit run source here there are))
+          (first, subst (λ f. QuietTurns s (line.Wander n) quiet remaining (drawn_run (stepped p run) (after_pick source)) remaining' (drawn_run run' f)) (picks_first quiet source) u.turns);
       flicks = u.flicks ∙ flick_stays run.flicks bit here;
       are = u.are;
       count = let count = u.count in omega (arith, count);
     }
 
 -- the course after the words of the picks are drawn
-abbrev pub lone_course : ℕ → CourseState → CourseState
-lone_course had mid = course mid.world (picks_after (had - mid.left) mid.flicks) mid.left
+abbrev pub lone_run : ℕ → ScenarioRunState → ScenarioRunState
+lone_run had mid = scenario_run mid.world (picks_after (had - mid.remaining) mid.flicks) mid.remaining
 
-module _ {L : Type 0} (Hears : L → Setup → List Happening → List Happening → L → Type 0) (s : Setup) (steps n p had : ℕ) (run : Run) (was is : L) (mid : CourseState) (constant : is_constant run.flicks ≡ true) (are : movers s (past_in s run) ≡ p ∷ []) where
+module _ {L : Type 0} (Observes : L → Setup → List Happening → List Happening → L → Type 0) (s : Setup) (steps n p had : ℕ) (run : Run) (was is : L) (mid : ScenarioRunState) (constant : is_constant run.flicks ≡ true) (are : enabled s (past_in s run) ≡ p ∷ []) where
   here : (bit : Bool) × (run.flicks.mode ≡ Constant bit)
   here = constant_bit run.flicks constant
 
   -- the Steps without a mark are observed
-  pub lone_on : (Next : Setup → Line → Run → Type 0) → ComesOn Hears s (line.Step p steps) had run was is mid Next → ComesOn Hears s (line.Wander n) had run was is (lone_course had mid) (ArePicked (p ∷ []))
+  pub lone_on : (Next : Setup → Line → Run → Type 0) → ComesOn Observes s (line.Step p steps) had run was is mid Next → ComesOn Observes s (line.Wander n) had run was is (lone_run had mid) (ArePicked (p ∷ []))
   lone_on Next u =
-      let v = lone_quiet s steps n p here.0 u.quiet had run run.flicks mid.left u.now here.1 here.1 are u.turns in
+      let v = lone_quiet s steps n p here.0 u.quiet had run run.flicks mid.remaining u.now here.1 here.1 are u.turns in
       let count = v.count in
-      let made : had - mid.left ≡ u.quiet = omega (arith, count) in
+      let made : had - mid.remaining ≡ u.quiet = omega (arith, count) in
       record {
         quiet = u.quiet;
         now = drawn_run u.now (picks_after u.quiet run.flicks);
         turns = v.turns;
-        hears = u.hears;
+        observes = u.observes;
         follows = record { shows = u.follows.shows; flicks = λ i. picks_after (made i) ((u.follows.flicks ∙ v.flicks) i) };
         setup = u.setup;
         next = sym v.are;
       }
 
   -- the turn that is reported
-  lone_told : (before : ℕ) (answer : Told) → ComesTo Hears s (line.Step p steps) had run was is before (Some answer) mid → ComesTo Hears s (line.Wander n) had run was is before (Some answer) (lone_course had mid)
-  lone_told before answer u = by before u.turns u.tells u.follows u.left_is
+  lone_reported : (before : ℕ) (answer : TurnReport) → ComesTo Observes s (line.Step p steps) had run was is before (Some answer) mid → ComesTo Observes s (line.Wander n) had run was is before (Some answer) (lone_run had mid)
+  lone_reported before answer u = by before u.turns u.reports u.follows u.remaining_is
     where
-      by : (before : ℕ) → QuietTurns s (line.Step p steps) u.quiet had run before u.now → Tells s (past_in s u.now) (turn_of s (line.Step p steps) before u.now).this (Some answer) → Follows mid (turn_of s (line.Step p steps) before u.now).run → mid.left ≡ (turn_of s (line.Step p steps) before u.now).left →
-          ComesTo Hears s (line.Wander n) had run was is before (Some answer) (lone_course had mid)
-      by zero turns tells follows left_is = absurd tells
-      by (suc left) turns tells follows left_is =
-          let v = lone_quiet s steps n p here.0 u.quiet had run run.flicks (suc left) u.now here.1 here.1 are turns in
+      by : (before : ℕ) → QuietTurns s (line.Step p steps) u.quiet had run before u.now → Reports s (past_in s u.now) (turn_of s (line.Step p steps) before u.now).this (Some answer) → Follows mid (turn_of s (line.Step p steps) before u.now).run → mid.remaining ≡ (turn_of s (line.Step p steps) before u.now).remaining →
+          ComesTo Observes s (line.Wander n) had run was is before (Some answer) (lone_run had mid)
+      by zero turns reports follows remaining_is = absurd reports
+      by (suc remaining) turns reports follows remaining_is =
+          let v = lone_quiet s steps n p here.0 u.quiet had run run.flicks (suc remaining) u.now here.1 here.1 are turns in
           let source : FlickState = picks_after u.quiet run.flicks in
           let now_constant : u.now.flicks.mode ≡ Constant here.0 = ap (λ (f : FlickState). f.mode) v.flicks ∙ here.1 in
-          let turn = lone_turn s n p left here.0 u.now source now_constant (picks_mode u.quiet run.flicks ∙ here.1) v.are in
-          let fewer : mid.left ≡ left = left_is ∙ ap (λ (t : Turn). t.left) (lone_step s p left u.now v.are) in
+          let turn = lone_turn s n p remaining here.0 u.now source now_constant (picks_mode u.quiet run.flicks ∙ here.1) v.are in
+          let fewer : mid.remaining ≡ remaining = remaining_is ∙ ap (λ (t : Turn). t.remaining) (lone_step s p remaining u.now v.are) in
           let count = v.count in
-          let made : had - mid.left ≡ suc u.quiet = omega (arith, count, fewer) in
+          let made : had - mid.remaining ≡ suc u.quiet = omega (arith, count, fewer) in
           record {
             quiet = u.quiet;
             now = drawn_run u.now source;
             turns = v.turns;
-            hears = u.hears;
-            tells = subst (λ (t : Turn). Tells s (past_in s u.now) t.this (Some answer)) (sym turn) tells;
-            follows = subst (λ (t : Turn). Follows (lone_course had mid) t.run) (sym turn) (record { shows = follows.shows; flicks = λ i. picks_after (made i) ((follows.flicks ∙ flick_stays u.now.flicks here.0 now_constant ∙ v.flicks) i) });
-            left_is = subst (λ (t : Turn). mid.left ≡ t.left) (sym turn) fewer;
+            observes = u.observes;
+            reports = subst (λ (t : Turn). Reports s (past_in s u.now) t.this (Some answer)) (sym turn) reports;
+            follows = subst (λ (t : Turn). Follows (lone_run had mid) t.run) (sym turn) (record { shows = follows.shows; flicks = λ i. picks_after (made i) ((follows.flicks ∙ flick_stays u.now.flicks here.0 now_constant ∙ v.flicks) i) });
+            remaining_is = subst (λ (t : Turn). mid.remaining ≡ t.remaining) (sym turn) fewer;
             setup = u.setup;
           }
 
   -- turns up to the one that is reported, or down to the floor
-  pub lone_whole : (floor before : ℕ) (answer : Option Told) → (answer ≡ None → mid.left ≡ floor) → (answer ≡ None → before ≡ floor) → RunsTo Hears s (line.Step p steps) had run was is p floor before answer mid → ComesAlong Hears s (line.Wander n) had run was is floor before answer (lone_course had mid)
-  lone_whole floor before None ended at u = inl (comes_down Hears s (line.Wander n) had run was is floor before (lone_course had mid) (ArePicked (p ∷ [])) (ended refl) (at refl) (lone_on (IsAlone p floor) u))
-  lone_whole floor before (Some answer) ended at u = (u.0, lone_told before answer u.1)
+  pub lone_whole : (floor before : ℕ) (answer : Option TurnReport) → (answer ≡ None → mid.remaining ≡ floor) → (answer ≡ None → before ≡ floor) → RunsTo Observes s (line.Step p steps) had run was is p floor before answer mid → ComesAlong Observes s (line.Wander n) had run was is floor before answer (lone_run had mid)
+  lone_whole floor before None ended at u = inl (comes_down Observes s (line.Wander n) had run was is floor before (lone_run had mid) (ArePicked (p ∷ [])) (ended refl) (at refl) (lone_on (IsAlone p floor) u))
+  lone_whole floor before (Some answer) ended at u = (u.0, lone_reported before answer u.1)
 
 -- a list of length 1 holds its first element
 pub only_one : (ps : List ℕ) → length ps ≡ 1 → ps ≡ slice_index ps 0 ∷ []

@@ -1,9 +1,9 @@
 -- How an engine ends once it has read its input: the whole text was written, or a prefix of it.
 use Rattle.std.proofs.Common.{◌≡◌, ℕ, ◌+◌, List, Option, Some, None, Result, Ok, Err, IfSome, IfOk, IfErr, IsErrAnd, OnOk, subst, sym, ◌∙◌, arith}
 use Rattle.std.specs.Io.KnownBytes.{Appends}
-use Rattle.scenario.proofs.files.CutTexts.{input_tells}
-use Rattle.scenario.proofs.CutTexts.{scenario_tells_at_limit}
-use Rattle.scenario.proofs.files.EngineEnds.{text_told, read_to_end}
+use Rattle.scenario.proofs.files.CutTexts.{input_reports}
+use Rattle.scenario.proofs.CutTexts.{scenario_reports_at_limit}
+use Rattle.scenario.proofs.files.EngineEnds.{text_reported, read_to_end}
 use Rattle.scenario.specs.files.Engines.{Streams, Ran, text_by, text_or_none}
 use Rattle.scenario.specs.{Script, scenario_of}
 use Rattle.scenario.specs.files.{Fault, LineFault, ReadsInput, WritesFront}
@@ -32,13 +32,13 @@ module _ (printed : Script → List ℕ) where
   pub engine_ran : {A : Type 0} (result : Result A Fault) (bytes : List ℕ) (said : Script) (old new : Streams) → ReadsInput old.to_come new.to_come bytes → scenario_of bytes ≡ Ok said →
       OnOk result (Appends old.taken new.taken (printed said)) → WritesFront old.taken new.taken (printed said) → IfErr result IsWriteFault → new.write_failures ≡ old.write_failures + failed_write result → Ran text (ended result) old new
   engine_ran (Ok answer) bytes said old new read good written front fault failures = (
-    text_told scenario_of printed scenario_tells_at_limit old.to_come new.to_come bytes said (λ all. Appends old.taken new.taken all) read good written,
-    read_to_end scenario_of printed scenario_tells_at_limit old.to_come new.to_come bytes said read good,
+    text_reported scenario_of printed scenario_reports_at_limit old.to_come new.to_come bytes said (λ all. Appends old.taken new.taken all) read good written,
+    read_to_end scenario_of printed scenario_reports_at_limit old.to_come new.to_come bytes said read good,
   )
   engine_ran (Err Write) bytes said old new read good written front fault failures =
-      (omega (arith, failures), text_told scenario_of printed scenario_tells_at_limit old.to_come new.to_come bytes said (λ all. WritesFront old.taken new.taken all) read good front)
+      (omega (arith, failures), text_reported scenario_of printed scenario_reports_at_limit old.to_come new.to_come bytes said (λ all. WritesFront old.taken new.taken all) read good front)
   engine_ran (Err Memory) bytes said old new read good written front fault failures =
-      front_any old new old.to_come (text_told scenario_of printed scenario_tells_at_limit old.to_come new.to_come bytes said (λ all. WritesFront old.taken new.taken all) read good front)
+      front_any old new old.to_come (text_reported scenario_of printed scenario_reports_at_limit old.to_come new.to_come bytes said (λ all. WritesFront old.taken new.taken all) read good front)
   engine_ran (Err Read) bytes said old new read good written front fault failures = absurd fault
   engine_ran (Err (Line f)) bytes said old new read good written front fault failures = absurd fault
 
@@ -48,7 +48,7 @@ pub input_answer : {A : Type 0} (result : Result A Fault) (P : Script → A → 
 input_answer (Err e) P bytes said old new read good is = tt
 input_answer (Ok answer) P bytes said None new read good is = tt
 input_answer (Ok answer) P bytes said (Some input) new read good is =
-    let same : scenario_of bytes ≡ scenario_of input = input_tells scenario_of input bytes new scenario_tells_at_limit read in
+    let same : scenario_of bytes ≡ scenario_of input = input_reports scenario_of input bytes new scenario_reports_at_limit read in
     (said, sym same ∙ good, is)
 
 -- the numbers of a replay are those of the whole input
@@ -62,5 +62,5 @@ pub replay_headline : (result : Result Summary Fault) (bytes : List ℕ) (said :
 replay_headline (Err e) bytes said old new read good keeps = tt
 replay_headline (Ok summary) bytes said None new read good keeps = tt
 replay_headline (Ok summary) bytes said (Some input) new read good keeps =
-    let same : scenario_of bytes ≡ scenario_of input = input_tells scenario_of input bytes new scenario_tells_at_limit read in
+    let same : scenario_of bytes ≡ scenario_of input = input_reports scenario_of input bytes new scenario_reports_at_limit read in
     (said, sym same ∙ good, keeps)

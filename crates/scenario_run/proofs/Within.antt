@@ -4,18 +4,18 @@ use Rattle.plain_store.specs.{Setup}
 use Rattle.model.specs.{Access, AreGiven, Entry, Past, entry_of}
 use Rattle.model.specs.declared.events.Event.TheVariants.{Step}
 use Rattle.world.specs.laws.{doing}
-use Rattle.world.specs.process.{left_at, number_read, process_after}
+use Rattle.world.specs.process.{remaining_at, number_read, process_after}
 use Rattle.world.specs.Shows.{Shows, WorldState}
-use Rattle.world.specs.Walks.{MakesQuietly, StepsQuietly, TellsOverlapped}
-use Rattle.world.proofs.WorldWithin.{left-shown}
-use Rattle.scenario_run.specs.{Happening, HearsPassing, HearsStep, HearsUnmarked, IsNewest, PassQuietly, PassWithin, StepsOn, StepsWithin, Tries, overlapped_in, past_after, tried}
+use Rattle.world.specs.Walks.{MakesQuietly, StepsQuietly, ReportsOverlapped}
+use Rattle.world.proofs.WorldWithin.{remaining-shown}
+use Rattle.scenario_run.specs.{Happening, ObservesPassing, ObservesStep, ObservesUnmarked, IsNewest, PassQuietly, PassWithin, StepsOn, StepsWithin, Tries, overlapped_in, past_after, tried}
 
 -- a Step is made within the access
 pub steps_within : (w w' : WorldState) (p : ℕ) (flick : Bool) (access : Access) (last : Bool) (before : List Happening) → MakesQuietly w p flick access last w' → Shows w (tried before) → StepsWithin w.setup before p flick
 steps_within w w' p flick access last before made shows = record {
   good = shows.good;
   quiet = (Some made.steps.access, made.steps.adds (tried before) shows);
-  within = let here = left-shown w (tried before) p shows made.within in let some = made.within in omega (arith, here, some);
+  within = let here = remaining-shown w (tried before) p shows made.within in let some = made.within in omega (arith, here, some);
 }
 
 -- one more Step
@@ -30,15 +30,15 @@ within_quietly s p (suc n) x y (flick, w, more) = (Tries (Step p flick), w.quiet
 
 -- a Step without a mark is made
 pub steps_on : (w w' : WorldState) (p : ℕ) (flick : Bool) (number : Option ℕ) (before : List Happening) → (q : StepsQuietly w p flick w') → Shows w (tried before) →
-    ((n : ℕ) → number ≡ Some n → n ≡ number_read (doing w.setup p (past_after w.setup before))) → (number ≡ None → 0 < left_at (process_after w.setup (past_after w.setup before) p)) → (overlapped : Bool) → TellsOverlapped w q.access overlapped →
+    ((n : ℕ) → number ≡ Some n → n ≡ number_read (doing w.setup p (past_after w.setup before))) → (number ≡ None → 0 < remaining_at (process_after w.setup (past_after w.setup before) p)) → (overlapped : Bool) → ReportsOverlapped w q.access overlapped →
     StepsOn w.setup before (record { process = p; flick = flick; access = q.access; overlapped = overlapped; number = number })
-steps_on w w' p flick number before q shows number_is within overlapped tells = record {
+steps_on w w' p flick number before q shows number_is within overlapped reports = record {
   good = shows.good;
   given = subst (λ (s : Setup). AreGiven s (Step p flick ∷ tried before)) q.setup (q.shows (tried before) shows).given;
   adds = q.adds (tried before) shows;
   number = number_is;
   within = within;
-  overlapped = tells (tried before) shows;
+  overlapped = reports (tried before) shows;
 }
 
 -- the entry of the Step is the newest
@@ -56,23 +56,23 @@ overlapped_more w w' p flick access last n count before m shows same =
     let made = λ (a : Access). let e : Entry = record { process = p; access = Some a; marks = [] } in e in
     let adds : entry_of w.setup past (Step p flick) ≡ Some (made access) = m.steps.adds (tried before) shows ∙ ap (λ a. Some (made a)) m.access_is in
     let then : past_after w.setup (Tries (Step p flick) ∷ before) ≡ made access ∷ past = ap (λ (o : Option Entry). elim o as (λ _. Past) [ None ↦ past | Some e ↦ e ∷ past ]) adds in
-    (λ i. same i + cond (m.tells (tried before) shows i) 1 0) ∙ sym (ap (overlapped_in (suc n)) then)
+    (λ i. same i + cond (m.reports (tried before) shows i) 1 0) ∙ sym (ap (overlapped_in (suc n)) then)
 
 module _ {L : Type 0} (R : L → Setup → List Happening → List Happening → L → Type 0) (w w' : WorldState) (p : ℕ) (flick : Bool) (access : Access) (last : Bool) (was is : L) (made : MakesQuietly w p flick access last w') where
   -- a Step within a register access is observed
-  pub within_heard : HearsUnmarked R (record { process = p; flick = flick; access = access; overlapped = last; number = None }) was is → HearsStep R w p flick w' was is
-  within_heard heard = record {
+  pub within_observed : ObservesUnmarked R (record { process = p; flick = flick; access = access; overlapped = last; number = None }) was is → ObservesStep R w p flick w' was is
+  within_observed observed = record {
     step = made.steps;
-    hears = λ before shows. heard w.setup before (subst (λ (a : Access). StepsOn w.setup before (record { process = p; flick = flick; access = a; overlapped = last; number = None })) made.access_is
+    observes = λ before shows. observed w.setup before (subst (λ (a : Access). StepsOn w.setup before (record { process = p; flick = flick; access = a; overlapped = last; number = None })) made.access_is
         (steps_on w w' p flick None before made.steps shows (λ n is. absurd (cc)) (λ none. (steps_within w w' p flick access last before made shows).within) last
-        (subst (λ (a : Access). TellsOverlapped w a last) (sym made.access_is) made.tells)));
+        (subst (λ (a : Access). ReportsOverlapped w a last) (sym made.access_is) made.reports)));
   }
 
   -- a Step within a register access is passed as a group of one
-  pub within_passed : (overlapped : ℕ) → overlapped ≡ cond last 1 0 → HearsPassing R p 1 access.how overlapped was is → HearsStep R w p flick w' was is
+  pub within_passed : (overlapped : ℕ) → overlapped ≡ cond last 1 0 → ObservesPassing R p 1 access.how overlapped was is → ObservesStep R w p flick w' was is
   within_passed overlapped one passed = record {
     step = made.steps;
-    hears = λ before shows. passed w.setup before (Tries (Step p flick) ∷ before) access refl (record {
+    observes = λ before shows. passed w.setup before (Tries (Step p flick) ∷ before) access refl (record {
       within = (flick, steps_within w w' p flick access last before made shows, refl);
       newest_is = newest_made w w' p flick access last before made shows;
       overlapped_are = one ∙ (let alone : cond last 1 0 ≡ 0 + cond last 1 0 = omega arith in alone) ∙ overlapped_more w w' p flick access last 0 0 before made shows refl;

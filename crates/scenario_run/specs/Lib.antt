@@ -10,7 +10,7 @@ pub mod Courses
 pub mod Growing
 pub mod Happenings
 pub mod Judging
-pub mod Listening
+pub mod Observing
 pub mod Parts
 pub mod Replays
 pub mod RunRecords
@@ -18,31 +18,31 @@ pub mod Runs
 pub mod Steppers
 pub mod Summaries
 pub mod Takings
-pub mod Telling
+pub mod Reporting
 pub mod Texts
 pub mod Turns
 pub mod Writing
 pub use Counts.{IsCounted}
-pub use Courses.{CourseState, Follows, IsQuiet, KeepsCourse, Makes, QuietTurns, course}
+pub use Courses.{ScenarioRunState, Follows, IsQuiet, KeepsScenarioRun, Makes, QuietTurns, scenario_run}
 pub use Growing.{text_longer}
 pub use Happenings.{Happening, Lacks, Looks, Tires, Tries, accepted, past_after, refusals, refusals_at, tried}
 pub use Judging.{Audits}
-pub use Listening.{Comes, ComesAlong, ComesDown, ComesOn, ComesTo, Happens, HearsPassing, HearsStep, HearsUnmarked, IsNewest, LeavesRoom, MakesStep, PassBy, PassQuietly, PassWithin, PassesAlone, Plays, PlaysLine, PlaysLines, RunsAlone, RunsTo, StepsOn, StepsWithin, StopsAlone, StopsBy, StopsLine, StopsLines, TellsStep, overlapped_in, room_wanted}
+pub use Observing.{Comes, ComesAlong, ComesDown, ComesOn, ComesTo, Happens, ObservesPassing, ObservesStep, ObservesUnmarked, IsNewest, LeavesRoom, MakesStep, PassBy, PassQuietly, PassWithin, PassesAlone, Plays, PlaysLine, PlaysLines, RunsAlone, RunsTo, StepsOn, StepsWithin, StopsAlone, StopsBy, StopsLine, StopsLines, ReportsStep, overlapped_in, room_wanted}
 pub use Parts.{IsFront, IsLineMade, IsPart, MadeNewest, PlaysPart, PlaysUntil, events_in, events_to}
 pub use Replays.{InputKeepsHeadline, IsSummaryOf, RunKeepsHeadline, ended}
 pub use RunRecords.{accepted_events, listed, run_record}
-pub use Runs.{Run, after_pick_in, go_limit, goes, happenings, has_step, is_there, may_step, movers, next_step, past_in, pick_among, picked, run_after, run_at_start, runs, stepped, steps, wanders, with_happening}
-pub use Steppers.{IsAlone, IsAway, left_told, turns_drawn}
+pub use Runs.{Run, after_pick_in, go_limit, goes, happenings, has_step, is_there, may_step, enabled, next_step, past_in, pick_among, picked, run_after, run_at_start, runs, stepped, steps, wanders, with_happening}
+pub use Steppers.{IsAlone, IsAway, remaining_after, turns_drawn}
 pub use Summaries.{CanCount, can_count_less, counted, summary_of}
-pub use Takings.{Took, TookPart, part_before, part_on, part_unheard, took_none, took_on}
-pub use Telling.{AddsMarks, IsMarked, Tells, TellsOf, entry_made, events_told, is_step, marks_made, told_step, told_text, told_unmarked}
+pub use Takings.{Took, TookPart, part_before, part_on, part_unobserved, took_none, took_on}
+pub use Reporting.{AddsMarks, IsMarked, Reports, ReportsOf, entry_made, events_reported, is_step, marks_made, reported_step, reported_text, reported_unmarked}
 pub use Texts.{end_line, entry_text, mark_line, newest_store, newest_words, refused_line, replay_text, replayed, store_text, text_at, text_of}
 pub use Turns.{Turn, ends, go_rest, go_turn, happens, made_turn, next_turn, on_turn, once, part_of_line, rest_of, step_turn, turn_of, turns_in, turns_made, wander_turn}
 pub use Writing.{IsWriteFault, Writes, WritesPart, failed_write}
-pub use declared.told.Accepted.{Accepted}
-pub use declared.judging.Audit.{Audit}
-pub use declared.told.Stepped.{Stepped}
+pub use declared.reports.Accepted.{Accepted}
+pub use declared.audits.RunAudit.{RunAudit}
+pub use declared.reports.UnmarkedStep.{UnmarkedStep}
 pub use declared.summaries.Summary.{Summary}
-pub use declared.told.Told.{Told}
-pub use declared.until.LineMade.{LineMade}
-pub use declared.until.Until.{Until}
+pub use declared.reports.TurnReport.{TurnReport}
+pub use declared.play_limit.LineMade.{LineMade}
+pub use declared.play_limit.PlayLimit.{PlayLimit}

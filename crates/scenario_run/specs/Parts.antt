@@ -2,20 +2,20 @@
 use Rattle.std.specs.Prelude.{◌≡◌, ◌⊎◌, ◌+◌, ◌-◌, ◌^◌, ◌<◌, ◌≤◌, ℕ, List, ◌∷◌, ◌++◌, length, Option, None, Some}
 use Rattle.plain_store.specs.{Setup}
 use Rattle.scenario.specs.{Line}
-use Rattle.scenario_run.specs.Courses.{CourseState}
+use Rattle.scenario_run.specs.Courses.{ScenarioRunState}
 use Rattle.scenario_run.specs.Happenings.{Happening}
-use Rattle.scenario_run.specs.Listening.{InItsRun, Plays}
+use Rattle.scenario_run.specs.Observing.{InItsRun, Plays}
 use Rattle.scenario_run.specs.Runs.{Run, past_in, run_after, runs}
-use Rattle.scenario_run.specs.declared.until.LineMade.{LineMade}
-use Rattle.scenario_run.specs.declared.until.Until.{Until}
-use Rattle.scenario_run.specs.declared.until.Until.TheVariants.{End, Event}
+use Rattle.scenario_run.specs.declared.play_limit.LineMade.{LineMade}
+use Rattle.scenario_run.specs.declared.play_limit.PlayLimit.{PlayLimit}
+use Rattle.scenario_run.specs.declared.play_limit.PlayLimit.TheVariants.{End, Event}
 
 -- the number of events of a run
 abbrev pub events_in : Setup → Run → ℕ
 events_in s run = length (past_in s run)
 
 -- the number of events that are still to be made after `made`; for `End`, more than a line ever makes
-abbrev pub events_to : Until → ℕ → ℕ
+abbrev pub events_to : PlayLimit → ℕ → ℕ
 events_to End made = 2 ^ 64 - 1
 events_to (Event n) made = n - made
 
@@ -27,7 +27,7 @@ pub record IsFront (s : Setup) (n : ℕ) (run now whole : Run) : Type 0 where
   pub ends : (events_in s run + n ≤ events_in s now) ⊎ (whole ≡ now)
 
 -- the run now is the part of the whole run that is played
-abbrev pub IsPart : Setup → Until → Run → Run → Run → Type 0
+abbrev pub IsPart : Setup → PlayLimit → Run → Run → Run → Type 0
 IsPart s End run now whole = now ≡ whole
 IsPart s (Event n) run now whole = IsFront s n run now whole
 
@@ -48,12 +48,12 @@ MadeNewest s lines run now None = events_in s now ≡ events_in s run
 MadeNewest s lines run now (Some made) = IsLineMade s lines run now made
 
 -- lines are played after a run: the run now, and the line that made its newest event
-pub record PlaysPart {L : Type 0} (Hears : L → Setup → List Happening → List Happening → L → Type 0) (s : Setup) (lines : List Line) (until : Until) (run : Run) (course : CourseState) (was is : L) (newest : Option LineMade) : Type 0 where
+pub record PlaysPart {L : Type 0} (Observes : L → Setup → List Happening → List Happening → L → Type 0) (s : Setup) (lines : List Line) (until : PlayLimit) (run : Run) (scenario_run : ScenarioRunState) (was is : L) (newest : Option LineMade) : Type 0 where
   pub now : Run
-  pub plays : Plays Hears s run now course was is
+  pub plays : Plays Observes s run now scenario_run was is
   pub part : IsPart s until run now (runs s lines run)
   pub newest_made : MadeNewest s lines run now newest
 
 -- lines are played so in each run that the course shows
-abbrev pub PlaysUntil : {L : Type 0} → (L → Setup → List Happening → List Happening → L → Type 0) → Until → CourseState → List Line → CourseState → L → L → Option LineMade → Type 0
-PlaysUntil Hears until old lines new was is newest = InItsRun old (λ run. PlaysPart Hears old.world.setup lines until run new was is newest)
+abbrev pub PlaysUntil : {L : Type 0} → (L → Setup → List Happening → List Happening → L → Type 0) → PlayLimit → ScenarioRunState → List Line → ScenarioRunState → L → L → Option LineMade → Type 0
+PlaysUntil Observes until old lines new was is newest = InItsRun old (λ run. PlaysPart Observes old.world.setup lines until run new was is newest)

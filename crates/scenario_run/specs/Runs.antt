@@ -78,8 +78,8 @@ has_step Down = false
 has_step _ = true
 
 -- the processes with a Step to make, ascending
-abbrev pub movers : Setup → Past → List ℕ
-movers s past = filter (λ p. has_step (stage p past)) (processes s)
+abbrev pub enabled : Setup → Past → List ℕ
+enabled s past = filter (λ p. has_step (stage p past)) (processes s)
 
 -- the process that is picked among these
 abbrev pub pick_among : List ℕ → Run → ℕ
@@ -96,7 +96,7 @@ picked ps run = stepped (pick_among ps run) (after_pick_in run)
 -- `wander`: n Steps of picked processes, while there is a process to pick
 abbrev pub wanders : Setup → ℕ → Run → Run
 wanders s zero run = run
-wanders s (suc n) run = elim (movers s (past_in s run)) [ [] ↦ run | p ∷ ps ↦ wanders s n (picked (p ∷ ps) run) ]
+wanders s (suc n) run = elim (enabled s (past_in s run)) [ [] ↦ run | p ∷ ps ↦ wanders s n (picked (p ∷ ps) run) ]
 
 -- the greatest number of Steps of a `go`
 abbrev pub go_limit : ℕ

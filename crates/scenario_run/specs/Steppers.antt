@@ -6,8 +6,8 @@ use Rattle.scenario.specs.{Line, Target}
 use Rattle.scenario.specs.declared.lines.Line.TheVariants as line
 use Rattle.world.specs.choices.{FlickState, after_flick, after_pick}
 use Rattle.scenario_run.specs.Runs.{Run, is_there, past_in}
-use Rattle.scenario_run.specs.declared.told.Told.{Told}
-use Rattle.scenario_run.specs.declared.told.Told.TheVariants as told
+use Rattle.scenario_run.specs.declared.reports.TurnReport.{TurnReport}
+use Rattle.scenario_run.specs.declared.reports.TurnReport.TheVariants as reported
 
 -- a process exists, and is not at its target
 pub record IsAway (s : Setup) (p : ℕ) (target : Target) (run : Run) : Type 0 where
@@ -18,12 +18,12 @@ pub record IsAway (s : Setup) (p : ℕ) (target : Target) (run : Run) : Type 0 w
 abbrev pub IsAlone : ℕ → ℕ → Setup → Line → Run → Type 0
 IsAlone p floor s l run = ((steps : ℕ) × (l ≡ line.Step p steps)) ⊎ ((target : Target) × (l ≡ line.Go p target) × IsAway s p target run × (1 ≤ floor))
 
--- the turns left after a reported Step, of `left`: a refused Step ends a line of one process
-abbrev pub left_told : Told → ℕ → ℕ
-left_told (told.Accepted made) left = left
-left_told (told.Refused p refusal) left = 0
-left_told (told.Tired p) left = left
-left_told (told.Shown line) left = left
+-- the turns left after a reported Step, of `remaining`: a refused Step ends a line of one process
+abbrev pub remaining_after : TurnReport → ℕ → ℕ
+remaining_after (reported.Accepted made) remaining = remaining
+remaining_after (reported.Refused p refusal) remaining = 0
+remaining_after (reported.Tired p) remaining = remaining
+remaining_after (reported.Shown line) remaining = remaining
 
 -- the flicks after n turns of `wander`, each of which draws a pick and a flick
 abbrev pub turns_drawn : ℕ → FlickState → FlickState

@@ -5,8 +5,8 @@ use Rattle.plain_store.specs.{Setup}
 use Rattle.model.specs.{history}
 use Rattle.scenario_run.specs.Happenings.{Happening, past_after, refusals}
 use Rattle.scenario_run.specs.declared.summaries.Summary.{Summary}
-use Rattle.scenario_run.specs.declared.told.Told.{Told}
-use Rattle.scenario_run.specs.declared.told.Told.TheVariants as told
+use Rattle.scenario_run.specs.declared.reports.TurnReport.{TurnReport}
+use Rattle.scenario_run.specs.declared.reports.TurnReport.TheVariants as reported
 
 -- the numbers of events accepted, of commands taken, and of refusals reported
 abbrev pub summary_of : Setup → List Happening → Summary
@@ -17,11 +17,11 @@ summary_of s happened = record {
 }
 
 -- the counts after a report; the commands taken are counted at the end
-abbrev pub counted : Told → Summary → Summary
-counted (told.Accepted made) summary = record summary { events = summary.events + 1 }
-counted (told.Refused p refusal) summary = record summary { refused = summary.refused + 1 }
-counted (told.Tired p) summary = summary
-counted (told.Shown store) summary = summary
+abbrev pub counted : TurnReport → Summary → Summary
+counted (reported.Accepted made) summary = record summary { events = summary.events + 1 }
+counted (reported.Refused p refusal) summary = record summary { refused = summary.refused + 1 }
+counted (reported.Tired p) summary = summary
+counted (reported.Shown store) summary = summary
 
 -- the counts do not overflow when `more` more are counted
 abbrev pub CanCount : Summary → ℕ → Type 0

@@ -23,8 +23,8 @@ took_none P t a n = record { writes = λ p. writes_none t a; whole = refl }
 pub took_on : {P Q : Type 0} {t u v : List ℕ} {a b c : Option (List ℕ)} {m n o : ℕ} → (P → Q) → Took P t u a b m n → Took Q u v b c n o → Took P t v a c m o
 took_on {P} {Q} {t} {u} {v} {a} {b} {c} on first next = record { writes = λ p. writes_both t u v a b c (first.writes p) (next.writes (on p)); whole = next.whole ∙ first.whole }
 
-pub part_unheard : (P : Type 0) (t : List ℕ) (a : Option (List ℕ)) (n : ℕ) → TookPart P t t a a n n Memory
-part_unheard P t a n = record { part = λ p. part_none t t a ((writes_none t a).text, (writes_none t a).is); is = tt; fails_are = sym (add-zero n) }
+pub part_unobserved : (P : Type 0) (t : List ℕ) (a : Option (List ℕ)) (n : ℕ) → TookPart P t t a a n n Memory
+part_unobserved P t a n = record { part = λ p. part_none t t a ((writes_none t a).text, (writes_none t a).is); is = tt; fails_are = sym (add-zero n) }
 
 pub part_before : {P : Type 0} {t u v : List ℕ} {a b : Option (List ℕ)} {m n : ℕ} {fault : Fault} → ((more : List ℕ) × (v ≡ u ++ more)) → TookPart P t u a b m n fault → TookPart P t v a b m n fault
 part_before {P} {t} {u} {v} {a} {b} more part = record { part = λ p. part_longer t u v a b (part.part p) more; is = part.is; fails_are = part.fails_are }

@@ -3,8 +3,8 @@ ghost use Rattle.scenario.specs.files.declared.faults.Fault.TheVariants.{Memory}
 ghost use Rattle.scenario_run.specs.Summaries.{CanCount, can_count_less, counted};
 ghost use Rattle.scenario_run.specs.Writing.{Counts};
 
-use crate::listening::Listener;
-use crate::told::{Stepped, Told};
+use crate::run_observers::RunObserver;
+use crate::reports::{UnmarkedStep, TurnReport};
 use model::Move;
 use scenario::{DONE, Ending, Fault};
 
@@ -32,15 +32,15 @@ impl Summary {
     }
 
     /// Counts a report. The commands taken are counted at the end.
-    pub fn count(&mut self, told: &Told)
+    pub fn count(&mut self, reported: &TurnReport)
         requires events { self.old.events < 2 ^ 64 - 1 }
         requires refused { self.old.refused < 2 ^ 64 - 1 }
-        ensures { self.new ≡ counted told.now self.old }
+        ensures { self.new ≡ counted reported.now self.old }
     {
-        match told {
-            Told::Accepted(_) => self.events += 1,
-            Told::Refused { .. } => self.refused += 1,
-            Told::Tired(_) | Told::Shown(_) => {}
+        match reported {
+            TurnReport::Accepted(_) => self.events += 1,
+            TurnReport::Refused { .. } => self.refused += 1,
+            TurnReport::Tired(_) | TurnReport::Shown(_) => {}
         }
     }
 }
@@ -55,11 +55,11 @@ impl Ending for Summary {
 }
 
 /// A summary counts what it observes. Steps without a mark may be passed to it in groups.
-impl Listener for Summary {
-    ghost hears_steps = { λ _. false };
+impl RunObserver for Summary {
+    ghost observes_steps = { λ _. false };
 
     #[inline(always)]
-    fn hears_steps(&self) -> bool {
+    fn observes_steps(&self) -> bool {
         false
     }
 
@@ -69,18 +69,18 @@ impl Listener for Summary {
 
     ghost HasRoom = { λ summary more. CanCount summary more };
 
-    ghost Hears = { λ a s x y b. Counts s x a → Counts s y b };
+    ghost Observes = { λ a s x y b. Counts s x a → Counts s y b };
 
     ghost Stops = { λ a s x y fault b. fault ≡ Memory };
 
-    #[tactic(auto, using(crate::proofs::Counting::counts_heard))]
-    fn hear(&mut self, told: &Told) -> Result<(), Fault> {
-        self.count(told);
+    #[tactic(auto, using(crate::proofs::Counting::counts_observed))]
+    fn observe(&mut self, reported: &TurnReport) -> Result<(), Fault> {
+        self.count(reported);
         Ok(())
     }
 
     #[tactic(auto, using(crate::proofs::Counting::counts_stepped))]
-    fn step(&mut self, _made: Stepped) -> Result<(), Fault> {
+    fn step(&mut self, _made: UnmarkedStep) -> Result<(), Fault> {
         self.events += 1;
         Ok(())
     }
@@ -92,11 +92,11 @@ impl Listener for Summary {
 
     ghost room_less = { λ a n k. can_count_less a n k };
 
-    ghost hears_nothing = { λ a s x counts. counts };
+    ghost observes_nothing = { λ a s x counts. counts };
 
-    ghost hears_on = { λ a b c s x y z p q counts. q (p counts) };
+    ghost observes_on = { λ a b c s x y z p q counts. q (p counts) };
 
-    ghost stops_unheard = { λ a s x. refl };
+    ghost stops_unobserved = { λ a s x. refl };
 
     ghost stops_before = { λ a b s x y more fault p. p };
 

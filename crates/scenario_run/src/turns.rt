@@ -7,11 +7,11 @@ ghost use Rattle.model.specs.{history, is_event, past_of};
 ghost use Rattle.world.specs.choices.{constant_flicks};
 ghost use Rattle.world.specs.{with_history};
 ghost use Rattle.world.specs.Shows.{Shows};
-ghost use Rattle.scenario_run.specs.Courses.{Follows, Makes, CourseState};
+ghost use Rattle.scenario_run.specs.Courses.{Follows, Makes, ScenarioRunState};
 ghost use Rattle.scenario_run.specs.Happenings.{Tries};
-ghost use Rattle.scenario_run.specs.Listening.{InItsRun, room_wanted};
+ghost use Rattle.scenario_run.specs.Observing.{InItsRun, room_wanted};
 ghost use Rattle.scenario_run.specs.Runs.{Run, run_at_start, taken_in};
-ghost use Rattle.scenario_run.specs.Telling.{is_step};
+ghost use Rattle.scenario_run.specs.Reporting.{is_step};
 ghost use Rattle.scenario_run.specs.Texts.{newest_store};
 ghost use Rattle.scenario_run.specs.Turns.{happens, makes_steps, turn_of, turns_in as turns_of};
 
@@ -19,13 +19,13 @@ mod playing;
 mod running;
 mod steps;
 
-use crate::told::{Accepted, Told};
+use crate::reports::{Accepted, TurnReport};
 use plain_store::{NestedTypes, Setup};
 use model::{Event, Refusal, Taken};
 use scenario::Line;
 use std::alloc::{AllocError, Global};
 use std::marker::Model;
-use world::{Core, Effect, Flicks, Image, World};
+use world::{Core, EventOutcome, Flicks, Image, World};
 
 /// The greatest number of Steps of a `go`.
 const GO_LIMIT: u32 = 65_536;
@@ -33,41 +33,41 @@ const GO_LIMIT: u32 = 65_536;
 /// A run of a scenario: the world, the source of flicks and picks, and the number of turns that the present line may
 /// still make. Contracts refer to these three, and to every run that they show.
 #[derive(Drop)]
-pub struct Course {
+pub struct ScenarioRun {
     alloc: Global,
     processes: u8,
     world: World,
     flicks: Flicks,
-    left: u32,
+    remaining: u32,
 }
 
-impl Model for Course {
-    ghost use Rattle.scenario_run.specs.Courses.{CourseState, KeepsCourse};
+impl Model for ScenarioRun {
+    ghost use Rattle.scenario_run.specs.Courses.{ScenarioRunState, KeepsScenarioRun};
 
-    ghost Value = { CourseState };
+    ghost Value = { ScenarioRunState };
 
-    ghost view = { λ c. record { world = c.world; flicks = c.flicks; left = c.left } };
+    ghost view = { λ c. record { world = c.world; flicks = c.flicks; remaining = c.remaining } };
 
-    ghost invariant = { λ c. KeepsCourse c.processes c.world };
+    ghost invariant = { λ c. KeepsScenarioRun c.processes c.world };
 }
 
-impl Course {
+impl ScenarioRun {
     /// Creates a run in which nothing has happened.
     ///
     /// # Errors
     ///
     /// Returns [`AllocError`] if there is no memory for the world.
-    pub fn new(alloc: Global, setup: &Setup) -> Result<Course, AllocError>
+    pub fn new(alloc: Global, setup: &Setup) -> Result<ScenarioRun, AllocError>
         requires { checked setup.now ≡ Ok tt }
-        ensures setup { IfOk result (λ course. course.world.setup ≡ setup.now) }
-        ensures follows { IfOk result (λ course. Follows course run_at_start) }
+        ensures setup { IfOk result (λ scenario_run. scenario_run.world.setup ≡ setup.now) }
+        ensures follows { IfOk result (λ scenario_run. Follows scenario_run run_at_start) }
     {
-        Ok(Course {
+        Ok(ScenarioRun {
             alloc,
             processes: setup.processes,
             world: World::new(alloc, setup)?,
             flicks: Flicks::constant(false),
-            left: 0,
+            remaining: 0,
         })
     }
 
@@ -94,20 +94,20 @@ impl Course {
 
     /// Begins a line.
     fn begin(&mut self, line: &Line)
-        ensures course { self.new ≡ record self.old { left = turns_of line.now } }
-        ensures few { self.new.left < 2 ^ 32 }
+        ensures scenario_run { self.new ≡ record self.old { remaining = turns_of line.now } }
+        ensures few { self.new.remaining < 2 ^ 32 }
     {
-        self.left = turns_in(line);
+        self.remaining = turns_in(line);
     }
 
     /// Makes the turn of a line that makes no Steps, and returns what it reports.
-    fn make(&mut self, line: &Line) -> Result<Option<Told>, AllocError>
-        requires few { self.old.left ≤ turns_of line.now }
-        requires some_left { 0 < self.old.left }
+    fn make(&mut self, line: &Line) -> Result<Option<TurnReport>, AllocError>
+        requires few { self.old.remaining ≤ turns_of line.now }
+        requires some_remaining { 0 < self.old.remaining }
         requires still { makes_steps line.now ≡ false }
-        ensures left { IfOk result (λ told. room_wanted told self.new.left ≤ self.old.left) }
-        ensures made { IfOk result (λ told. InItsRun self.old (λ run.
-            Makes self.old run (turn_of self.old.world.setup line.now self.old.left run) told self.new)) }
+        ensures remaining { IfOk result (λ reported. room_wanted reported self.new.remaining ≤ self.old.remaining) }
+        ensures made { IfOk result (λ reported. InItsRun self.old (λ run.
+            Makes self.old run (turn_of self.old.world.setup line.now self.old.remaining run) reported self.new)) }
     {
         let _nested: NestedTypes = None;
         match line {
@@ -120,29 +120,29 @@ impl Course {
             Line::Withdraw(process) => self.event(Event::Withdraw(*process)),
             Line::Restart(process) => self.event(Event::Restart(*process)),
             Line::Flick(flick) => {
-                self.left -= 1;
+                self.remaining -= 1;
                 self.flicks.set(*flick);
                 Ok(None)
             }
             Line::Show => {
-                self.left -= 1;
-                Ok(Some(Told::Shown(self.newest())))
+                self.remaining -= 1;
+                Ok(Some(TurnReport::Shown(self.newest())))
             }
         }
     }
 
     /// Makes an event, unless it is refused, and reports it.
-    fn event(&mut self, event: Event) -> Result<Option<Told>, AllocError>
-        requires some_left { 0 < self.old.left }
+    fn event(&mut self, event: Event) -> Result<Option<TurnReport>, AllocError>
+        requires some_remaining { 0 < self.old.remaining }
         requires given { is_event event ≡ true }
         requires still { is_step event ≡ false }
-        ensures left { self.new.left ≡ self.old.left - 1 }
-        ensures made { IfOk result (λ told. InItsRun self.old (λ run.
-            Makes self.old run (happens (Tries event) (self.old.left - 1) run) told self.new)) }
+        ensures remaining { self.new.remaining ≡ self.old.remaining - 1 }
+        ensures made { IfOk result (λ reported. InItsRun self.old (λ run.
+            Makes self.old run (happens (Tries event) (self.old.remaining - 1) run) reported self.new)) }
     {
-        self.left -= 1;
+        self.remaining -= 1;
         let place = self.world.history().len() as u64;
-        let mut effect = Effect::Steps(world::StepTold::Nothing);
+        let mut effect = EventOutcome::Steps(world::StepOutcome::Nothing);
         match self.world.make(&event, &mut effect) {
             Ok(access) => {
                 let made = Accepted {
@@ -153,7 +153,7 @@ impl Course {
                     overlapped: false,
                     effect,
                 };
-                Ok(Some(Told::Accepted(made)))
+                Ok(Some(TurnReport::Accepted(made)))
             }
             Err(refusal) => refused(event.process(), refusal),
         }
@@ -173,13 +173,13 @@ impl Course {
 }
 
 /// Reports that an event of this process was refused, or returns an error if the refusal is one for lack of memory.
-fn refused(process: u8, refusal: Refusal) -> Result<Option<Told>, AllocError>
-    ensures { IfOk result (λ told.
-        (told ≡ Some (Told.Refused process refusal)) × (refusal ≡ Memory → ⊥)) }
+fn refused(process: u8, refusal: Refusal) -> Result<Option<TurnReport>, AllocError>
+    ensures { IfOk result (λ reported.
+        (reported ≡ Some (TurnReport.Refused process refusal)) × (refusal ≡ Memory → ⊥)) }
 {
     match refusal {
         Refusal::Memory => Err(AllocError),
-        _ => Ok(Some(Told::Refused { process, refusal })),
+        _ => Ok(Some(TurnReport::Refused { process, refusal })),
     }
 }
 

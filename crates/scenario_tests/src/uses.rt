@@ -5,7 +5,7 @@ ghost use Rattle.model.specs.{process_of};
 ghost use Rattle.scenario_tests.specs.Uses.{AreAlone, InputPrintsTrueReplies};
 
 use auditor::World;
-use engines::progress::Nobody;
+use engines::progress::NoObserver;
 use engines::{Summary, replay};
 use model::{Act, Event, Refusal};
 use scenario::{Fault, Sink, Source};
@@ -39,5 +39,5 @@ pub fn printed_replies<R: Source, W: Sink>(
     requires writes { W.failures output.old < 2 ^ 64 - 1 }
     ensures replies { OnOk result (InputPrintsTrueReplies (R.to_come input.old) (W.taken output.old) (W.taken output.new)) }
 {
-    replay(alloc, input, output, &mut Nobody)
+    replay(alloc, input, output, &mut NoObserver)
 }

@@ -52,11 +52,11 @@ fn sweep_again(
 /// Returns whether an auditor finds no fault with an entry.
 fn keeps_the_laws(auditor: &mut Auditor, entry: &Entry) -> bool {
     let (process, access, marks) = parts(entry);
-    auditor.hear(process, access, marks).is_none()
+    auditor.observe(process, access, marks).is_none()
 }
 
 /// Asserts that an auditor finds no fault with the entries of a record.
-fn hear_all(rt: &impl Abort, auditor: &mut Auditor, record: &Record) {
+fn observe_all(rt: &impl Abort, auditor: &mut Auditor, record: &Record) {
     for (number, entry) in record.entries.iter().enumerate() {
         assert!(rt; keeps_the_laws(auditor, entry), "entry {number}");
     }
@@ -89,9 +89,9 @@ fn events_of_lone_write(alloc: Global) -> Result<Vec<Event>, Fail> {
 }
 
 /// Asserts that an auditor finds no fault with the record of the file.
-fn hear_lone_write(rt: &(impl Abort + AllocGlobal), record: &Record) -> Result<(), AllocError> {
+fn observe_lone_write(rt: &(impl Abort + AllocGlobal), record: &Record) -> Result<(), AllocError> {
     let mut auditor = Auditor::new(rt.alloc(), &setup_of_lone_write())?;
-    hear_all(rt, &mut auditor, record);
+    observe_all(rt, &mut auditor, record);
     Ok(())
 }
 
@@ -104,7 +104,7 @@ fn is_good(alloc: Global, record: &Record) -> Result<bool, AllocError> {
 /// Returns whether a record breaks the local program at this entry.
 fn breaks_the_program(alloc: Global, record: &Record, entry: u64) -> Result<bool, AllocError> {
     let verdict = audit_again(alloc, &setup_of_lone_write(), record)?;
-    Ok(matches!(verdict, Verdict::Bad(told, Law::Program) if told == entry))
+    Ok(matches!(verdict, Verdict::Bad(reported, Law::Program) if reported == entry))
 }
 
 /// Removes the access of an entry.
@@ -117,7 +117,7 @@ fn drop_access(record: &mut Record, entry: usize) {
 /// Asserts that the record of the file is good, and that it breaks the local program without one access.
 fn audit_both(rt: &(impl Abort + AllocGlobal), record: &mut Record) -> Result<(), Fail> {
     assert!(rt; record.entries.len() == 761 && comes_inside(record));
-    hear_lone_write(rt, record)?;
+    observe_lone_write(rt, record)?;
     assert!(rt; is_good(rt.alloc(), record)?);
     drop_access(record, 756);
     assert!(rt; breaks_the_program(rt.alloc(), record, 756)?);
@@ -132,7 +132,7 @@ fn audit_record(rt: &(impl Abort + AllocGlobal), events: &[Event]) -> Result<(),
 
 // The record of a run has its entries and is good, and one without an access breaks the local program.
 #[test]
-fn hears_and_audits_a_record(rt: HostRuntime) -> Result<(), Fail> {
+fn observes_and_audits_a_record(rt: HostRuntime) -> Result<(), Fail> {
     let events = events_of_lone_write(rt.alloc())?;
     assert!(rt; events.len() == 761);
     audit_record(&rt, &events)

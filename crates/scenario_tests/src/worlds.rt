@@ -50,7 +50,7 @@ fn one_gives_up(rt: &impl Abort, world: &mut World) -> Result<(), Fail> {
 
 // A process that finished its doorway before a call began is ahead of it, until that process withdraws.
 #[test]
-fn tells_who_is_ahead(rt: HostRuntime) -> Result<(), Fail> {
+fn reports_who_is_ahead(rt: HostRuntime) -> Result<(), Fail> {
     let mut world = World::new(rt.alloc(), &Setup::one(2, 2, 2, 1))?;
     one_gives_up(&rt, &mut world)
 }

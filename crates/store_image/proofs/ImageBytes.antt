@@ -178,14 +178,14 @@ IsStore-empty_store slots callers some few few_callers = record {
 pub IsImage-empty_store : (slots callers : ℕ) (bytes : List ℕ) → 1 ≤ slots → slots ≤ 8 → callers ≤ 16 → bytes ≡ replicate 216 0 → IsImage (empty_store slots callers) 0 slots callers bytes
 IsImage-empty_store slots callers bytes some few few_callers zeros =
     let n : ℕ = 23 * slots + 2 * callers in
-    let left : n + (216 - length (replicate n 0)) ≡ 216 = omega (arith, length-replicate {A = ℕ} n 0) in
+    let remaining : n + (216 - length (replicate n 0)) ≡ 216 = omega (arith, length-replicate {A = ℕ} n 0) in
     record {
       used_slots = refl;
       all_slots = refl;
       all_callers = sym (length-replicate callers 0);
       whole =
           zeros
-          ∙ ap (λ k. replicate k 0) (sym left)
+          ∙ ap (λ k. replicate k 0) (sym remaining)
           ∙ sym (replicate-append-replicate n (216 - length (replicate n 0)) 0)
           ∙ ap (padded 216) (sym (image_of-empty_store slots callers));
     }

@@ -40,16 +40,16 @@ length-put (e ∷ es) name x = by (length-put es name x) (bytes_eq name e.0)
     by more false = omega (arith, more)
 
 -- the pair is in the place of its name
-pub set_place : (pairs : List Pair) (name : List ℕ) (x : Value) (free left : ℕ) → place_of pairs name < length pairs + free → length (put pairs name x) + left ≡ length pairs + free → set (map Some pairs ++ replicate free None) (place_of pairs name) (Some (name, x)) ≡ map Some (put pairs name x) ++ replicate left None
-set_place [] name x zero left room same = absurd (omega arith)
-set_place [] name x (suc free) left room same =
-    let this : free ≡ left = omega arith in
+pub set_place : (pairs : List Pair) (name : List ℕ) (x : Value) (free remaining : ℕ) → place_of pairs name < length pairs + free → length (put pairs name x) + remaining ≡ length pairs + free → set (map Some pairs ++ replicate free None) (place_of pairs name) (Some (name, x)) ≡ map Some (put pairs name x) ++ replicate remaining None
+set_place [] name x zero remaining room same = absurd (omega arith)
+set_place [] name x (suc free) remaining room same =
+    let this : free ≡ remaining = omega arith in
     ap (λ k. Some (name, x) ∷ replicate k None) this
-set_place (e ∷ es) name x free left room same = by (λ near long. set_place es name x free left near long) (bytes_eq name e.0) ((bytes_eq-Decides name e.0).0) room same
+set_place (e ∷ es) name x free remaining room same = by (λ near long. set_place es name x free remaining near long) (bytes_eq name e.0) ((bytes_eq-Decides name e.0).0) room same
   where
-    by : (place_of es name < length es + free → length (put es name x) + left ≡ length es + free → set (map Some es ++ replicate free None) (place_of es name) (Some (name, x)) ≡ map Some (put es name x) ++ replicate left None) → (b : Bool) → (b ≡ true → name ≡ e.0) → (if b then 0 else suc (place_of es name)) < suc (length es) + free → length (if b then (e.0, x) ∷ es else e ∷ put es name x) + left ≡ suc (length es) + free → set (Some e ∷ (map Some es ++ replicate free None)) (if b then 0 else suc (place_of es name)) (Some (name, x)) ≡ map Some (if b then (e.0, x) ∷ es else e ∷ put es name x) ++ replicate left None
+    by : (place_of es name < length es + free → length (put es name x) + remaining ≡ length es + free → set (map Some es ++ replicate free None) (place_of es name) (Some (name, x)) ≡ map Some (put es name x) ++ replicate remaining None) → (b : Bool) → (b ≡ true → name ≡ e.0) → (if b then 0 else suc (place_of es name)) < suc (length es) + free → length (if b then (e.0, x) ∷ es else e ∷ put es name x) + remaining ≡ suc (length es) + free → set (Some e ∷ (map Some es ++ replicate free None)) (if b then 0 else suc (place_of es name)) (Some (name, x)) ≡ map Some (if b then (e.0, x) ∷ es else e ∷ put es name x) ++ replicate remaining None
     by more true equal near long =
-        let this : free ≡ left = omega arith in
+        let this : free ≡ remaining = omega arith in
         λ j. Some (equal refl j, x) ∷ (map Some es ++ replicate (this j) None)
     by more false equal near long = ap (λ rest. Some e ∷ rest) (more (omega (arith, near)) (omega (arith, long)))
 

@@ -139,7 +139,7 @@ fn is_read_by_the_table(bytes: &[u8], slots: usize, callers: u8) -> bool
 {
     let read = Image::read(bytes, callers);
     match first_fault(bytes, slots) {
-        Some(place) => matches!(read, Err(BadImage::Slot(told)) if told == place),
+        Some(place) => matches!(read, Err(BadImage::Slot(reported)) if reported == place),
         None => matches!(read, Ok(image) if image.bytes() == bytes),
     }
 }

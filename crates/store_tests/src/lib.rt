@@ -11,6 +11,6 @@ mod printing;
 #[cfg(test)]
 mod stores;
 #[cfg(test)]
-mod watching;
+mod monitoring;
 #[cfg(test)]
 mod weighing;

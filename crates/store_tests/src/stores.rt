@@ -44,8 +44,8 @@ fn replies_to<S: Store>(
 /// Asserts the replies of a store to the calls.
 fn replies<S: Store>(rt: &(impl Abort + AllocGlobal), store: &mut S) -> Result<(), Fail> {
     let scenario = read_scenario(rt.alloc(), CALLS.as_bytes())?;
-    let told = replies_to(rt.alloc(), store, &scenario.lines)?;
-    assert!(rt; told.as_str() == REPLIES, "{told}");
+    let reported = replies_to(rt.alloc(), store, &scenario.lines)?;
+    assert!(rt; reported.as_str() == REPLIES, "{told}");
     Ok(())
 }
 

@@ -1,6 +1,6 @@
 //! A sink that fails during a record.
 use crate::devices::{FailingSink, FailingSource, Taking};
-use engines::progress::Nobody;
+use engines::progress::NoObserver;
 use engines::run_record;
 use scenario::Fault;
 use std::alloc::{AllocError, Global};
@@ -23,7 +23,7 @@ const FRONTS: [(usize, &str); 3] = [
 fn recorded(alloc: Global, call: usize, text: &str) -> Result<(Option<Fault>, bool), AllocError> {
     let mut input = FailingSource::new(FAILURE, usize::MAX);
     let mut output = FailingSink::new(alloc, Taking::All, Some((call, Taking::Failure)))?;
-    let fault = run_record(alloc, &mut input, &mut output, &mut Nobody).err();
+    let fault = run_record(alloc, &mut input, &mut output, &mut NoObserver).err();
     Ok((fault, output.written.as_slice() == text.as_bytes()))
 }
 

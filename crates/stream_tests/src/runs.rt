@@ -2,7 +2,7 @@
 ghost use Rattle.std.specs.Prelude.{◌≡◌};
 
 use crate::devices::{FailingSink, FailingSource};
-use engines::progress::Nobody;
+use engines::progress::NoObserver;
 use engines::{replay, run_audit, run_bits, run_plain, run_sweep};
 use scenario::{DONE, Fault, FaultKind};
 use std::alloc::Global;
@@ -133,10 +133,10 @@ pub fn run(
         FileEngine::Plain => run_plain(alloc, input, output)?,
         FileEngine::Bits => run_bits(alloc, input, output)?,
         FileEngine::Replay => {
-            replay(alloc, input, output, &mut Nobody)?;
+            replay(alloc, input, output, &mut NoObserver)?;
         }
-        FileEngine::Audit => return run_audit(alloc, input, output, &mut Nobody),
-        FileEngine::Sweep => return run_sweep(alloc, input, output, &mut Nobody),
+        FileEngine::Audit => return run_audit(alloc, input, output, &mut NoObserver),
+        FileEngine::Sweep => return run_sweep(alloc, input, output, &mut NoObserver),
     }
     Ok(DONE)
 }

@@ -80,16 +80,16 @@ few_cuts s calls (event ∷ before) = by (is_cut s event before) (few_cuts s cal
     by true few = let long = length-append (cuts s calls before) two in omega (arith, few, long)
     by false few = let long = ap length (append-nil (cuts s calls before)) in omega (arith, few, long)
 
--- the walker takes the event, and `told` is whether it is accepted
-module _ (calls : List (ℕ × Command)) (event : Event) (old : Sweeper) (walker : RunnerState) (told : Bool) (goes : RunsOn old.walker walker (λ events. event ∷ events)) (kept : walker.core.setup ≡ old.walker.core.setup) (tells : Accepts old.walker event told) where
+-- the walker takes the event, and `reported` is whether it is accepted
+module _ (calls : List (ℕ × Command)) (event : Event) (old : Sweeper) (walker : RunnerState) (reported : Bool) (goes : RunsOn old.walker walker (λ events. event ∷ events)) (kept : walker.core.setup ≡ old.walker.core.setup) (reports : Accepts old.walker event reported) where
   abbrev pub mid : Sweeper
   mid = record { walker = walker; runner = old.runner; found = old.found }
 
   walked : (s : Setup) (before : List Event) (cs : List Cut) → HasSwept s before cs old → HasSwept s (event ∷ before) cs mid
   walked s before cs swept = record { follows = goes before swept.follows; walker_setup = kept ∙ swept.walker_setup; runner_setup = swept.runner_setup; counts = swept.counts }
 
-  accepted_as : (b : Bool) → told ≡ b → OfSweep old (λ s calls before. is_accepted s before event ≡ b)
-  accepted_as b is s calls before swept = sym (tells before swept.follows ∙ ap (λ s. is_accepted s before event) swept.walker_setup) ∙ is
+  accepted_as : (b : Bool) → reported ≡ b → OfSweep old (λ s calls before. is_accepted s before event ≡ b)
+  accepted_as b is s calls before swept = sym (reports before swept.follows ∙ ap (λ s. is_accepted s before event) swept.walker_setup) ∙ is
 
   -- there is room for a run after the event, and for one more
   room_for : (room : CanSweep calls 1 old) (cs : List Cut) (sweeper : Sweeper) → length cs ≤ length (cuts room.setup calls room.before) + 1 → HasSwept room.setup (event ∷ room.before) cs sweeper → CanRun calls sweeper
@@ -127,21 +127,21 @@ module _ (calls : List (ℕ × Command)) (event : Event) (old : Sweeper) (walker
       (sym (ap (λ b. cuts s calls before ++ cond b (cut s calls event before false ∷ cut s calls event before true ∷ []) []) (none s calls before swept) ∙ append-nil (cuts s calls before)))
       (walked s before (cuts s calls before) swept)
 
-  pub refused_on : told ≡ false → SweepsOn calls event old mid
+  pub refused_on : reported ≡ false → SweepsOn calls event old mid
   refused_on is = uncut_on (λ s calls before swept. ap (λ b. b && is_accepted s (event ∷ before) (Fail (process_of event))) (accepted_as false is s calls before swept))
 
   -- it is accepted, and then its process may fail or not
-  cut_as : (p : ℕ) (may b : Bool) → told ≡ true → p ≡ process_of event → Accepts walker (Fail p) may → may ≡ b → OfSweep old (λ s calls before. is_cut s event before ≡ b)
+  cut_as : (p : ℕ) (may b : Bool) → reported ≡ true → p ≡ process_of event → Accepts walker (Fail p) may → may ≡ b → OfSweep old (λ s calls before. is_cut s event before ≡ b)
   cut_as p may b is own asks fails s calls before swept =
       let then = walked s before (cuts s calls before) swept in
       ap (λ b. b && is_accepted s (event ∷ before) (Fail (process_of event))) (accepted_as true is s calls before swept)
       ∙ sym (asks (event ∷ before) then.follows ∙ (λ i. is_accepted (then.walker_setup i) (event ∷ before) (Fail (own i)))) ∙ fails
 
-  pub standing_on : (p : ℕ) (may : Bool) → told ≡ true → p ≡ process_of event → Accepts walker (Fail p) may → may ≡ false → SweepsOn calls event old mid
+  pub standing_on : (p : ℕ) (may : Bool) → reported ≡ true → p ≡ process_of event → Accepts walker (Fail p) may → may ≡ false → SweepsOn calls event old mid
   standing_on p may is own asks fails = uncut_on (cut_as p may false is own asks fails)
 
   -- two runs are cut
-  pub cut_on : (once new : Sweeper) (p : ℕ) (may : Bool) → told ≡ true → p ≡ process_of event → Accepts walker (Fail p) may → may ≡ true → CountsRun p false calls mid once → CountsRun p true calls once new → SweepsOn calls event old new
+  pub cut_on : (once new : Sweeper) (p : ℕ) (may : Bool) → reported ≡ true → p ≡ process_of event → Accepts walker (Fail p) may → may ≡ true → CountsRun p false calls mid once → CountsRun p true calls once new → SweepsOn calls event old new
   cut_on once new p may is own asks fails first second s before swept =
       let runs = cuts s calls before in
       let run = cut s calls event before false in

@@ -5,7 +5,7 @@ use Rattle.std.proofs.lemmas.List.FromFn.{length-range_with_len}
 use Rattle.plain_store.proofs.GoodSetups.{few-processes}
 use Rattle.plain_store.specs.{Reply, Setup}
 use Rattle.model.specs.{Entry, Event, Past, Taken, entry_of, history, is_call, past_of, processes, reply_taken}
-use Rattle.world.specs.process.{Effect}
+use Rattle.world.specs.process.{EventOutcome}
 use Rattle.world.specs.{CoreState, Seat, pending_in, seat_of, taking, with_history}
 use Rattle.world.specs.Shows.{Shows, WorldState}
 use Rattle.world.proofs.WorldPending.{pending-most}
@@ -46,7 +46,7 @@ few_due r events follows =
     omega (arith, taken, few, pending, seats)
 
 -- only a call increases the number
-pub few_made : (event : Event) (effect : Effect) (seats new : List Seat) (taken then : ℕ) → length seats ≤ 16 → then ≡ taken + taking effect →
+pub few_made : (event : Event) (effect : EventOutcome) (seats new : List Seat) (taken then : ℕ) → length seats ≤ 16 → then ≡ taken + taking effect →
     (is_call event ≡ false → pending_in new + taking effect ≤ pending_in seats) → pending_in new + taking effect ≤ length seats →
     then + pending_in new ≤ taken + pending_in seats + cond (is_call event) 16 0
 few_made event effect seats new taken then few is pending most = by (is_call event) pending

@@ -11,20 +11,20 @@ use Rattle.model.specs.declared.events.Event.TheVariants.{Step}
 use Rattle.sweeper.specs.{Follows, OfRun, RunnerState, RunsBy, as_long_as}
 
 -- some of the loop is done: the rest leads from the present run to the run to which the whole loop leads from the first one
-pub record Going (test : List Event → Bool) (on : List Event → List Event) (most : ℕ) (events : List Event) (r : RunnerState) (left : ℕ) : Type 0 where
+pub record Going (test : List Event → Bool) (on : List Event → List Event) (most : ℕ) (events : List Event) (r : RunnerState) (remaining : ℕ) : Type 0 where
   pub now : List Event
   pub follows : Follows r now
-  pub whole : as_long_as test on left now ≡ as_long_as test on most events
+  pub whole : as_long_as test on remaining now ≡ as_long_as test on most events
 
 -- one more iteration
-again : (test : List Event → Bool) (on : List Event → List Event) (left : ℕ) (now : List Event) → 0 < left → test now ≡ true → as_long_as test on left now ≡ as_long_as test on (left - 1) (on now)
+again : (test : List Event → Bool) (on : List Event → List Event) (remaining : ℕ) (now : List Event) → 0 < remaining → test now ≡ true → as_long_as test on remaining now ≡ as_long_as test on (remaining - 1) (on now)
 again test on zero now some holds = absurd (omega (arith, some))
 again test on (suc n) now some holds =
     let less : n ≡ suc n - 1 = omega arith in
     ap (λ b. cond b (as_long_as test on n (on now)) now) holds ∙ ap (λ n. as_long_as test on n (on now)) less
 
 -- the test fails
-pub ended : (test : List Event → Bool) (on : List Event → List Event) (left : ℕ) (now : List Event) → test now ≡ false → as_long_as test on left now ≡ now
+pub ended : (test : List Event → Bool) (on : List Event → List Event) (remaining : ℕ) (now : List Event) → test now ≡ false → as_long_as test on remaining now ≡ now
 ended test on zero now fails = refl
 ended test on (suc n) now fails = ap (λ b. cond b (as_long_as test on n (on now)) now) fails
 
@@ -41,31 +41,31 @@ as_long_more test on (suc m) n now =
     by more false fails = sym (ended test on n now fails)
 
 -- the loop of a runner of this setup, which computes whether the test holds
-module _ (test : Setup → List Event → Bool) (on : Setup → List Event → List Event) (s : Setup) (most : ℕ) (events : List Event) (r : RunnerState) (left : ℕ) (same : r.core.setup ≡ s) where
-  asked : (told b : Bool) → OfRun r (λ s now. told ≡ test s now) → told ≡ b → (now : List Event) → Follows r now → test s now ≡ b
-  asked told b asks is now here = sym (asks now here ∙ ap (λ s. test s now) same) ∙ is
+module _ (test : Setup → List Event → Bool) (on : Setup → List Event → List Event) (s : Setup) (most : ℕ) (events : List Event) (r : RunnerState) (remaining : ℕ) (same : r.core.setup ≡ s) where
+  asked : (reported b : Bool) → OfRun r (λ s now. reported ≡ test s now) → reported ≡ b → (now : List Event) → Follows r now → test s now ≡ b
+  asked reported b asks is now here = sym (asks now here ∙ ap (λ s. test s now) same) ∙ is
 
-  pub going_on : (new : RunnerState) (told : Bool) → 0 < left → OfRun r (λ s now. told ≡ test s now) → told ≡ true → RunsBy r new on → Going (test s) (on s) most events r left → Going (test s) (on s) most events new (left - 1)
-  going_on new told some asks holds makes g = record {
+  pub going_on : (new : RunnerState) (reported : Bool) → 0 < remaining → OfRun r (λ s now. reported ≡ test s now) → reported ≡ true → RunsBy r new on → Going (test s) (on s) most events r remaining → Going (test s) (on s) most events new (remaining - 1)
+  going_on new reported some asks holds makes g = record {
     now = on s g.now;
     follows = subst (λ s. Follows new (on s g.now)) same (makes g.now g.follows);
-    whole = sym (again (test s) (on s) left g.now some (asked told true asks holds g.now g.follows)) ∙ g.whole;
+    whole = sym (again (test s) (on s) remaining g.now some (asked reported true asks holds g.now g.follows)) ∙ g.whole;
   }
 
   -- it makes several iterations at once, while the test holds
-  pub going_by : (new : RunnerState) (by : ℕ) → by ≤ left → RunsBy r new (λ s. as_long_as (test s) (on s) by) → Going (test s) (on s) most events r left → Going (test s) (on s) most events new (left - by)
+  pub going_by : (new : RunnerState) (by : ℕ) → by ≤ remaining → RunsBy r new (λ s. as_long_as (test s) (on s) by) → Going (test s) (on s) most events r remaining → Going (test s) (on s) most events new (remaining - by)
   going_by new by few makes g = record {
     now = as_long_as (test s) (on s) by g.now;
     follows = subst (λ s. Follows new (as_long_as (test s) (on s) by g.now)) same (makes g.now g.follows);
     whole =
-        let all : by + (left - by) ≡ left = omega (arith, few) in
-        sym (as_long_more (test s) (on s) by (left - by) g.now) ∙ ap (λ n. as_long_as (test s) (on s) n g.now) all ∙ g.whole;
+        let all : by + (remaining - by) ≡ remaining = omega (arith, few) in
+        sym (as_long_more (test s) (on s) by (remaining - by) g.now) ∙ ap (λ n. as_long_as (test s) (on s) n g.now) all ∙ g.whole;
   }
 
-  pub going_ended : (told : Bool) → OfRun r (λ s now. told ≡ test s now) → told ≡ false → Going (test s) (on s) most events r left → Follows r (as_long_as (test s) (on s) most events)
-  going_ended told asks fails g = subst (Follows r) (sym (ended (test s) (on s) left g.now (asked told false asks fails g.now g.follows)) ∙ g.whole) g.follows
+  pub going_ended : (reported : Bool) → OfRun r (λ s now. reported ≡ test s now) → reported ≡ false → Going (test s) (on s) most events r remaining → Follows r (as_long_as (test s) (on s) most events)
+  going_ended reported asks fails g = subst (Follows r) (sym (ended (test s) (on s) remaining g.now (asked reported false asks fails g.now g.follows)) ∙ g.whole) g.follows
 
-  pub going_over : left ≡ 0 → Going (test s) (on s) most events r left → Follows r (as_long_as (test s) (on s) most events)
+  pub going_over : remaining ≡ 0 → Going (test s) (on s) most events r remaining → Follows r (as_long_as (test s) (on s) most events)
   going_over none g = subst (Follows r) (sym (ap (λ n. as_long_as (test s) (on s) n g.now) none) ∙ g.whole) g.follows
 
 -- Over a range.

@@ -1,7 +1,7 @@
 pub use Rattle.auditor.proofs.laws as laws
 -- A runner makes an event
 pub mod Accepted
-pub mod Movers
+pub mod Enabled
 pub mod Making
 pub mod Dues
 -- It continues

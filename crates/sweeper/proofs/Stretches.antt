@@ -6,12 +6,12 @@ use Rattle.model.specs.declared.events.Event.TheVariants.{Step}
 use Rattle.world.specs.choices.{FlickState, Mode, after_flick, flick_of, flicks_after, is_constant}
 use Rattle.world.specs.choices.Flicks.{after_flick_by, is_constant_by}
 use Rattle.world.specs.choices.declared.Mode.TheVariants.{Constant, Generator}
-use Rattle.world.specs.{CoreState, CoreWalks, left_in, with_history}
+use Rattle.world.specs.{CoreState, CoreWalks, remaining_in, with_history}
 use Rattle.world.specs.Shows.{Shows, WorldState}
 use Rattle.world.specs.Walks.{Walks}
 use Rattle.world.proofs.WorldOpen.{core-shown, core_of, history-shown}
 use Rattle.world.proofs.WorldShows.{past-after}
-use Rattle.auditor.specs.{AuditorState, HasHeard, HearsRun, IsHeard, KeepsAll, Law, steps_on}
+use Rattle.auditor.specs.{AuditorState, HasObserved, ObservesRun, IsObserved, KeepsAll, Law, steps_on}
 use Rattle.auditor.specs.safe_monitor.{entry_by}
 use Rattle.auditor.proofs.Obeys.{obeys}
 use Rattle.auditor.proofs.Stretches.{walks-flicks, walks-setup, walks-shown}
@@ -65,17 +65,17 @@ all-made (suc k) newest overlapped old new f g p events is (w, x, access, before
 -- the core of the auditor is equal to that of the runner
 same-core : (r : RunnerState) (events : List Event) → Follows r events → r.auditor.core ≡ r.core
 same-core r events follows =
-    let h = follows.heard in
+    let h = follows.observed in
     core-shown r.auditor.core (history r.auditor.core.setup (past_of r.core.setup events)) h.events h.shows
     ∙ (λ i. core_of (follows.alike i) (h.past_is i))
     ∙ sym (core-shown r.core (history r.core.setup (past_of r.core.setup events)) events follows.shows)
 
 -- an auditor has returned this law for a stretch
 pub record IsAnsweredRun (old : AuditorState) (f : FlickState) (p n : ℕ) (newest : Access) (law : Option Law) (new : AuditorState) : Type 0 where
-  pub heard : HearsRun old f p n newest new law
+  pub observed : ObservesRun old f p n newest new law
   pub setup : new.core.setup ≡ old.core.setup
 
-module _ (old : RunnerState) (core : CoreState) (f g : FlickState) (p k overlapped : ℕ) (newest : Access) (runs : CoreWalks old.core f p (suc k) newest overlapped core g) (within : suc k ≤ left_in old.core.seats p) (law : Option Law) (auditor : AuditorState)
+module _ (old : RunnerState) (core : CoreState) (f g : FlickState) (p k overlapped : ℕ) (newest : Access) (runs : CoreWalks old.core f p (suc k) newest overlapped core g) (within : suc k ≤ remaining_in old.core.seats p) (law : Option Law) (auditor : AuditorState)
     (a : IsAnsweredRun old.auditor f p (suc k) newest law auditor) (events : List Event) (follows : Follows old events) where
   abbrev s : Setup
   s = old.core.setup
@@ -104,23 +104,23 @@ module _ (old : RunnerState) (core : CoreState) (f g : FlickState) (p k overlapp
   keeps : KeepsAll s (past_of s before) e
   keeps = obeys s follows.shows.good before (Step p (flick_of (flicks_after k f))) e (subst (λ (s : Setup). AreGiven s after) same-setup shown.given) adds
 
-  answer : IsHeard s (past_of s before) e auditor law
+  answer : IsObserved s (past_of s before) e auditor law
   answer =
       let less : suc k - 1 ≡ k = omega arith in
-      let here : HasHeard old.auditor (past_of old.auditor.core.setup events) = subst (λ (s : Setup). HasHeard old.auditor (past_of s events)) (sym follows.alike) follows.heard in
-      let there : suc k ≤ left_in old.auditor.core.seats p = subst (λ (c : CoreState). suc k ≤ left_in c.seats p) (sym (same-core old events follows)) within in
-      subst (λ (s : Setup). IsHeard s (past_of s before) e auditor law) follows.alike
-      (subst (λ n. IsHeard old.auditor.core.setup (past_of old.auditor.core.setup (steps_on p f n events)) e auditor law) less (a.heard there events here))
+      let here : HasObserved old.auditor (past_of old.auditor.core.setup events) = subst (λ (s : Setup). HasObserved old.auditor (past_of s events)) (sym follows.alike) follows.observed in
+      let there : suc k ≤ remaining_in old.auditor.core.seats p = subst (λ (c : CoreState). suc k ≤ remaining_in c.seats p) (sym (same-core old events follows)) within in
+      subst (λ (s : Setup). IsObserved s (past_of s before) e auditor law) follows.alike
+      (subst (λ n. IsObserved old.auditor.core.setup (past_of old.auditor.core.setup (steps_on p f n events)) e auditor law) less (a.observed there events here))
 
   pub none-answered : law ≡ None
   none-answered = by law answer
     where
-      by : (law : Option Law) → IsHeard s (past_of s before) e auditor law → law ≡ None
+      by : (law : Option Law) → IsObserved s (past_of s before) e auditor law → law ≡ None
       by None is = refl
       by (Some l) is = absurd (is.broken (keeps l))
 
-  heard : HasHeard auditor (e ∷ past_of s before)
-  heard = (subst (IsHeard s (past_of s before) e auditor) none-answered answer).1
+  observed : HasObserved auditor (e ∷ past_of s before)
+  observed = (subst (IsObserved s (past_of s before) e auditor) none-answered answer).1
 
   follows-after : Follows (record { core = core; auditor = auditor; taken = old.taken }) after
   follows-after =
@@ -128,7 +128,7 @@ module _ (old : RunnerState) (core : CoreState) (f g : FlickState) (p k overlapp
       let its : taken ≡ history core.setup (past_of core.setup after) = history-shown core taken after shown in
       record {
         shows = subst (λ (taken : List Taken). Shows (with_history core taken) after) its shown;
-        heard = subst (HasHeard auditor) (sym now) heard;
+        observed = subst (HasObserved auditor) (sym now) observed;
         alike = a.setup ∙ follows.alike ∙ sym same-setup;
         taken = follows.taken ∙ ap length its;
       }
@@ -144,7 +144,7 @@ pub record HasRunOn (old : RunnerState) (f : FlickState) (p n : ℕ) (law : Opti
   pub follows : Follows new (steps_of old.core.setup p (flick_of f) n events)
   pub setup : new.core.setup ≡ old.core.setup
 
-pub has-run-on : (old : RunnerState) (core : CoreState) (f g : FlickState) (p n overlapped : ℕ) (newest : Access) → 0 < n → n ≤ left_in old.core.seats p → is_constant f ≡ true → CoreWalks old.core f p n newest overlapped core g →
+pub has-run-on : (old : RunnerState) (core : CoreState) (f g : FlickState) (p n overlapped : ℕ) (newest : Access) → 0 < n → n ≤ remaining_in old.core.seats p → is_constant f ≡ true → CoreWalks old.core f p n newest overlapped core g →
     (law : Option Law) (auditor : AuditorState) → IsAnsweredRun old.auditor f p n newest law auditor → (events : List Event) → Follows old events → HasRunOn old f p n law (record { core = core; auditor = auditor; taken = old.taken }) events
 has-run-on old core f g p zero overlapped newest some within constant runs law auditor a events follows = absurd (omega (arith, some))
 has-run-on old core f g p (suc k) overlapped newest some within constant runs law auditor a events follows = record {

@@ -10,7 +10,7 @@ use Rattle.model.specs.declared.stages.Stage.TheVariants as stages
 use Rattle.auditor.proofs.laws.UnitSteps.{GoesOn, few_accesses, unit_goes_on}
 use Rattle.sweeper.specs.{AreDownInTime, UnitsAreDownInTime, is_accepted, most, moves, stands, steps_of}
 use Rattle.sweeper.proofs.Going.{ended}
-use Rattle.sweeper.proofs.Movers.{fails_of_standing, steps_of_movers}
+use Rattle.sweeper.proofs.Enabled.{fails_of_standing, steps_of_enabled}
 
 -- the number of accesses that the unit of p has made
 abbrev pub made_by : Setup → ℕ → List Event → ℕ
@@ -22,7 +22,7 @@ none_of (Some r) h = cc
 
 -- a step of p at a stage
 step_at : (s : Setup) (events : List Event) (p : ℕ) (v : Bool) (x : Stage) → nat_lt p s.processes ≡ true → stage p (past_of s events) ≡ x → is_accepted s events (Step p v) ≡ moves x
-step_at s events p v x there at = steps_of_movers s events p v ∙ ap (λ b. b && moves (stage p (past_of s events))) there ∙ ap moves at
+step_at s events p v x there at = steps_of_enabled s events p v ∙ ap (λ b. b && moves (stage p (past_of s events))) there ∙ ap moves at
 
 -- a unit that has at most n steps left reaches its end
 unit_ends : (s : Setup) → checked s ≡ Ok tt → (p : ℕ) (v : Bool) → nat_lt p s.processes ≡ true → (n : ℕ) (events : List Event) → stage p (past_of s events) ≡ stages.Settling → 1088 ≤ made_by s p events + n →

@@ -4,8 +4,8 @@ use Rattle.plain_store.specs.{Command, Setup}
 use Rattle.model.specs.{Event, history, past_of}
 use Rattle.world.specs.{CoreState, pending_in, with_history}
 use Rattle.world.specs.Shows.{Shows}
-use Rattle.auditor.specs.{AuditorState, HasHeard}
-use Rattle.sweeper.specs.declared.runner.BadEntry.{BadEntry}
+use Rattle.auditor.specs.{AuditorState, HasObserved}
+use Rattle.sweeper.specs.declared.audited_run.BadEntry.{BadEntry}
 use Rattle.sweeper.specs.Sweeps.{Run, cut_off, is_accepted, on_from, with_call, with_calls}
 
 -- a core, its auditor, and the number of commands taken
@@ -17,7 +17,7 @@ pub record RunnerState : Type 0 where
 -- the runner shows a run: its core is that of the world that shows these events, and its auditor has observed their whole record without a broken law
 pub record Follows (r : RunnerState) (events : List Event) : Type 0 where
   pub shows : Shows (with_history r.core (history r.core.setup (past_of r.core.setup events))) events
-  pub heard : HasHeard r.auditor (past_of r.core.setup events)
+  pub observed : HasObserved r.auditor (past_of r.core.setup events)
   pub alike : r.auditor.core.setup ≡ r.core.setup
   pub taken : r.taken ≡ length (history r.core.setup (past_of r.core.setup events))
 
@@ -44,9 +44,9 @@ RunsBy old new on = RunsOn old new (on old.core.setup)
 abbrev pub OfRun : RunnerState → (Setup → List Event → Type 0) → Type 0
 OfRun r P = (events : List Event) → Follows r events → P r.core.setup events
 
--- `told` is whether the event is accepted
+-- `reported` is whether the event is accepted
 abbrev pub Accepts : RunnerState → Event → Bool → Type 0
-Accepts r event told = OfRun r (λ s events. told ≡ is_accepted s events event)
+Accepts r event reported = OfRun r (λ s events. reported ≡ is_accepted s events event)
 
 -- the runner shows this run, which has met a limit or not
 pub record IsRun (r : RunnerState) (met : Bool) (run : Run) : Type 0 where

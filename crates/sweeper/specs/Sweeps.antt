@@ -168,9 +168,9 @@ abbrev pub is_there : (Stage → Bool) → Setup → List Event → ℕ → Bool
 is_there test s events p = nat_lt p s.processes && test (stage p (past_of s events))
 
 -- A step is accepted if and only if its process runs or its memory unit settles.
-abbrev pub StepsAreOfWhomMoves : Type 0
-StepsAreOfWhomMoves = (s : Setup) (events : List Event) (p : ℕ) (v : Bool) → is_accepted s events (Step p v) ≡ is_there moves s events p
+abbrev pub StepsAreOfEnabled : Type 0
+StepsAreOfEnabled = (s : Setup) (events : List Event) (p : ℕ) (v : Bool) → is_accepted s events (Step p v) ≡ is_there moves s events p
 
 -- A failure is accepted if and only if its process has not failed and is not down.
-abbrev pub FailsAreOfWhomStands : Type 0
-FailsAreOfWhomStands = (s : Setup) (events : List Event) (p : ℕ) → is_accepted s events (Fail p) ≡ is_there stands s events p
+abbrev pub FailsAreOfUnfailed : Type 0
+FailsAreOfUnfailed = (s : Setup) (events : List Event) (p : ℕ) → is_accepted s events (Fail p) ≡ is_there stands s events p

@@ -5,7 +5,7 @@ use Rattle.std.proofs.Common.{arith}
 use Rattle.plain_store.specs.{Command, Setup}
 use Rattle.model.specs.{Event, past_of, process_of}
 use Rattle.auditor.specs.{AllKeep}
-use Rattle.sweeper.specs.declared.runner.BadEntry.{BadEntry}
+use Rattle.sweeper.specs.declared.audited_run.BadEntry.{BadEntry}
 use Rattle.sweeper.specs.declared.swept.BadRun.{BadRun}
 use Rattle.sweeper.specs.declared.swept.Swept.{Swept}
 use Rattle.sweeper.specs.declared.sweeping.Sweeper.{Sweeper}

@@ -24,7 +24,7 @@
 #![tactic(auto)]
 
 mod laws_of_sweeps;
-mod runner;
+mod audited_run;
 mod runs;
 mod shown;
 mod sweeping;
@@ -32,7 +32,7 @@ mod swept;
 
 pub use files::progress;
 pub use laws_of_sweeps::{
-    fails_are_of_whom_stands, steps_are_of_whom_moves, swept_runs_are_good, units_are_down_in_time,
+    fails_are_of_unfailed, steps_are_of_enabled, swept_runs_are_good, units_are_down_in_time,
 };
 pub use sweeping::{Sweeper, sweep};
 pub use swept::{BadRun, Swept};

@@ -3,7 +3,7 @@ ghost use Rattle.std.specs.Prelude.{◌≡◌, ◌+◌, ◌*◌, ◌^◌, ◌<�
 ghost use Rattle.sweeper.specs.Runners.{MakesCall, MakesCalls, MakesRun, OfRun, RunsBy, due};
 ghost use Rattle.sweeper.specs.Sweeps.{cut_off, goes, most as most_of, round, rounds, steps_of};
 
-use crate::runner::Runner;
+use crate::audited_run::AuditedRun;
 use plain_store::Command;
 use model::Event;
 use world::Flicks;
@@ -15,7 +15,7 @@ fn limit() -> u32
     65_536
 }
 
-impl Runner {
+impl AuditedRun {
     /// Makes steps of a process while it has one to make, at most `most`: each stretch within a register access at once, and
     /// each other step by itself.
     fn walk(&mut self, process: u8, value: bool, most: u32)
@@ -25,18 +25,18 @@ impl Runner {
         ensures setup { self.new.core.setup ≡ self.old.core.setup }
     {
         let flicks = Flicks::constant(value);
-        let mut left = most;
-        'steps: while 0 < left {
-            let within = self.left(process).min(left);
+        let mut remaining = most;
+        'steps: while 0 < remaining {
+            let within = self.remaining(process).min(remaining);
             if within > 0 {
                 self.run_on(process, &flicks, within);
-                left -= within;
+                remaining -= within;
                 continue;
             }
             if !self.step(process, value) {
                 return;
             }
-            left -= 1;
+            remaining -= 1;
         }
     }
 
@@ -83,13 +83,13 @@ impl Runner {
         ensures few { due self.new ≤ due self.old }
         ensures setup { self.new.core.setup ≡ self.old.core.setup }
     {
-        let mut left = most;
-        'rounds: while 0 < left {
+        let mut remaining = most;
+        'rounds: while 0 < remaining {
             if !self.goes(value) {
                 return;
             }
             self.round(value);
-            left -= 1;
+            remaining -= 1;
         }
     }
 

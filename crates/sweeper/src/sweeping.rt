@@ -4,7 +4,7 @@ ghost use Rattle.plain_store.specs.{checked};
 ghost use Rattle.sweeper.specs.Sweeps.{AreAllGood, AreDownInTime, IsFound, IsSwept, KeepHeadline, SweptKeepHeadline, cuts};
 ghost use Rattle.sweeper.specs.Tallies.{CanRun, CanSweep, CountsRun, OfSweep, RoomAtFirst, SweepsNone, SweepsOn};
 
-use crate::runner::Runner;
+use crate::audited_run::AuditedRun;
 use crate::swept::Swept;
 use plain_store::{Command, Setup};
 use model::Event;
@@ -48,8 +48,8 @@ pub fn sweep(
 /// one, so its caller does not need a list of them.
 #[derive(Drop)]
 pub struct Sweeper {
-    walker: Runner,
-    runner: Runner,
+    walker: AuditedRun,
+    runner: AuditedRun,
     found: Swept,
 }
 
@@ -65,8 +65,8 @@ impl Sweeper {
         ensures room { IfOk result RoomAtFirst }
     {
         Ok(Sweeper {
-            walker: Runner::new(alloc, setup)?,
-            runner: Runner::new(alloc, setup)?,
+            walker: AuditedRun::new(alloc, setup)?,
+            runner: AuditedRun::new(alloc, setup)?,
             found: Swept {
                 runs: 0,
                 good: 0,

@@ -2,7 +2,7 @@
 ghost use Rattle.std.specs.Prelude.{◌≡◌, option_map};
 ghost use Rattle.sweeper.specs.Tallies.{AreFew, bad_run as bad_run_of, counted};
 
-use crate::runner::BadEntry;
+use crate::audited_run::BadEntry;
 use auditor::Law;
 
 /// A run of a sweep whose record is bad. It is printed as `bad cut <cut> value <0 or 1> entry <entry> <law>`.

@@ -1,4 +1,4 @@
 mod KeptAccesses
 mod RowFacts
-mod Watches
+mod Monitors
 mod WaveFacts

@@ -8,8 +8,8 @@ use Rattle.trace_memory.specs.{CellState, MadeAccess, cell_after, has_cell, numb
 use Rattle.picture_layout.specs.declared.limits.WaveCount.{WaveCount}
 use Rattle.picture_layout.specs.declared.limits.WaveCount.TheVariants.{Sixteen, All}
 use Rattle.picture_layout.specs.declared.limits.WaveLimit.{WaveLimit}
-use Rattle.trace_accesses.specs.declared.watched.RowChange.{RowChange}
-use Rattle.trace_accesses.specs.declared.watched.WatchedAccess.{WatchedAccess}
+use Rattle.trace_accesses.specs.declared.monitored.RowChange.{RowChange}
+use Rattle.trace_accesses.specs.declared.monitored.MonitoredAccess.{MonitoredAccess}
 use Rattle.trace_accesses.specs.Moves.{alters, kind_of, step_of, writes}
 use Rattle.trace_accesses.specs.Rows.{row_in, waves_since}
 use Rattle.trace_accesses.specs.Words.{words_of}
@@ -70,8 +70,8 @@ abbrev pub change_of : WaveCount → Option ℕ → CellMove → CellState → C
 change_of count row how before after = cond (alters how) (option_and_then (change_in_row count before after) row) None
 
 -- the access of an entry
-abbrev pub watched_by : TraceSetup → WaveLimit → TracePast → TraceEntry → CellAccess → WatchedAccess
-watched_by s limit past e a = record {
+abbrev pub monitored_by : TraceSetup → WaveLimit → TracePast → TraceEntry → CellAccess → MonitoredAccess
+monitored_by s limit past e a = record {
   event = length past;
   process = e.process;
   access = a;
@@ -81,8 +81,8 @@ watched_by s limit past e a = record {
   change = change_of limit.count (row_in (waves_since limit.from (e ∷ past)) a.cell) a.how (cell_after s a.cell past) (cell_after s a.cell (e ∷ past));
 }
 
-abbrev pub watched_access : TraceSetup → WaveLimit → TracePast → TraceEntry → Option WatchedAccess
-watched_access s limit past e = option_map (watched_by s limit past e) e.access
+abbrev pub monitored_access : TraceSetup → WaveLimit → TracePast → TraceEntry → Option MonitoredAccess
+monitored_access s limit past e = option_map (monitored_by s limit past e) e.access
 
 -- What is shown, in words.
 
@@ -91,7 +91,7 @@ abbrev pub shown_change : List ℕ → RowChange → GivenChange
 shown_change cell c = record { row = c.row; name = cell; old = decimal c.old; value = decimal c.value; was_open = c.was_open; is_open = c.is_open }
 
 -- an access
-abbrev pub shown_as : List TraceRegister → WatchedAccess → GivenAccess
+abbrev pub shown_as : List TraceRegister → MonitoredAccess → GivenAccess
 shown_as registers w = record {
   event = w.event;
   process = w.process;
@@ -107,4 +107,4 @@ shown_as registers w = record {
 -- What a picture shows of the access of an entry, where these entries came before it. An access that is not possible is not shown, and
 -- counts for nothing later.
 abbrev pub shown_access : TraceSetup → WaveLimit → TracePast → TraceEntry → Option GivenAccess
-shown_access s limit past e = option_map (shown_as s.registers) (watched_access s limit (possible_past s past) (possible s e))
+shown_access s limit past e = option_map (shown_as s.registers) (monitored_access s limit (possible_past s past) (possible s e))

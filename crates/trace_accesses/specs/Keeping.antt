@@ -64,29 +64,29 @@ pub record HasRows (s : TraceSetup) (r : RowsState) (rows : List Cell) : Type 0 
 -- The watch.
 
 -- the memory, the rows, the limit of waves, and the number of entries
-pub record WatchState : Type 0 where
+pub record MonitorState : Type 0 where
   pub memory : MemoryState
   pub rows : RowsState
   pub limit : WaveLimit
   pub entries : ℕ
 
 -- the setup is in range, and each cell has its place
-pub record IsWatch (w : WatchState) : Type 0 where
+pub record IsMonitor (w : MonitorState) : Type 0 where
   pub good : is_trace_setup w.memory.setup ≡ true
   pub places : length w.rows.places ≡ 16 * length w.memory.setup.registers
 
 -- it has taken these entries, whose accesses are possible
-pub record HasTaken (w : WatchState) (past : TracePast) : Type 0 where
+pub record HasTaken (w : MonitorState) (past : TracePast) : Type 0 where
   pub made : HasMade w.memory past
   pub rows : HasRows w.memory.setup w.rows (waves_since w.limit.from past)
   pub entries : w.entries ≡ length past
 
 -- this holds of each past that was taken
-abbrev pub OfTaken : WatchState → (TracePast → Type 0) → Type 0
+abbrev pub OfTaken : MonitorState → (TracePast → Type 0) → Type 0
 OfTaken w P = (past : TracePast) → HasTaken w past → P past
 
 -- it has watched these entries of a trace with this setup, and shows the waves within this limit
-pub record HasWatched (w : WatchState) (s : TraceSetup) (limit : WaveLimit) (past : TracePast) : Type 0 where
+pub record HasMonitored (w : MonitorState) (s : TraceSetup) (limit : WaveLimit) (past : TracePast) : Type 0 where
   pub setup : w.memory.setup ≡ s
   pub shows : w.limit ≡ limit
   pub taken : HasTaken w (possible_past s past)

@@ -1,10 +1,10 @@
 //! The accesses of a trace, good or bad, as a picture shows them.
 //!
-//! The definitions look back over the entries before an entry. An [`AccessWatch`] observes the entries one by one, in memory
+//! The definitions look back over the entries before an entry. An [`AccessMonitor`] observes the entries one by one, in memory
 //! of a fixed size, and returns what is shown of the access of each:
 //!
 //! ```rust
-//! Reads::All => Ok(Some(AccessWatch::new(view.alloc, setup, view.limit())?)),
+//! Reads::All => Ok(Some(AccessMonitor::new(view.alloc, setup, view.limit())?)),
 //! ```
 //!
 //! A picture may begin after the first entry, at the entry with the number `limit.from`. Only a cell for which this entry or a
@@ -20,9 +20,9 @@
 //! | `overlaps` | where an access began, and which open accesses it overlaps |
 //! | `possible` | which accesses are shown |
 //! | `rows` | which cells have waves, and the row of each wave |
-//! | `watched` | an access in numbers |
+//! | `monitored` | an access in numbers |
 //! | `words` | an access in words |
-//! | `watch` | the watch |
+//! | `monitor` | the watch |
 #![tactic(auto)]
 
 mod limits;
@@ -31,13 +31,13 @@ mod moves;
 mod overlaps;
 mod possible;
 mod rows;
-mod watch;
-mod watched;
+mod monitor;
+mod monitored;
 mod words;
 
 pub use picture_layout::{WaveCount, WaveLimit};
 pub use rows::written_cells_have_waves;
-pub use watch::AccessWatch;
+pub use monitor::AccessMonitor;
 
 #[cfg(test)]
 mod tests;

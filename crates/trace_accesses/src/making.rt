@@ -3,13 +3,13 @@ ghost use Rattle.std.specs.Prelude.{◌≡◌, ◌<◌, ◌*◌, ◌∷◌, IsTr
 ghost use Rattle.trace.specs.{LockMark as Mark, is_trace_setup, trace_entry};
 ghost use Rattle.trace_memory.specs.Cells.{has_cell, moves_on, open_write};
 ghost use Rattle.trace_memory.specs.Keeping.{HasMade, OfMade};
-ghost use Rattle.trace_accesses.specs.Accesses.{watched_by};
+ghost use Rattle.trace_accesses.specs.Accesses.{monitored_by};
 ghost use Rattle.trace_accesses.specs.Keeping.{HasRows, rows_taken};
 ghost use Rattle.trace_accesses.specs.Rows.{counts_from, waves_since};
 
 use crate::overlaps::{begin, overlaps};
 use crate::rows::{WaveRows, counts};
-use crate::watched::{WatchedAccess, change};
+use crate::monitored::{MonitoredAccess, change};
 use picture_layout::WaveLimit;
 use trace::CellAccess;
 use trace_memory::CellMemory;
@@ -22,7 +22,7 @@ pub(crate) fn make(
     process: u8,
     number: u64,
     access: &CellAccess,
-) -> WatchedAccess
+) -> MonitoredAccess
     requires process { process < 16 }
     requires good { is_trace_setup memory.old.setup ≡ true }
     requires cell { IsTrue (has_cell memory.old.setup access.now.cell) }
@@ -34,9 +34,9 @@ pub(crate) fn make(
         (open_write (moves_on access.now.cell past))) access.now.cell rows.old) }
     ensures made { (marks : List Mark) → OfMade memory.old (λ past. number ≡ length past →
         HasMade memory.new (trace_entry process (Some access.now) marks ∷ past)) }
-    ensures watched { (marks : List Mark) → OfMade memory.old (λ past. number ≡ length past →
+    ensures monitored { (marks : List Mark) → OfMade memory.old (λ past. number ≡ length past →
         HasRows memory.old.setup rows.old (waves_since limit.from past) →
-        result ≡ watched_by memory.old.setup limit past
+        result ≡ monitored_by memory.old.setup limit past
         (trace_entry process (Some access.now) marks) access.now) }
 {
     let before = memory.cell(access.cell);
@@ -47,7 +47,7 @@ pub(crate) fn make(
     rows.take(counts(limit.from, number, access.how, &before), access.cell);
     let after = memory.cell(access.cell);
     let row = rows.row(access.cell);
-    WatchedAccess {
+    MonitoredAccess {
         event: number,
         process,
         access: *access,

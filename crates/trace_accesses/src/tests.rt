@@ -2,7 +2,7 @@
 ghost use Rattle.std.specs.Prelude.{◌≡◌, ◌<◌, ◌≤◌, true, IfOk};
 ghost use Rattle.trace.specs.{is_trace_setup};
 
-use crate::{AccessWatch, WaveCount, WaveLimit};
+use crate::{AccessMonitor, WaveCount, WaveLimit};
 use picture_layout::{AccessKind, AccessStep, ShownAccess, WaveChange};
 use smallvec::SmallVec;
 use std::alloc::{AllocError, Global};
@@ -119,13 +119,13 @@ fn first_other(
     requires { is_trace_setup setup.now ≡ true }
 {
     let count = WaveCount::Sixteen;
-    let mut watch = AccessWatch::new(alloc, setup, WaveLimit { from, count })?;
+    let mut monitor = AccessMonitor::new(alloc, setup, WaveLimit { from, count })?;
     for (number, case) in cases.iter().enumerate() {
-        if watch.entries() == u64::MAX {
+        if monitor.entries() == u64::MAX {
             return Ok(Some(number));
         }
         let entry = entry(alloc, case);
-        let text = match watch.observe(alloc, &entry)? {
+        let text = match monitor.observe(alloc, &entry)? {
             Some(access) => line(alloc, &access)?,
             None => Vec::new(alloc),
         };

@@ -7,7 +7,7 @@ ghost use Rattle.trace_accesses.specs.Accesses.{shown_as, shown_change};
 ghost use Rattle.trace_accesses.specs.Words.{begin_words, unlike, value_words, words_of};
 
 use crate::moves::{kind, step};
-use crate::watched::{RowChange, WatchedAccess};
+use crate::monitored::{RowChange, MonitoredAccess};
 use picture_layout::{ShownAccess, WaveChange};
 use std::alloc::{AllocError, Global};
 use std::fmt;
@@ -44,7 +44,7 @@ impl fmt::Display for BeginWords {
     }
 }
 
-impl WatchedAccess {
+impl MonitoredAccess {
     /// Returns the access with its words.
     ///
     /// # Errors

@@ -2,7 +2,7 @@
 use Rattle.std.proofs.Common.{◌≡◌, ℕ, ◌-◌, ◌^◌, ◌<◌, ◌==◌, Bool, true, false, not, ◌&&◌, cond, ◌∷◌, Option, None, Some, is_some, length, refl, sym, ap, ◌∙◌, arith}
 use Rattle.trace.specs.{TraceEntry, TracePast}
 use Rattle.trace_engine.specs.trace_judge.lock_stages.{is_call, is_enter, is_wait}
-use Rattle.trace_calls.specs.declared.kept.CallKept.{CallKept}
+use Rattle.trace_calls.specs.declared.kept.TraceCallState.{TraceCallState}
 use Rattle.trace_calls.specs.declared.kept.TraceCall.{TraceCall}
 use Rattle.trace_calls.specs.Calls.{call_of, ended_of_process, has, is_answer, is_calling, is_leave, moves, open_call, reads, writes}
 use Rattle.trace_calls.specs.Keeping.{AreFew, begun, call_kept, ended_between, gone_on, kept_after}
@@ -19,7 +19,7 @@ kept-other n p e past h = λ i. record {
     doorway = first-other p (λ e. is_some e.access) e past h i;
     door_end = first-other p (has is_wait) e past h i;
     entered = first-other p (has is_enter) e past h i;
-    left = first-other p (has is_leave) e past h i;
+    remaining = first-other p (has is_leave) e past h i;
     answered = first-other p (has is_answer) e past h i;
     reads = count-other p (λ before e. moves reads e) e past h i;
     writes = count-other p (λ before e. moves writes e) e past h i;
@@ -37,7 +37,7 @@ kept-called n e past some = λ i. record {
     doorway = first-called e.process (λ e. is_some e.access) e past refl some i;
     door_end = first-called e.process (has is_wait) e past refl some i;
     entered = first-called e.process (has is_enter) e past refl some i;
-    left = first-called e.process (has is_leave) e past refl some i;
+    remaining = first-called e.process (has is_leave) e past refl some i;
     answered = first-called e.process (has is_answer) e past refl some i;
     reads = count-called e.process (λ before e. moves reads e) e past refl some i;
     writes = count-called e.process (λ before e. moves writes e) e past refl some i;
@@ -56,7 +56,7 @@ kept-mine n e past none = λ i. record {
     doorway = first-mine e.process (λ e. is_some e.access) e past refl none i;
     door_end = first-mine e.process (has is_wait) e past refl none i;
     entered = first-mine e.process (has is_enter) e past refl none i;
-    left = first-mine e.process (has is_leave) e past refl none i;
+    remaining = first-mine e.process (has is_leave) e past refl none i;
     answered = first-mine e.process (has is_answer) e past refl none i;
     reads = count-mine e.process (λ before e. moves reads e) e past refl none i;
     writes = count-mine e.process (λ before e. moves writes e) e past refl none i;
@@ -69,8 +69,8 @@ pub kept-own : (n : ℕ) (e : TraceEntry) (past : TracePast) →
     call_kept n e.process (e ∷ past) ≡ kept_after (length past) (overlaps_in n past e) e.access e.marks (call_kept n e.process past)
 kept-own n e past = by (has is_call e) refl
   where
-    after : Bool → CallKept
-    after b = elim b as (λ _. CallKept) [
+    after : Bool → TraceCallState
+    after b = elim b as (λ _. TraceCallState) [
       | true ↦ begun (length past) (call_kept n e.process past)
       | false ↦ gone_on (length past) (overlaps_in n past e) e.access e.marks (call_kept n e.process past)
     ]

@@ -8,7 +8,7 @@ use Rattle.trace.specs.{CellAccess, LockMark, TraceEntry, TracePast, TraceSetup,
 use Rattle.trace_engine.proofs.trace_judge.OneMore.{newest_first}
 use Rattle.trace_engine.specs.{Observes}
 use Rattle.trace_engine.specs.trace_judge.lock_stages.{is_call}
-use Rattle.trace_calls.specs.declared.kept.CallKept.{CallKept}
+use Rattle.trace_calls.specs.declared.kept.TraceCallState.{TraceCallState}
 use Rattle.trace_calls.specs.declared.kept.TraceCall.{TraceCall}
 use Rattle.trace_calls.specs.Calls.{ended_call, ended_of_process, has}
 use Rattle.trace_calls.specs.Keeping.{AreFew, CallsState, HasListed, HasOpened, OpenState, call_kept, ended_between, kept_after}
@@ -42,16 +42,16 @@ module _ (t : CallsState) (p : ℕ) (access : Option CellAccess) (marks : List L
   pub ended_stray : n ≤ p → ended_call n past this ≡ None
   ended_stray beyond = ap (λ b. cond b (ended_of_process n past this) None) (le-ltb p n beyond)
 
-  module _ (below : p < n) (inside : p < 16) (room : length t.kept ≡ 16) (few : t.entries < 2 ^ 64 - 1) (before : CallKept) (was : slice_get t.kept p ≡ Some before) (overlapped : Bool)
-      (told : overlapped ≡ option_map_or (ends_overlapped n past p) access false) (after : CallKept) (on : AreFew before.last → after ≡ kept_after t.entries overlapped access marks before) where
+  module _ (below : p < n) (inside : p < 16) (room : length t.kept ≡ 16) (few : t.entries < 2 ^ 64 - 1) (before : TraceCallState) (was : slice_get t.kept p ≡ Some before) (overlapped : Bool)
+      (reported : overlapped ≡ option_map_or (ends_overlapped n past p) access false) (after : TraceCallState) (on : AreFew before.last → after ≡ kept_after t.entries overlapped access marks before) where
     same : before ≡ call_kept n p past
     same = let both : Some before ≡ Some (call_kept n p past) = sym was ∙ h.kept p below in cc
 
     -- the call of its process
     now : after ≡ call_kept n p (this ∷ past)
     now =
-        on (subst (λ (k : CallKept). AreFew k.last) (sym same) (are_few n p past (subst (λ k. k < 2 ^ 64 - 1) h.entries few)))
-        ∙ (λ i. kept_after (h.entries i) (told i) access marks (same i))
+        on (subst (λ (k : TraceCallState). AreFew k.last) (sym same) (are_few n p past (subst (λ k. k < 2 ^ 64 - 1) h.entries few)))
+        ∙ (λ i. kept_after (h.entries i) (reported i) access marks (same i))
         ∙ sym (kept-own n this past)
 
     -- an entry of a process that exists

@@ -6,7 +6,7 @@ use Rattle.calls.specs.{first_if, more_if}
 use Rattle.trace.specs.{Cell, CellAccess, LockMark, TracePast, begins}
 use Rattle.trace_engine.specs.trace_judge.lock_stages.{is_call, is_enter, is_wait}
 use Rattle.trace_engine.specs.trace_judge.trace_memory.{MadeAccess, opened, same_cell}
-use Rattle.trace_calls.specs.declared.kept.CallKept.{CallKept}
+use Rattle.trace_calls.specs.declared.kept.TraceCallState.{TraceCallState}
 use Rattle.trace_calls.specs.declared.kept.TraceCall.{TraceCall}
 use Rattle.trace_calls.specs.declared.opened.OpenMove.{OpenMove}
 use Rattle.trace_calls.specs.Calls.{call_of, is_answer, is_calling, is_leave, reads, writes}
@@ -58,25 +58,25 @@ ends_kept_read c k = option_map_or (λ o. o.reads && same_cell o.cell c && o.ove
 -- Calls.
 
 -- what is kept of p
-abbrev pub call_kept : ℕ → ℕ → TracePast → CallKept
+abbrev pub call_kept : ℕ → ℕ → TracePast → TraceCallState
 call_kept n p past = record { calling = is_calling p past; last = call_of n p past }
 
 -- with a call that begins with the entry of this number
-abbrev pub begun : ℕ → CallKept → CallKept
+abbrev pub begun : ℕ → TraceCallState → TraceCallState
 begun number k = record {
   calling = true;
-  last = record { call = k.last.call + 1; called = number; doorway = None; door_end = None; entered = None; left = None; answered = None; reads = 0; writes = 0; overlapped = 0 };
+  last = record { call = k.last.call + 1; called = number; doorway = None; door_end = None; entered = None; remaining = None; answered = None; reads = 0; writes = 0; overlapped = 0 };
 }
 
 -- with an access and marks of the entry of this number
-abbrev pub gone_on : ℕ → Bool → Option CellAccess → List LockMark → CallKept → CallKept
+abbrev pub gone_on : ℕ → Bool → Option CellAccess → List LockMark → TraceCallState → TraceCallState
 gone_on number overlapped access marks k = record {
   calling = k.calling && not (list_any is_answer marks);
   last = record k.last {
     doorway = first_if (is_some access) number k.last.doorway;
     door_end = first_if (list_any is_wait marks) number k.last.door_end;
     entered = first_if (list_any is_enter marks) number k.last.entered;
-    left = first_if (list_any is_leave marks) number k.last.left;
+    remaining = first_if (list_any is_leave marks) number k.last.remaining;
     answered = first_if (list_any is_answer marks) number k.last.answered;
     reads = more_if (option_map_or (λ a. reads a.how) access false) k.last.reads;
     writes = more_if (option_map_or (λ a. writes a.how) access false) k.last.writes;
@@ -85,14 +85,14 @@ gone_on number overlapped access marks k = record {
 }
 
 -- with an entry of this number: the call that it begins, or otherwise its access and its marks
-abbrev pub kept_after : ℕ → Bool → Option CellAccess → List LockMark → CallKept → CallKept
+abbrev pub kept_after : ℕ → Bool → Option CellAccess → List LockMark → TraceCallState → TraceCallState
 kept_after number overlapped access marks k = elim (list_any is_call marks) [
   | true ↦ begun number k
   | false ↦ gone_on number overlapped access marks k
 ]
 
 -- the call that ends as one state follows another, with marks that begin a call or not
-abbrev pub ended_between : Bool → CallKept → CallKept → Option TraceCall
+abbrev pub ended_between : Bool → TraceCallState → TraceCallState → Option TraceCall
 ended_between calls before after = elim calls [
   | true ↦ cond before.calling (Some before.last) None
   | false ↦ cond (before.calling && not after.calling) (Some after.last) None
@@ -106,13 +106,13 @@ pub record AreFew (c : TraceCall) : Type 0 where
   pub overlapped : c.overlapped < 2 ^ 64 - 1
 
 -- without an entry
-abbrev pub at_rest : CallKept
-at_rest = record { calling = false; last = record { call = 0; called = 0; doorway = None; door_end = None; entered = None; left = None; answered = None; reads = 0; writes = 0; overlapped = 0 } }
+abbrev pub at_rest : TraceCallState
+at_rest = record { calling = false; last = record { call = 0; called = 0; doorway = None; door_end = None; entered = None; remaining = None; answered = None; reads = 0; writes = 0; overlapped = 0 } }
 
 -- the open accesses, the calls of sixteen processes, and the number of entries
 pub record CallsState : Type 0 where
   pub opened : OpenState
-  pub kept : List CallKept
+  pub kept : List TraceCallState
   pub entries : ℕ
 
 -- each of at most sixteen processes has its places

@@ -19,7 +19,7 @@ fields newest c =
     ∷ c.entered
     ∷ None  -- taken
     ∷ None  -- place
-    ∷ c.left
+    ∷ c.remaining
     ∷ c.answered
     ∷ None  -- failed
     ∷ None  -- withdrew

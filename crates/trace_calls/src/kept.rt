@@ -18,7 +18,7 @@ pub struct TraceCall {
     /// The entry that ends its doorway.
     pub door_end: Option<u64>,
     pub entered: Option<u64>,
-    pub left: Option<u64>,
+    pub remaining: Option<u64>,
     pub answered: Option<u64>,
     /// The number of reads that it has begun.
     pub reads: u64,
@@ -30,17 +30,17 @@ pub struct TraceCall {
 
 /// The last call of a process, and whether it has not ended.
 #[derive(Clone, Copy)]
-pub struct CallKept {
+pub struct TraceCallState {
     pub calling: bool,
     pub last: TraceCall,
 }
 
-impl CallKept {
+impl TraceCallState {
     /// Creates the state of a process without a call.
-    pub(crate) fn at_rest() -> CallKept
+    pub(crate) fn at_rest() -> TraceCallState
         ensures { result ≡ nothing }
     {
-        CallKept {
+        TraceCallState {
             calling: false,
             last: TraceCall {
                 call: 0,
@@ -48,7 +48,7 @@ impl CallKept {
                 doorway: None,
                 door_end: None,
                 entered: None,
-                left: None,
+                remaining: None,
                 answered: None,
                 reads: 0,
                 writes: 0,
@@ -80,7 +80,7 @@ impl CallKept {
         ensures { AreFew self.old.last → self.new ≡ begun number self.old }
     {
         let call = self.last.call.saturating_add(1);
-        *self = CallKept::at_rest();
+        *self = TraceCallState::at_rest();
         self.calling = true;
         self.last.call = call;
         self.last.called = number;
@@ -101,7 +101,7 @@ impl CallKept {
         call.doorway = first_if(call.doorway, access.is_some(), number);
         call.door_end = first_if(call.door_end, has_wait(marks), number);
         call.entered = first_if(call.entered, has_enter(marks), number);
-        call.left = first_if(call.left, has_leave(marks), number);
+        call.remaining = first_if(call.remaining, has_leave(marks), number);
         call.answered = first_if(call.answered, has_answer(marks), number);
         if let Some(access) = access {
             call.reads = more_if(call.reads, reads(access.how));

@@ -51,7 +51,7 @@ fn fields(call: &TraceCall, newest: u64) -> [Option<u64>; 18]
         call.entered,
         None,
         None,
-        call.left,
+        call.remaining,
         call.answered,
         None,
         None,

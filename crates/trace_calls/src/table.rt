@@ -6,7 +6,7 @@ ghost use Rattle.trace.specs.{trace_entry};
 ghost use Rattle.trace_calls.specs.Calls.{ended_call, open_call};
 ghost use Rattle.trace_calls.specs.Keeping.{HasListed, OfListed, ended_between as call_ended_between};
 
-use crate::kept::{CallKept, TraceCall};
+use crate::kept::{TraceCallState, TraceCall};
 use crate::moves::has_call;
 use crate::opened::{MOST_PROCESSES, OpenMoves};
 use std::marker::Model;
@@ -17,7 +17,7 @@ use trace::{CellAccess, LockMark};
 #[derive(Drop)]
 pub(crate) struct TraceCalls {
     opened: OpenMoves,
-    kept: [CallKept; MOST_PROCESSES],
+    kept: [TraceCallState; MOST_PROCESSES],
     entries: u64,
 }
 
@@ -41,7 +41,7 @@ impl TraceCalls {
     {
         TraceCalls {
             opened: OpenMoves::new(processes),
-            kept: [CallKept::at_rest(); MOST_PROCESSES],
+            kept: [TraceCallState::at_rest(); MOST_PROCESSES],
             entries: 0,
         }
     }
@@ -102,7 +102,7 @@ impl TraceCalls {
 }
 
 /// Returns the call that ends as one state follows another, with marks that begin a call or not.
-fn ended_between(calls: bool, before: &CallKept, after: &CallKept) -> Option<TraceCall>
+fn ended_between(calls: bool, before: &TraceCallState, after: &TraceCallState) -> Option<TraceCall>
     ensures { result ≡ call_ended_between calls before.now after.now }
 {
     if calls {

@@ -10,7 +10,7 @@ use Rattle.trace_engine.specs.trace_file.TraceFiles.{TraceProgress, line_read, t
 use Rattle.trace_engine.specs.{IsOfTrace, IsTraceFault, Observes, ObservesAt, count_by}
 use Rattle.trace_engine.proofs.Ends.{Onwards, onwards_all, onwards_fault, onwards_few, onwards_none, onwards_on, onwards_start}
 use Rattle.trace_engine.proofs.Trials.{unless_then}
-use Rattle.trace_draw.specs.{DrawnTrace, DrawsAllBands, DrawsLine, EndsSheet, EndsTrace, HasShown, IsDrawFault, IsTold, NothingYet, SoFar, Stands, TracePicture, TraceView, count_of, with_output}
+use Rattle.trace_draw.specs.{DrawnTrace, DrawsAllBands, DrawsLine, EndsSheet, EndsTrace, HasShown, IsDrawFault, IsReported, NothingYet, SoFar, Stands, TracePicture, TraceView, count_of, with_output}
 use Rattle.trace_draw.proofs.Shown.{shown_count}
 
 -- a picture that there is
@@ -120,7 +120,7 @@ module _ (view : TraceView) where
       let v = u.onwards in
       let before : v.before ≡ Some p = sym v.read_up_to.read ∙ is in
       let stands = subst (λ (o : Option TraceProgress). Stands view reader picture first now o v.entries v.numbers) before (stands_at to_come mid taken reader picture first now u) in
-      onwards_all (HasShown view first) (IsTold view.judged (λ s shown told. EndsTrace view.form view.options d s shown told first then) d.status) to_come mid taken reader (with_output now picture) v p before (ends first p v.entries v.numbers stands) end
+      onwards_all (HasShown view first) (IsReported view.judged (λ s shown reported. EndsTrace view.form view.options d s shown reported first then) d.status) to_come mid taken reader (with_output now picture) v p before (ends first p v.entries v.numbers stands) end
 
 -- a fault of what the input says is told as such
 pub input_fault : (e : Fault) (to_come : Option (List ℕ)) → IsTraceFault e to_come → IsDrawFault e to_come
@@ -135,14 +135,14 @@ input_fault fault.Memory to_come why = tt
 pub of_trace_then : (P Q : TraceSetup → List TraceEntry → List ℕ → Type 0) (text : List ℕ) → ((s : TraceSetup) (entries : List TraceEntry) (numbers : List ℕ) → P s entries numbers → Q s entries numbers) → IsOfTrace P text → IsOfTrace Q text
 of_trace_then P Q text then is = record { said = is.said; says = is.says; holds = then is.said.setup is.said.entries is.said.numbers is.holds }
 
-told_then : (judged : Bool) (P Q : TraceSetup → List TraceEntry → List ℕ → Type 0) (status : ℕ) → ((s : TraceSetup) (shown : List TraceEntry) (told : List ℕ) → P s shown told → Q s shown told) → (s : TraceSetup) (entries : List TraceEntry) (numbers : List ℕ) →
-    IsTold judged P status s entries numbers → IsTold judged Q status s entries numbers
-told_then judged P Q status then s entries numbers is = record { told = is.told; tells = is.tells; is = then s _ is.told is.is }
+reported_then : (judged : Bool) (P Q : TraceSetup → List TraceEntry → List ℕ → Type 0) (status : ℕ) → ((s : TraceSetup) (shown : List TraceEntry) (reported : List ℕ) → P s shown reported → Q s shown reported) → (s : TraceSetup) (entries : List TraceEntry) (numbers : List ℕ) →
+    IsReported judged P status s entries numbers → IsReported judged Q status s entries numbers
+reported_then judged P Q status then s entries numbers is = record { reported = is.reported; reports = is.reports; is = then s _ is.reported is.is }
 
-pub all_told : (judged : Bool) (P Q : TraceSetup → List TraceEntry → List ℕ → Type 0) (status : ℕ) → ((s : TraceSetup) (shown : List TraceEntry) (told : List ℕ) → P s shown told → Q s shown told) → (o : Option (List ℕ)) →
-    IfSome o (IsOfTrace (IsTold judged P status)) → IfSome o (IsOfTrace (IsTold judged Q status))
-all_told judged P Q status then None is = tt
-all_told judged P Q status then (Some text) is = of_trace_then (IsTold judged P status) (IsTold judged Q status) text (told_then judged P Q status then) is
+pub all_reported : (judged : Bool) (P Q : TraceSetup → List TraceEntry → List ℕ → Type 0) (status : ℕ) → ((s : TraceSetup) (shown : List TraceEntry) (reported : List ℕ) → P s shown reported → Q s shown reported) → (o : Option (List ℕ)) →
+    IfSome o (IsOfTrace (IsReported judged P status)) → IfSome o (IsOfTrace (IsReported judged Q status))
+all_reported judged P Q status then None is = tt
+all_reported judged P Q status then (Some text) is = of_trace_then (IsReported judged P status) (IsReported judged Q status) text (reported_then judged P Q status then) is
 
 -- A call that writes fails by no fault of the input, and by no read.
 pub write_fault : (e : Fault) (to_come : Option (List ℕ)) → IsWriteFault e → IsDrawFault e to_come

@@ -69,19 +69,19 @@ module _ (w : Window) where
         ∙ sym (lines_more 0 (reverse past) e (length past) (let same = length-reverse past in omega (arith, same)))
         ∙ ap (shown_mark_lines w 0) (sym (reverse-append (e ∷ []) past))
 
-  pub texts_of_trace : (options : PictureOptions) (s : TraceSetup) (entries : List TraceEntry) (told : List ℕ) → texts_shown w (trace_gives options s entries told) ≡ shown_lines w entries told
-  texts_of_trace options s entries told =
-      shown_append w (given_past (view_of options (length entries)) (limit_of options) s (reverse entries)) (given_last s told (length entries))
+  pub texts_of_trace : (options : PictureOptions) (s : TraceSetup) (entries : List TraceEntry) (reported : List ℕ) → texts_shown w (trace_gives options s entries reported) ≡ shown_lines w entries reported
+  texts_of_trace options s entries reported =
+      shown_append w (given_past (view_of options (length entries)) (limit_of options) s (reverse entries)) (given_last s reported (length entries))
       ∙ (λ i. (texts_past (view_of options (length entries)) (limit_of options) s (reverse entries) ∙ ap (shown_mark_lines w 0) (reverse-reverse entries)) i
-      ++ shown_of_end w reads.Hidden (source_of s + 1) (length entries) [] told (SaysLockEnd (length entries)) refl i)
+      ++ shown_of_end w reads.Hidden (source_of s + 1) (length entries) [] reported (SaysLockEnd (length entries)) refl i)
 
 -- where all entries are shown, these are the lines of all
 all_marks : (n : ℕ) (entries : List TraceEntry) → shown_mark_lines all_entries n entries ≡ mark_lines n entries
 all_marks n [] = refl
 all_marks n (e ∷ entries) = λ i. lines_if (all_entry n i) (lines_of_marks n e) ++ all_marks (n + 1) entries i
 
-all_lines : (entries : List TraceEntry) (told : List ℕ) → shown_lines all_entries entries told ≡ trace_lines entries told
-all_lines entries told = ap (λ l. l ++ end_lines (length entries) told) (all_marks 0 entries)
+all_lines : (entries : List TraceEntry) (reported : List ℕ) → shown_lines all_entries entries reported ≡ trace_lines entries reported
+all_lines entries reported = ap (λ l. l ++ end_lines (length entries) reported) (all_marks 0 entries)
 
-pub all_shown : (w : Window) (entries : List TraceEntry) (told : List ℕ) → w ≡ all_entries → shown_lines w entries told ≡ trace_lines entries told
-all_shown w entries told is = ap (λ w. shown_lines w entries told) is ∙ all_lines entries told
+pub all_shown : (w : Window) (entries : List TraceEntry) (reported : List ℕ) → w ≡ all_entries → shown_lines w entries reported ≡ trace_lines entries reported
+all_shown w entries reported is = ap (λ w. shown_lines w entries reported) is ∙ all_lines entries reported

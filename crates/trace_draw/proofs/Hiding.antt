@@ -1,6 +1,6 @@
 -- A canvas that shows no reads: its lines do not depend on a setup, nor on entries of a record.
 use Rattle.std.proofs.Common.{◌≡◌, ℕ, List, [], ◌∷◌, Option, Some, None, map, refl, subst}
-use Rattle.draw.specs.{Canvas, DrawsLast, DrawsLines, DrawsOn, DrawsRest, GivesLine, OverlapsHeard, Overhears, Says, end_given, kept, lines_given, waiting}
+use Rattle.draw.specs.{Canvas, DrawsLast, DrawsLines, DrawsOn, DrawsRest, GivesLine, OverlapsObserved, ObservesAll, Says, end_given, kept, lines_given, waiting}
 use Rattle.picture.specs.picture_layout.{OverlappedRead}
 use Rattle.picture.specs.declared.reads.Reads.TheVariants.{Hidden}
 use Rattle.trace.specs.plain_store.{Setup}
@@ -10,12 +10,12 @@ some_setup : Setup
 some_setup = record { version = 1; processes = 1; ticket_bits = 1; stamp_bits = 1; slots = 1; opening = [] }
 
 -- no read waits
-none_waits : (o : Option OverlapsHeard) → o ≡ None → Overhears Hidden some_setup [] [] o
+none_waits : (o : Option OverlapsObserved) → o ≡ None → ObservesAll Hidden some_setup [] [] o
 none_waits None is = tt
 none_waits (Some x) is = absurd (cc)
 
 -- and none is shown later
-hides_on : (o : Option OverlapsHeard) (reads : List OverlappedRead) → Overhears Hidden some_setup [] reads o → o ≡ None
+hides_on : (o : Option OverlapsObserved) (reads : List OverlappedRead) → ObservesAll Hidden some_setup [] reads o → o ≡ None
 hides_on None reads waits = refl
 hides_on (Some x) reads waits = absurd waits
 
@@ -32,5 +32,5 @@ module _ (had : Canvas) (a b : Option (List ℕ)) (source at : ℕ) (hides : had
       (subst (DrawsOn (kept had) (kept has) a b) (alone source at lines) drawn.0, hides_on has.overlaps (waiting lines []) drawn.1)
 
   -- the end is
-  pub last_on : (told : List ℕ) (last : Says) (height : ℕ) → DrawsLast had a b source at told last height → DrawsRest (kept had) a b (end_given Hidden source at [] told last) height
-  last_on told last height draws = draws Hidden some_setup [] [] (none_waits had.overlaps hides)
+  pub last_on : (reported : List ℕ) (last : Says) (height : ℕ) → DrawsLast had a b source at reported last height → DrawsRest (kept had) a b (end_given Hidden source at [] reported last) height
+  last_on reported last height draws = draws Hidden some_setup [] [] (none_waits had.overlaps hides)

@@ -10,7 +10,7 @@ use Rattle.trace.specs.{TraceEntry, TracePast, TraceSetup}
 use Rattle.trace_engine.specs.{count_by}
 use Rattle.trace_draw.specs.{AreHeld, AreShownBy, DrawnBands, DrawsEntry, EndsBands, IsDrawn, TraceDrawing, drawn_count, limit_of, shows_all, source_of}
 use Rattle.trace_draw.proofs.Drawn.{drawn_end, drawn_entry}
-use Rattle.trace_draw.proofs.Watching.{decided_all, decided_later, decided_long, decided_view, drawn_as_many, short_view}
+use Rattle.trace_draw.proofs.Monitoring.{decided_all, decided_later, decided_long, decided_view, drawn_as_many, short_view}
 
 -- one entry more is the last one
 pub last_of : (e : TraceEntry) (past : TracePast) → reverse past ++ e ∷ [] ≡ reverse (e ∷ past)
@@ -63,16 +63,16 @@ module _ (form : Form) (options : PictureOptions) (s : TraceSetup) where
       )
 
   -- the end of a picture that is short
-  pub held_end : (past : TracePast) (held : List TraceEntry) (told : List ℕ) (d : TraceDrawing) (bands : DrawnBands) (first now mid new : Option (List ℕ)) → AreHeld options past held first now → IsDrawn form options reads.All s (reverse held) d now mid → bands.shows ≡ d.shows →
-      DrawsLast d.canvas mid new (source_of s + 1) d.entries told (SaysLockEnd d.entries) bands.height → EndsBands form options bands s past told first new
-  held_end past held told d bands first now mid new are drawn same last =
-      drawn_end form options reads.All s past told d bands first mid new (held_drawn reads.All past held d first now mid are drawn) (short_view options (length past) are.undecided are.few) same last
+  pub held_end : (past : TracePast) (held : List TraceEntry) (reported : List ℕ) (d : TraceDrawing) (bands : DrawnBands) (first now mid new : Option (List ℕ)) → AreHeld options past held first now → IsDrawn form options reads.All s (reverse held) d now mid → bands.shows ≡ d.shows →
+      DrawsLast d.canvas mid new (source_of s + 1) d.entries reported (SaysLockEnd d.entries) bands.height → EndsBands form options bands s past reported first new
+  held_end past held reported d bands first now mid new are drawn same last =
+      drawn_end form options reads.All s past reported d bands first mid new (held_drawn reads.All past held d first now mid are drawn) (short_view options (length past) are.undecided are.few) same last
 
   -- or of another one
-  pub shown_end : (past : TracePast) (held : List TraceEntry) (told : List ℕ) (d : TraceDrawing) (bands : DrawnBands) (first mid new : Option (List ℕ)) → AreShownBy (Some d) held form options s past first mid → bands.shows ≡ d.shows →
-      DrawsLast d.canvas mid new (source_of s + 1) d.entries told (SaysLockEnd d.entries) bands.height → EndsBands form options bands s past told first new
-  shown_end past held told d bands first mid new shown same last =
-      drawn_end form options shown.0 s past told d bands first mid new shown.2 (decided_view options shown.0 (length past) shown.1) same last
+  pub shown_end : (past : TracePast) (held : List TraceEntry) (reported : List ℕ) (d : TraceDrawing) (bands : DrawnBands) (first mid new : Option (List ℕ)) → AreShownBy (Some d) held form options s past first mid → bands.shows ≡ d.shows →
+      DrawsLast d.canvas mid new (source_of s + 1) d.entries reported (SaysLockEnd d.entries) bands.height → EndsBands form options bands s past reported first new
+  shown_end past held reported d bands first mid new shown same last =
+      drawn_end form options shown.0 s past reported d bands first mid new shown.2 (decided_view options shown.0 (length past) shown.1) same last
 
 -- no more entries are drawn than are shown
 pub drawn_few : (form : Form) (options : PictureOptions) (s : TraceSetup) (past : TracePast) (o : Option TraceDrawing) (held : List TraceEntry) (first now : Option (List ℕ)) → AreShownBy o held form options s past first now → count_by drawn_count o ≤ length past

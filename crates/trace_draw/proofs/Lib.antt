@@ -1,7 +1,7 @@
 pub mod Giving
 pub mod Hiding
 pub mod ShownEntries
-pub mod Watching
+pub mod Monitoring
 pub mod Drawn
 pub mod Holding
 pub mod Shown

@@ -3,7 +3,7 @@ use Rattle.std.proofs.Common.{◌≡◌, ℕ, true, false, not, ◌||◌, List, 
 use Rattle.std.proofs.lemmas.List.{length-reverse, reverse-append}
 use Rattle.trace.specs.{TraceEntry, TracePast, TraceSetup}
 use Rattle.trace_engine.specs.{HasReported, is_good}
-use Rattle.trace_draw.specs.{AreShown, DrawnTrace, EndsBands, EndsTrace, HasShown, IsTold, ShownEntries, TellsTrace, TracePicture, TraceView, count_of, shown, title_of}
+use Rattle.trace_draw.specs.{AreShown, DrawnTrace, EndsBands, EndsTrace, HasShown, IsReported, ShownEntries, ReportsIfJudged, TracePicture, TraceView, count_of, shown, title_of}
 use Rattle.trace_draw.proofs.Holding.{drawn_few}
 use Rattle.trace_draw.proofs.ShownEntries.{shown_few, shown_next, shown_none, shown_still}
 
@@ -37,12 +37,12 @@ module _ (view : TraceView) (first : Option (List ℕ)) (s : TraceSetup) where
       }
 
   -- all, and what is told
-  pub shown_told : (picture : TracePicture) (mid new : Option (List ℕ)) (entries : List TraceEntry) (numbers told : List ℕ) (drawn : DrawnTrace) → HasShown view first (picture, mid) s entries numbers → TellsTrace view.judged s entries numbers told drawn.status → drawn.title.items ≡ title_of s →
-      ((past : TracePast) → AreShown view.form view.options s past picture.entries first mid → EndsBands view.form view.options drawn.bands s past told first new) →
-      IsTold view.judged (λ s shown told. EndsTrace view.form view.options drawn s shown told first new) drawn.status s entries numbers
-  shown_told picture mid new entries numbers told drawn has tells title ends = record {
-    told = told;
-    tells = tells;
+  pub shown_reported : (picture : TracePicture) (mid new : Option (List ℕ)) (entries : List TraceEntry) (numbers reported : List ℕ) (drawn : DrawnTrace) → HasShown view first (picture, mid) s entries numbers → ReportsIfJudged view.judged s entries numbers reported drawn.status → drawn.title.items ≡ title_of s →
+      ((past : TracePast) → AreShown view.form view.options s past picture.entries first mid → EndsBands view.form view.options drawn.bands s past reported first new) →
+      IsReported view.judged (λ s shown reported. EndsTrace view.form view.options drawn s shown reported first new) drawn.status s entries numbers
+  shown_reported picture mid new entries numbers reported drawn has reports title ends = record {
+    reported = reported;
+    reports = reports;
     is = record { title = title; ends = ends (reverse (shown view.judged s entries)) has.shows };
   }
 

@@ -49,13 +49,13 @@ given_past mode limit s (e ∷ past) = given_past mode limit s past ++ given_ent
 
 -- the end after n entries: the last line, or the verdict with it; no read waits
 abbrev pub given_last : TraceSetup → List ℕ → ℕ → List Gives
-given_last s told n = end_given reads.Hidden (source_of s + 1) n [] told (SaysLockEnd n)
+given_last s reported n = end_given reads.Hidden (source_of s + 1) n [] reported (SaysLockEnd n)
 
 -- all items of a trace of which these entries are shown, and of which a judge tells this
 abbrev pub trace_gives : PictureOptions → TraceSetup → List TraceEntry → List ℕ → List Gives
-trace_gives options s entries told =
+trace_gives options s entries reported =
     given_past (view_of options (length entries)) (limit_of options) s (reverse entries)
-    ++ given_last s told (length entries)
+    ++ given_last s reported (length entries)
 
 -- The lines, without their ends. An access is not a line.
 
@@ -70,11 +70,11 @@ mark_lines n (e ∷ entries) = lines_of_marks n e ++ mark_lines (n + 1) entries
 
 -- those of the end of a trace of n entries
 abbrev pub end_lines : ℕ → List ℕ → List (List ℕ)
-end_lines n told = map judged_text (report_lines told) ++ lock_ended_text n ∷ []
+end_lines n reported = map judged_text (report_lines reported) ++ lock_ended_text n ∷ []
 
 -- all
 abbrev pub trace_lines : List TraceEntry → List ℕ → List (List ℕ)
-trace_lines entries told = mark_lines 0 entries ++ end_lines (length entries) told
+trace_lines entries reported = mark_lines 0 entries ++ end_lines (length entries) reported
 
 -- The lines in a window.
 
@@ -86,6 +86,6 @@ shown_mark_lines w n (e ∷ entries) =
 
 -- all in it
 abbrev pub shown_lines : Window → List TraceEntry → List ℕ → List (List ℕ)
-shown_lines w entries told =
+shown_lines w entries reported =
     shown_mark_lines w 0 entries
-    ++ lines_if (shows_end w (length entries)) (end_lines (length entries) told)
+    ++ lines_if (shows_end w (length entries)) (end_lines (length entries) reported)

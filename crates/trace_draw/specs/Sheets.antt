@@ -10,7 +10,7 @@ use Rattle.picture.specs.declared.reads.PictureOptions.{PictureOptions}
 use Rattle.trace.specs.{TraceEntry}
 use Rattle.trace_engine.specs.trace_file.TraceFiles.{TraceProgress, trace_said}
 use Rattle.trace_engine.specs.{GoesOn, IsOfTrace, IsReadUpTo}
-use Rattle.trace_draw.specs.Showing.{DrawsTraceSaid, EndsTrace, HasShown, IsTold, SoFar}
+use Rattle.trace_draw.specs.Showing.{DrawsTraceSaid, EndsTrace, HasShown, IsReported, SoFar}
 use Rattle.trace_draw.specs.declared.pictures.DrawnTrace.{DrawnTrace}
 use Rattle.trace_draw.specs.declared.pictures.TracePicture.{TracePicture}
 use Rattle.trace_draw.specs.declared.views.TraceView.{TraceView}
@@ -44,17 +44,17 @@ module _ (view : TraceView) where
   abbrev pub EndsSheet : DrawnTrace → (reader : Option TraceProgress) (picture : Option TracePicture) (now then : Option (List ℕ)) → Type 0
   EndsSheet drawn reader picture now then =
       (first : Option (List ℕ)) (p : TraceProgress) (entries : List TraceEntry) (numbers : List ℕ) → Stands reader picture first now (Some p) entries numbers →
-      IsTold view.judged (λ s shown told. EndsTrace view.form view.options drawn s shown told first then) drawn.status p.setup entries numbers
+      IsReported view.judged (λ s shown reported. EndsTrace view.form view.options drawn s shown reported first then) drawn.status p.setup entries numbers
 
 -- all bands of the trace that a text says were written
 abbrev pub DrawsAllBands : TraceView → DrawnTrace → Option (List ℕ) → Option (List ℕ) → List ℕ → Type 0
-DrawsAllBands view drawn old new = IsOfTrace (IsTold view.judged (λ s shown told. EndsTrace view.form view.options drawn s shown told old new) drawn.status)
+DrawsAllBands view drawn old new = IsOfTrace (IsReported view.judged (λ s shown reported. EndsTrace view.form view.options drawn s shown reported old new) drawn.status)
 
 -- The picture of the trace that a text says, and of what is told of it: all entries, or those up
 -- to the first bad one and the report of the judge, as far as the window shows them. All accesses
 -- are shown if they are asked for, if these entries are few, or if the window is short.
 abbrev pub DrawsTrace : Bool → PictureOptions → Form → ℕ → List ℕ → Option (List ℕ) → Option (List ℕ) → Type 0
-DrawsTrace judged options form status text old new = IsOfTrace (IsTold judged (λ s shown told. DrawsTraceSaid form options s shown told old new) status) text
+DrawsTrace judged options form status text old new = IsOfTrace (IsReported judged (λ s shown reported. DrawsTraceSaid form options s shown reported old new) status) text
 
 -- why drawing ends early: a fault of what the input says, a call that failed, or want of memory
 abbrev pub IsDrawFault : Fault → Option (List ℕ) → Type 0

@@ -1,14 +1,14 @@
 -- The picture of a trace, as bytes, and what stands while a trace is read and drawn.
 use Rattle.std.specs.Prelude.{◌≡◌, ◌≤◌, ℕ, max, Bool, true, false, List, [], ◌∷◌, ◌++◌, length, reverse, Option, None, Some}
 use Rattle.draw.specs.{DrawsBands, DrawsOn, Writes, given, kept, kept_at_first, trace_plan}
-use Rattle.picture.specs.{Form, Item, Window, all_entries, bands_told, heights_told, page_names, trace_page_back, trace_page_front, trace_picture_back, trace_picture_front}
+use Rattle.picture.specs.{Form, Item, Window, all_entries, bands_reported, heights_reported, page_names, trace_page_back, trace_page_front, trace_picture_back, trace_picture_front}
 use Rattle.picture.specs.declared.page.Form.TheVariants as form
 use Rattle.picture.specs.declared.reads.PictureOptions.{PictureOptions}
 use Rattle.picture.specs.declared.reads.Reads.{Reads}
 use Rattle.picture.specs.declared.reads.Reads.TheVariants as reads
 use Rattle.picture.specs.markup.{lines_in, opens_in}
 use Rattle.trace.specs.{TraceEntry, TracePast, TraceSetup}
-use Rattle.trace_accesses.specs.{HasWatched, WatchState, WaveLimit}
+use Rattle.trace_accesses.specs.{HasMonitored, MonitorState, WaveLimit}
 use Rattle.trace_engine.specs.{HasReported, ReportsTrace, count_by}
 use Rattle.trace_draw.specs.Headings.{listed, source_of, title_of}
 use Rattle.trace_draw.specs.Items.{given_entry, given_last, given_past, shown, shown_lines, trace_gives, trace_lines}
@@ -24,13 +24,13 @@ use Rattle.trace_draw.specs.declared.views.TraceView.{TraceView}
 abbrev pub trace_picture_of : Form → Window → Reads → TraceSetup → List Item → List ℕ
 trace_picture_of form.Page w mode s items =
     (trace_page_front s.processes (title_of s) (listed s) mode
-    ++ bands_told (trace_plan form.Page s.processes w) items)
+    ++ bands_reported (trace_plan form.Page s.processes w) items)
     ++ trace_page_back
 trace_picture_of (form.Picture top) w mode s items =
     (trace_picture_front (title_of s)
-    (heights_told (trace_plan (form.Picture top) s.processes w) items) mode
-    ++ bands_told (trace_plan (form.Picture top) s.processes w) items)
-    ++ trace_picture_back (heights_told (trace_plan (form.Picture top) s.processes w) items) mode
+    (heights_reported (trace_plan (form.Picture top) s.processes w) items) mode
+    ++ bands_reported (trace_plan (form.Picture top) s.processes w) items)
+    ++ trace_picture_back (heights_reported (trace_plan (form.Picture top) s.processes w) items) mode
 
 -- A whole picture was written, and nothing else: what the window shows of the items of these
 -- entries and of what a judge tells. Its tags fit, and no element is open at its end. The titles
@@ -38,26 +38,26 @@ trace_picture_of (form.Picture top) w mode s items =
 -- the window reaches the end, what the judge tells, line by line, and a last line. In the window
 -- of all entries they are the lines of all. The options and the number of entries decide which
 -- accesses are among the items.
-pub record DrawsTraceSaid (form : Form) (options : PictureOptions) (s : TraceSetup) (entries : List TraceEntry) (told : List ℕ) (old new : Option (List ℕ)) : Type 0 where
+pub record DrawsTraceSaid (form : Form) (options : PictureOptions) (s : TraceSetup) (entries : List TraceEntry) (reported : List ℕ) (old new : Option (List ℕ)) : Type 0 where
   pub markup : List ℕ
   pub items : List Item
-  pub are : given items ≡ trace_gives options s entries told
+  pub are : given items ≡ trace_gives options s entries reported
   pub is : markup ≡ trace_picture_of form options.window (view_of options (length entries)) s items
   pub elements : opens_in markup (Some []) ≡ Some []
-  pub read_back : lines_in markup ≡ shown_lines options.window entries told
-  pub all_read_back : options.window ≡ all_entries → lines_in markup ≡ trace_lines entries told
+  pub read_back : lines_in markup ≡ shown_lines options.window entries reported
+  pub all_read_back : options.window ≡ all_entries → lines_in markup ≡ trace_lines entries reported
   pub writes : Writes old new markup
 
 -- what is told of a trace, and the exit status: the report of a judge, or nothing
-abbrev pub TellsTrace : Bool → TraceSetup → List TraceEntry → List ℕ → List ℕ → ℕ → Type 0
-TellsTrace false s entries numbers told status = (told ≡ []) × (status ≡ 0)
-TellsTrace true s entries numbers told status = ReportsTrace true s entries numbers told status
+abbrev pub ReportsIfJudged : Bool → TraceSetup → List TraceEntry → List ℕ → List ℕ → ℕ → Type 0
+ReportsIfJudged false s entries numbers reported status = (reported ≡ []) × (status ≡ 0)
+ReportsIfJudged true s entries numbers reported status = ReportsTrace true s entries numbers reported status
 
 -- this holds of the entries that are shown of a trace, and of what is told of it
-pub record IsTold (judged : Bool) (P : TraceSetup → List TraceEntry → List ℕ → Type 0) (status : ℕ) (s : TraceSetup) (entries : List TraceEntry) (numbers : List ℕ) : Type 0 where
-  pub told : List ℕ
-  pub tells : TellsTrace judged s entries numbers told status
-  pub is : P s (shown judged s entries) told
+pub record IsReported (judged : Bool) (P : TraceSetup → List TraceEntry → List ℕ → Type 0) (status : ℕ) (s : TraceSetup) (entries : List TraceEntry) (numbers : List ℕ) : Type 0 where
+  pub reported : List ℕ
+  pub reports : ReportsIfJudged judged s entries numbers reported status
+  pub is : P s (shown judged s entries) reported
 
 -- what a page has before its bands was written; one picture has it later, once its height is known
 pub record HeadsPage (mode : Reads) (s : TraceSetup) (old new : Option (List ℕ)) : Type 0 where
@@ -72,15 +72,15 @@ Heads form.Page mode s old new = HeadsPage mode s old new
 Heads (form.Picture top) mode s old new = new ≡ old
 
 -- the accesses of a past were watched, if they are shown
-abbrev pub Watches : Reads → WaveLimit → TraceSetup → TracePast → Option WatchState → Type 0
-Watches reads.All limit s past (Some watch) = HasWatched watch s limit past
-Watches reads.All limit s past None = ⊥
-Watches _ limit s past (Some watch) = ⊥
-Watches _ limit s past None = Unit {0}
+abbrev pub Monitors : Reads → WaveLimit → TraceSetup → TracePast → Option MonitorState → Type 0
+Monitors reads.All limit s past (Some monitor) = HasMonitored monitor s limit past
+Monitors reads.All limit s past None = ⊥
+Monitors _ limit s past (Some monitor) = ⊥
+Monitors _ limit s past None = Unit {0}
 
 -- the number of entries of which the accesses were watched
-abbrev pub watched : Option WatchState → ℕ
-watched = count_by (λ (watch : WatchState). watch.entries)
+abbrev pub monitored : Option MonitorState → ℕ
+monitored = count_by (λ (monitor : MonitorState). monitor.entries)
 
 -- A drawing comes after these entries of a trace with this setup: it counts them, and watches their accesses if they are shown.
 pub record ComesAfter (mode : Reads) (limit : WaveLimit) (s : TraceSetup) (past : TracePast) (d : TraceDrawing) : Type 0 where
@@ -88,7 +88,7 @@ pub record ComesAfter (mode : Reads) (limit : WaveLimit) (s : TraceSetup) (past 
   pub source : d.source ≡ source_of s
   pub count : d.entries ≡ length past
   pub hides : d.canvas.overlaps ≡ None
-  pub watches : Watches mode limit s past d.watch
+  pub monitors : Monitors mode limit s past d.monitor
 
 -- one entry more was drawn
 abbrev pub DrawsEntry : (had has : TraceDrawing) (old new : Option (List ℕ)) → TraceEntry → Type 0
@@ -130,20 +130,20 @@ pub record HasShown (view : TraceView) (first : Option (List ℕ)) (h : SoFar) (
 
 -- the number of entries that a drawing has drawn, of which no more are watched
 abbrev pub drawn_count : TraceDrawing → ℕ
-drawn_count d = max d.entries (watched d.watch)
+drawn_count d = max d.entries (monitored d.monitor)
 
 -- the number of entries that were observed, of which no more are drawn
 abbrev pub count_of : TracePicture → ℕ
 count_of picture = max picture.reporter.judge.entries (count_by drawn_count picture.entries.drawing)
 
 -- all bands of these entries and of what is told were written, and a page's front before them
-pub record EndsBands (form : Form) (options : PictureOptions) (bands : DrawnBands) (s : TraceSetup) (past : TracePast) (told : List ℕ) (old new : Option (List ℕ)) : Type 0 where
+pub record EndsBands (form : Form) (options : PictureOptions) (bands : DrawnBands) (s : TraceSetup) (past : TracePast) (reported : List ℕ) (old new : Option (List ℕ)) : Type 0 where
   pub view : bands.shows ≡ view_of options (length past)
   pub mid : Option (List ℕ)
   pub heads : Heads form bands.shows s old mid
-  pub drawn : DrawsBands (trace_plan form s.processes options.window) mid new (given_past bands.shows (limit_of options) s past ++ given_last s told (length past)) bands.height
+  pub drawn : DrawsBands (trace_plan form s.processes options.window) mid new (given_past bands.shows (limit_of options) s past ++ given_last s reported (length past)) bands.height
 
 -- the same with the title of the trace
-pub record EndsTrace (form : Form) (options : PictureOptions) (drawn : DrawnTrace) (s : TraceSetup) (entries : List TraceEntry) (told : List ℕ) (old new : Option (List ℕ)) : Type 0 where
+pub record EndsTrace (form : Form) (options : PictureOptions) (drawn : DrawnTrace) (s : TraceSetup) (entries : List TraceEntry) (reported : List ℕ) (old new : Option (List ℕ)) : Type 0 where
   pub title : drawn.title.items ≡ title_of s
-  pub ends : EndsBands form options drawn.bands s (reverse entries) told old new
+  pub ends : EndsBands form options drawn.bands s (reverse entries) reported old new

@@ -3,20 +3,20 @@ ghost use Rattle.std.specs.Prelude.{◌≡◌, ◌+◌, ◌-◌, ◌^◌, ◌<�
 ghost use Rattle.draw.specs.{DrawsLast, DrawsLines, DrawsOn, IsWriteFault, SaysLockEnd, SaysLockMark, failed_write, kept, kept_at_first, trace_plan};
 ghost use Rattle.picture.specs.declared.reads.Reads.{Reads as View};
 ghost use Rattle.trace.specs.{TracePast as Past, TraceSetup as Setup, is_trace_setup};
-ghost use Rattle.trace_accesses.specs.{HasWatched, WaveLimit as Limit, shown_access};
+ghost use Rattle.trace_accesses.specs.{HasMonitored, WaveLimit as Limit, shown_access};
 ghost use Rattle.trace_draw.specs.Headings.{source_of};
 ghost use Rattle.trace_draw.specs.Items.{given_access_of, gives_access};
-ghost use Rattle.trace_draw.specs.Showing.{ComesAfter, DrawsEntry, Watches, drawn_count, watched};
+ghost use Rattle.trace_draw.specs.Showing.{ComesAfter, DrawsEntry, Monitors, drawn_count, monitored};
 ghost use Rattle.trace_draw.specs.Views.{limit_of};
 
 use crate::headings::line_of_entries;
 use crate::views::TraceView;
 use draw::Canvas;
 use files::{Fault, Sink};
-use picture::{Reads, RunLine, Saying};
+use picture::{Reads, RunLine, LineContent};
 use std::alloc::{AllocError, Global};
 use trace::{LockMark, TraceEntry, TraceSetup};
-use trace_accesses::AccessWatch;
+use trace_accesses::AccessMonitor;
 
 /// Which accesses a picture shows, and the heights of the bands that were drawn.
 #[derive(Clone, Copy)]
@@ -33,7 +33,7 @@ pub(crate) struct TraceDrawing {
     /// Which accesses are shown: all or none.
     shows: Reads,
     /// The observer of accesses, if they are shown.
-    watch: Option<AccessWatch>,
+    monitor: Option<AccessMonitor>,
     /// The number of entries that are drawn.
     entries: u64,
     /// The line of the page's list that stands for all entries.
@@ -61,7 +61,7 @@ impl TraceDrawing {
             alloc: view.alloc,
             canvas: Canvas::of_trace(view.alloc, view.form, setup.processes, view.options.window)?,
             shows,
-            watch: watch_of(view, setup, shows)?,
+            monitor: monitor_of(view, setup, shows)?,
             entries: 0,
             source: line_of_entries(setup),
         })
@@ -89,24 +89,24 @@ impl TraceDrawing {
     /// Draws the access of the next entry, if accesses are shown.
     fn draw_access<W: Sink>(&mut self, entry: &TraceEntry, output: &mut W) -> Result<(), Fault>
         requires writes { W.failures output.old < 2 ^ 64 - 1 }
-        requires room { watched self.old.watch < 2 ^ 64 - 1 }
+        requires room { monitored self.old.monitor < 2 ^ 64 - 1 }
         ensures drawn { OnOk result ((mode : View) (limit : Limit) (s : Setup) (past : Past) →
-            Watches mode limit s past self.old.watch →
+            Monitors mode limit s past self.old.monitor →
             DrawsOn (kept self.old.canvas) (kept self.new.canvas)
             (W.taken output.old) (W.taken output.new)
             (given_access_of mode limit s past entry.now)) }
-        ensures watches { (mode : View) (limit : Limit) (s : Setup) (past : Past) →
-            Watches mode limit s past self.old.watch →
-            Watches mode limit s (entry.now ∷ past) self.new.watch }
+        ensures monitors { (mode : View) (limit : Limit) (s : Setup) (past : Past) →
+            Monitors mode limit s past self.old.monitor →
+            Monitors mode limit s (entry.now ∷ past) self.new.monitor }
         ensures overlaps { self.new.canvas.overlaps ≡ self.old.canvas.overlaps }
         ensures rest { self.new
-            ≡ record self.old { canvas = self.new.canvas; watch = self.new.watch } }
+            ≡ record self.old { canvas = self.new.canvas; monitor = self.new.monitor } }
         ensures fault { IfErr result IsWriteFault }
         ensures failures { W.failures output.new ≡ W.failures output.old + failed_write result }
     {
-        match &mut self.watch {
+        match &mut self.monitor {
             None => Ok(()),
-            Some(watch) => draw_watched(self.alloc, watch, &mut self.canvas, entry, output),
+            Some(monitor) => draw_monitored(self.alloc, monitor, &mut self.canvas, entry, output),
         }
     }
 
@@ -149,7 +149,7 @@ impl TraceDrawing {
         let line = RunLine {
             source: self.source,
             at: self.entries,
-            saying: Saying::LockMarked {
+            line_content: LineContent::LockMarked {
                 process,
                 mark: *mark,
             },
@@ -157,7 +157,7 @@ impl TraceDrawing {
         self.canvas.draw(line, output)
     }
 
-    /// Draws the last line, or the verdict with it if `told` has lines of a judge, writes what is held back, and returns what
+    /// Draws the last line, or the verdict with it if `reported` has lines of a judge, writes what is held back, and returns what
     /// was drawn.
     ///
     /// # Errors
@@ -166,23 +166,23 @@ impl TraceDrawing {
     pub fn end<W: Sink>(
         &mut self,
         setup: &TraceSetup,
-        told: &[u8],
+        reported: &[u8],
         output: &mut W,
     ) -> Result<DrawnBands, Fault>
         requires { W.failures output.old < 2 ^ 64 - 1 }
         ensures drawn { IfOk result (λ bands. DrawsLast self.old.canvas
             (W.taken output.old) (W.taken output.new) (source_of setup.now + 1) self.old.entries
-            told.now (SaysLockEnd self.old.entries) bands.height) }
+            reported.now (SaysLockEnd self.old.entries) bands.height) }
         ensures shows { IfOk result (λ bands. bands.shows ≡ self.old.shows) }
         ensures fault { IfErr result IsWriteFault }
         ensures failures { W.failures output.new ≡ W.failures output.old + failed_write result }
     {
         let source = line_of_entries(setup) + 1;
         let at = self.entries;
-        let saying = Saying::LockEnded { entries: at };
+        let line_content = LineContent::LockEnded { entries: at };
         let height = self
             .canvas
-            .end(RunLine { source, at, saying }, told, output)?;
+            .end(RunLine { source, at, line_content }, reported, output)?;
         Ok(DrawnBands {
             shows: self.shows,
             height,
@@ -191,16 +191,16 @@ impl TraceDrawing {
 }
 
 /// Returns an observer of accesses before the first entry, if accesses are shown.
-fn watch_of(
+fn monitor_of(
     view: TraceView,
     setup: &TraceSetup,
     shows: Reads,
-) -> Result<Option<AccessWatch>, AllocError>
+) -> Result<Option<AccessMonitor>, AllocError>
     requires { is_trace_setup setup.now ≡ true }
-    ensures { IfOk result (Watches shows (limit_of view.options) setup.now []) }
+    ensures { IfOk result (Monitors shows (limit_of view.options) setup.now []) }
 {
     match shows {
-        Reads::All => Ok(Some(AccessWatch::new(view.alloc, setup, view.limit())?)),
+        Reads::All => Ok(Some(AccessMonitor::new(view.alloc, setup, view.limit())?)),
         Reads::Hidden | Reads::Shown => Ok(None),
     }
 }
@@ -208,26 +208,26 @@ fn watch_of(
 /// Observes the access of the next entry, and draws what is shown of it. It is never inlined, because the room in which an
 /// access is made would otherwise be cleared before each entry.
 #[inline(never)]
-fn draw_watched<W: Sink>(
+fn draw_monitored<W: Sink>(
     alloc: Global,
-    watch: &mut AccessWatch,
+    monitor: &mut AccessMonitor,
     canvas: &mut Canvas,
     entry: &TraceEntry,
     output: &mut W,
 ) -> Result<(), Fault>
     requires writes { W.failures output.old < 2 ^ 64 - 1 }
-    requires room { watch.old.entries < 2 ^ 64 - 1 }
+    requires room { monitor.old.entries < 2 ^ 64 - 1 }
     ensures drawn { OnOk result ((s : Setup) (limit : Limit) (past : Past) →
-        HasWatched watch.old s limit past →
+        HasMonitored monitor.old s limit past →
         DrawsOn (kept canvas.old) (kept canvas.new) (W.taken output.old) (W.taken output.new)
         (gives_access (shown_access s limit past entry.now))) }
-    ensures watched { (s : Setup) (limit : Limit) (past : Past) →
-        HasWatched watch.old s limit past → HasWatched watch.new s limit (entry.now ∷ past) }
+    ensures monitored { (s : Setup) (limit : Limit) (past : Past) →
+        HasMonitored monitor.old s limit past → HasMonitored monitor.new s limit (entry.now ∷ past) }
     ensures overlaps { canvas.new.overlaps ≡ canvas.old.overlaps }
     ensures fault { IfErr result IsWriteFault }
     ensures failures { W.failures output.new ≡ W.failures output.old + failed_write result }
 {
-    match watch.observe(alloc, entry)? {
+    match monitor.observe(alloc, entry)? {
         None => Ok(()),
         Some(access) => canvas.draw_access(access, output),
     }

@@ -13,7 +13,7 @@ use crate::drawing::DrawnBands;
 use crate::pictures::DrawnTrace;
 use crate::sheet::TraceSheet;
 use crate::views::TraceView;
-use draw::{Held, held_fault, write_markup};
+use draw::{StoredBands, held_fault, write_markup};
 use files::source_lines::Lines;
 use files::{Fault, FaultKind, Sink, Source, write_all};
 use picture::{
@@ -89,7 +89,7 @@ pub fn draw_trace_svg<R: Source, W: Sink>(
         judged,
         options,
     };
-    let mut bands = Held::new(alloc);
+    let mut bands = StoredBands::new(alloc);
     match draw_bands(view, input, &mut bands) {
         Ok(drawn) => {
             write_picture(alloc, &drawn, bands.bytes(), output)?;
@@ -102,10 +102,10 @@ pub fn draw_trace_svg<R: Source, W: Sink>(
 /// Writes the end of a page.
 fn end_page<W: Sink>(alloc: Global, drawn: &DrawnTrace, output: &mut W) -> Result<(), Fault>
     requires { W.failures output.old < 2 ^ 64 - 1 }
-    ensures ok { OnOk result ((options : Options) (s : Setup) (shown : List Entry) (told : List ℕ)
+    ensures ok { OnOk result ((options : Options) (s : Setup) (shown : List Entry) (reported : List ℕ)
         (first : Option (List ℕ)) →
-        EndsTrace form_variants.Page options drawn.now s shown told first (W.taken output.old) →
-        DrawsTraceSaid form_variants.Page options s shown told first (W.taken output.new)) }
+        EndsTrace form_variants.Page options drawn.now s shown reported first (W.taken output.old) →
+        DrawsTraceSaid form_variants.Page options s shown reported first (W.taken output.new)) }
     ensures fault { IfErr result IsWriteFault }
     ensures failures { W.failures output.new ≡ W.failures output.old + failed_write result }
 {
@@ -121,10 +121,10 @@ fn write_picture<W: Sink>(
     output: &mut W,
 ) -> Result<(), Fault>
     requires { W.failures output.old < 2 ^ 64 - 1 }
-    ensures ok { OnOk result ((options : Options) (s : Setup) (shown : List Entry) (told : List ℕ) →
-        EndsTrace (form_variants.Picture 34) options drawn.now s shown told
+    ensures ok { OnOk result ((options : Options) (s : Setup) (shown : List Entry) (reported : List ℕ) →
+        EndsTrace (form_variants.Picture 34) options drawn.now s shown reported
         (Some []) (Some bands.now) →
-        DrawsTraceSaid (form_variants.Picture 34) options s shown told
+        DrawsTraceSaid (form_variants.Picture 34) options s shown reported
         (W.taken output.old) (W.taken output.new)) }
     ensures fault { IfErr result IsWriteFault }
     ensures failures { W.failures output.new ≡ W.failures output.old + failed_write result }

@@ -127,23 +127,23 @@ impl ShownEntries {
         &mut self,
         view: TraceView,
         setup: &TraceSetup,
-        told: &[u8],
+        reported: &[u8],
         output: &mut W,
     ) -> Result<DrawnBands, Fault>
         requires good { is_trace_setup setup.now ≡ true }
         requires writes { W.failures output.old < 2 ^ 64 - 1 }
         ensures drawn { IfOk result (λ bands. (past : Past) (first : Option (List ℕ)) →
             AreShown view.form view.options setup.now past self.old first (W.taken output.old) →
-            EndsBands view.form view.options bands setup.now past told.now
+            EndsBands view.form view.options bands setup.now past reported.now
             first (W.taken output.new)) }
         ensures fault { IfErr result IsWriteFault }
         ensures failures { W.failures output.new ≡ W.failures output.old + failed_write result }
     {
         match &mut self.drawing {
-            Some(drawing) => drawing.end(setup, told, output),
+            Some(drawing) => drawing.end(setup, reported, output),
             None => {
                 let mut drawing = draw_held(view, setup, Reads::All, &self.held, output)?;
-                drawing.end(setup, told, output)
+                drawing.end(setup, reported, output)
             }
         }
     }

@@ -3,7 +3,7 @@ ghost use Rattle.std.specs.Prelude.{◌≡◌, ◌+◌, ◌-◌, ◌^◌, ◌<�
 ghost use Rattle.trace_engine.specs.{HasReported, is_good};
 ghost use Rattle.draw.specs.{IsWriteFault, failed_write};
 ghost use Rattle.trace.specs.{TraceEntry as Entry, TraceSetup as Setup, is_trace_setup};
-ghost use Rattle.trace_draw.specs.Showing.{EndsTrace, HasShown, IsTold, TellsTrace, count_of};
+ghost use Rattle.trace_draw.specs.Showing.{EndsTrace, HasShown, IsReported, ReportsIfJudged, count_of};
 
 use crate::drawing::DrawnBands;
 use crate::headings::title;
@@ -111,28 +111,28 @@ impl TracePicture {
         ensures drawn { IfOk result (λ drawn.
             (first : Option (List ℕ)) (entries : List Entry) (numbers : List ℕ) →
             HasShown view first (self.old, W.taken output.old) setup.now entries numbers →
-            IsTold view.judged (λ s shown told.
-            EndsTrace view.form view.options drawn s shown told first (W.taken output.new))
+            IsReported view.judged (λ s shown reported.
+            EndsTrace view.form view.options drawn s shown reported first (W.taken output.new))
             drawn.status setup.now entries numbers) }
         ensures fault { IfErr result IsWriteFault }
         ensures failures { W.failures output.new ≡ W.failures output.old + failed_write result }
     {
         let title = title(view.alloc, setup)?;
-        let told = told_by(view.alloc, view.judged, &self.reporter)?;
-        let bands = self.entries.end(view, setup, told.text.as_slice(), output)?;
+        let reported = reported_by(view.alloc, view.judged, &self.reporter)?;
+        let bands = self.entries.end(view, setup, reported.text.as_slice(), output)?;
         Ok(DrawnTrace {
             title,
             bands,
-            status: told.status,
+            status: reported.status,
         })
     }
 }
 
 /// Returns what a judge tells of the entries that it has observed, and its exit status; nothing and 0 if it is not asked.
-fn told_by(alloc: Global, judged: bool, reporter: &TraceReporter) -> Result<TraceReport, AllocError>
-    ensures { IfOk result (λ told. (s : Setup) (entries : List Entry) (numbers : List ℕ) →
+fn reported_by(alloc: Global, judged: bool, reporter: &TraceReporter) -> Result<TraceReport, AllocError>
+    ensures { IfOk result (λ reported. (s : Setup) (entries : List Entry) (numbers : List ℕ) →
         HasReported judged reporter.now s entries numbers →
-        TellsTrace judged s entries numbers told.text.items told.status) }
+        ReportsIfJudged judged s entries numbers reported.text.items reported.status) }
 {
     if judged {
         return reporter.report(alloc);

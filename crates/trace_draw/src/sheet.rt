@@ -4,7 +4,7 @@ ghost use Rattle.draw.specs.{IsWriteFault, LineStops, failed_write};
 ghost use Rattle.trace.specs.{TraceEntry as Entry, is_trace_setup};
 ghost use Rattle.trace_engine.specs.{Observes, count_by};
 ghost use Rattle.trace_engine.specs.trace_file.TraceFiles.{TraceProgress, line_read};
-ghost use Rattle.trace_draw.specs.Showing.{EndsTrace, HasShown, IsTold, count_of};
+ghost use Rattle.trace_draw.specs.Showing.{EndsTrace, HasShown, IsReported, count_of};
 ghost use Rattle.trace_draw.specs.Sheets.{DrawsLine, EndsSheet, NothingYet, Stands, with_output};
 
 use crate::pictures::{DrawnTrace, TracePicture};
@@ -138,8 +138,8 @@ impl TraceView {
             NothingYet picture.old first (W.taken output.old) →
             Observes (HasShown self first) (with_output (W.taken output.old) picture.old)
             setup.now entries numbers →
-            IsTold self.judged (λ s shown told.
-            EndsTrace self.form self.options d s shown told first (W.taken output.new))
+            IsReported self.judged (λ s shown reported.
+            EndsTrace self.form self.options d s shown reported first (W.taken output.new))
             d.status setup.now entries numbers) }
         ensures fault { IfErr result IsWriteFault }
         ensures failures { W.failures output.new ≡ W.failures output.old + failed_write result }

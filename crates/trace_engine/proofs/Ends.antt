@@ -2,7 +2,7 @@
 use Rattle.std.proofs.Common.{◌≡◌, ℕ, ◌+◌, ◌≤◌, Bool, true, false, List, [], ◌∷◌, ◌++◌, length, Option, Some, None, Result, Ok, Err, IfErr, IfSome, IsErrAnd, refl, ap, sym, subst, ◌∙◌, arith}
 use Rattle.std.proofs.lemmas.List.{length-append}
 use Rattle.std.specs.Io.KnownBytes.{IsAtEnd, prepend_known}
-use Rattle.files.specs.{EndHolds, Fault, FaultKind, Given, GoesToNext, IsTooLong, LineFault, LineState, TakesLine, TakesNext, Told, UnlessMemory, at_line, coming, lines, unless_ended, ◌>>=◌}
+use Rattle.files.specs.{EndHolds, Fault, FaultKind, Given, GoesToNext, IsTooLong, LineFault, LineState, TakesLine, TakesNext, Reported, UnlessMemory, at_line, coming, lines, unless_ended, ◌>>=◌}
 use Rattle.files.specs.declared.faults.Fault.TheVariants as fault
 use Rattle.files.specs.declared.faults.FaultKind.TheVariants.{NotFirst, TooLong}
 use Rattle.trace.specs.{TraceEntry, TraceSetup}
@@ -33,17 +33,17 @@ line_fault n text line others before entries numbers kind is fault =
 
 -- reading the rest, after `taken` lines, gives the same result as reading the whole text
 abbrev pub GoesOnTo : Option TraceProgress → List TraceEntry → List ℕ → ℕ → List ℕ → List ℕ → Type 0
-GoesOnTo before entries numbers taken text left = rest_read (taken + 1) left (read_so_far before entries numbers) ≡ trace_said text
+GoesOnTo before entries numbers taken text remaining = rest_read (taken + 1) remaining (read_so_far before entries numbers) ≡ trace_said text
 
 -- two relations between texts, each known or not, compose to a third
-pub reported_on : (a b c : Option (List ℕ)) (P Q R : List ℕ → List ℕ → Type 0) → ((x y z : List ℕ) → P x y → Q y z → R x z) → Told a b P → Told b c Q → Told a c R
+pub reported_on : (a b c : Option (List ℕ)) (P Q R : List ℕ → List ℕ → Type 0) → ((x y z : List ℕ) → P x y → Q y z → R x z) → Reported a b P → Reported b c Q → Reported a c R
 reported_on None b c P Q R then first next = tt
 reported_on (Some x) None c P Q R then first next = absurd first
 reported_on (Some x) (Some y) None P Q R then first next = absurd next
 reported_on (Some x) (Some y) (Some z) P Q R then first next = then x y z first next
 
 -- a fact of the whole input, from a fact of the rest of it
-of_input : (to_come rest : Option (List ℕ)) (P : List ℕ → List ℕ → Type 0) (Q R : List ℕ → Type 0) → ((x y : List ℕ) → P x y → Q y → R x) → Told to_come rest P → IfSome rest Q → IfSome to_come R
+of_input : (to_come rest : Option (List ℕ)) (P : List ℕ → List ℕ → Type 0) (Q R : List ℕ → Type 0) → ((x y : List ℕ) → P x y → Q y → R x) → Reported to_come rest P → IfSome rest Q → IfSome to_come R
 of_input None rest P Q R then reported is = tt
 of_input (Some x) None P Q R then reported is = absurd reported
 of_input (Some x) (Some y) P Q R then reported is = then x y reported is
@@ -65,7 +65,7 @@ goes_on before now entries numbers taken taken' line x y z one says so_far takes
     (sym (line_then (taken + 1) y line z before now entries numbers takes says) ∙ so_far)
 
 -- before the first line
-goes_on_at_first : (to_come : Option (List ℕ)) (taken : ℕ) → taken ≡ 0 → Told to_come (prepend_known [] to_come) (GoesOnTo None [] [] taken)
+goes_on_at_first : (to_come : Option (List ℕ)) (taken : ℕ) → taken ≡ 0 → Reported to_come (prepend_known [] to_come) (GoesOnTo None [] [] taken)
 goes_on_at_first None taken none = tt
 goes_on_at_first (Some text) taken none = subst (λ n. GoesOnTo None [] [] n text text) (sym none) refl
 
@@ -81,7 +81,7 @@ module _ {H : Type 0} (HasObserved : H → TraceSetup → List TraceEntry → Li
     pub numbers : List ℕ
     pub read_up_to : IsReadUpTo HasObserved reader reporter before entries numbers
     pub few : length entries ≤ taken
-    pub goes_on : Told to_come rest (GoesOnTo before entries numbers taken)
+    pub goes_on : Reported to_come rest (GoesOnTo before entries numbers taken)
 
   -- the number of observed entries is the number of entries read
   observed_count : (count : H → ℕ) → ((h : H) (s : TraceSetup) (entries : List TraceEntry) (numbers : List ℕ) → HasObserved h s entries numbers → count h ≡ length entries) → (h : Option H) (before : Option TraceProgress) (entries : List TraceEntry) (numbers : List ℕ) → ObservesAt HasObserved h before entries numbers → count_by count h ≡ length entries
@@ -109,7 +109,7 @@ module _ {H : Type 0} (HasObserved : H → TraceSetup → List TraceEntry → Li
     numbers = u.numbers ++ number_in l'.taken on.now;
     read_up_to = on.read_up_to;
     few = let had : length u.entries ≤ l.taken = u.few in let one = few_in on.now in let taken : l'.taken ≡ l.taken + 1 = takes.taken in omega (arith, had, one, taken, length-append u.entries (entry_in on.now));
-    goes_on = reported_on to_come mid rest (GoesOnTo u.before u.entries u.numbers l.taken) (λ text left. TakesLine text l'.line left) (GoesOnTo (cleared on.now) (u.entries ++ entry_in on.now) (u.numbers ++ number_in l'.taken on.now) l'.taken)
+    goes_on = reported_on to_come mid rest (GoesOnTo u.before u.entries u.numbers l.taken) (λ text remaining. TakesLine text l'.line remaining) (GoesOnTo (cleared on.now) (u.entries ++ entry_in on.now) (u.numbers ++ number_in l'.taken on.now) l'.taken)
         (λ x y z so_far line. goes_on u.before on.now u.entries u.numbers l.taken l'.taken l'.line x y z takes.taken on.says so_far line) u.goes_on takes.line;
   }
 
@@ -121,7 +121,7 @@ module _ {H : Type 0} (HasObserved : H → TraceSetup → List TraceEntry → Li
       (λ (is : line_read l'.line u.before ≡ Err kind). sym so_far ∙ line_fault (l.taken + 1) y l'.line (lines line.0) u.before u.entries u.numbers kind line.1 is ∙ ap (λ n. Err (record { line = n; kind = kind })) (sym takes.taken)) fault)
       u.goes_on (some_rest mid rest takes.line)
     where
-      some_rest : (mid rest : Option (List ℕ)) → Told mid rest (λ text left. TakesLine text l'.line left) → IfSome mid (λ y. (z : List ℕ) × TakesLine y l'.line z)
+      some_rest : (mid rest : Option (List ℕ)) → Reported mid rest (λ text remaining. TakesLine text l'.line remaining) → IfSome mid (λ y. (z : List ℕ) × TakesLine y l'.line z)
       some_rest None rest reported = tt
       some_rest (Some y) None reported = absurd reported
       some_rest (Some y) (Some z) reported = (z, reported)

@@ -133,18 +133,18 @@ said_left line.Entry first words p now is = entry_left first words p now is
 pub record LeftLater (p : TraceProgress) (now : Option TraceProgress) : Type 0 where
   pub next : TraceProgress
   pub is : now ≡ Some next
-  pub left : Left p next
+  pub remaining : Left p next
 
-pub later_left : (words : List (List ℕ)) (p : TraceProgress) (now : Option TraceProgress) → words_read trace_grammar words (Some p) ≡ Ok now → LeftLater p now
-later_left [] p now is = record { next = p; is = sym (ok_same (Some p) now is); left = same_left p }
-later_left (first ∷ words) p now is = by (begins_with 35 first) is
+pub later_remaining : (words : List (List ℕ)) (p : TraceProgress) (now : Option TraceProgress) → words_read trace_grammar words (Some p) ≡ Ok now → LeftLater p now
+later_remaining [] p now is = record { next = p; is = sym (ok_same (Some p) now is); remaining = same_left p }
+later_remaining (first ∷ words) p now is = by (begins_with 35 first) is
   where
     by : (b : Bool) → (if b then Ok (Some p) else statement_read trace_grammar first words (Some p)) ≡ Ok now → LeftLater p now
-    by true is = record { next = p; is = sym (ok_same (Some p) now is); left = same_left p }
+    by true is = record { next = p; is = sym (ok_same (Some p) now is); remaining = same_left p }
     by false is =
         let a = passed (later_read first words p) (λ s. Ok (Some s)) now is in
         let b = passed (known (kind_of first)) (λ kind. line_said kind first words p) a.value a.first in
-        record { next = a.value; is = sym (ok_same (Some a.value) now a.next); left = said_left b.value first words p a.value b.next }
+        record { next = a.value; is = sym (ok_same (Some a.value) now a.next); remaining = said_left b.value first words p a.value b.next }
 
 -- the first line is not an entry
 first_none : (first : List ℕ) (words : List (List ℕ)) (p : TraceProgress) → first_read first words ≡ Ok p → p.entry ≡ None

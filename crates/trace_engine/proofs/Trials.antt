@@ -6,7 +6,7 @@ use Rattle.files.specs.declared.faults.FaultKind.TheVariants.{Memory}
 use Rattle.trace.specs.{TraceEntry, TraceSetup}
 use Rattle.trace_file.specs.TraceFiles.{TraceProgress, cleared, entry_in, line_read, number_in, trace_grammar}
 use Rattle.trace_engine.specs.Trials.{GoesOn, Observes, ObservesAt, IsReadUpTo}
-use Rattle.trace_engine.proofs.LineReads.{clear_twice, empty, first_left, later_left, number_of_none, number_of_some, short_read}
+use Rattle.trace_engine.proofs.LineReads.{clear_twice, empty, first_left, later_remaining, number_of_none, number_of_some, short_read}
 
 -- an implication between facts that are known unless memory ran out
 pub unless_then : (kind : FaultKind) {P Q : Type 0} → (P → Q) → UnlessMemory kind P → UnlessMemory kind Q
@@ -30,9 +30,9 @@ module _ {H : Type 0} (HasObserved : H → TraceSetup → List TraceEntry → Li
   still_at line before now None entries numbers read clear none observed = observed
   still_at line None now (Some h) entries numbers read clear none observed = absurd observed
   still_at line (Some p) now (Some h) entries numbers read clear none observed =
-      let later = later_left (words_of line) p now read in
+      let later = later_remaining (words_of line) p now read in
       subst (λ (o : Option TraceProgress). ObservesAt HasObserved (Some h) (cleared o) entries numbers) (sym later.is)
-      (elim later.left [
+      (elim later.remaining [
         | inl quiet ↦ let stays = quiet.stays observed.0 in (stays.0, observed_at p.setup later.next.setup h entries numbers (sym stays.1) observed.1)
         | inr says ↦ absurd (let no : says.entry ∷ [] ≡ [] = sym (ap option_to_list says.is) ∙ sym (ap entry_in later.is) ∙ none in cc)
       ])
@@ -44,9 +44,9 @@ module _ {H : Type 0} (HasObserved : H → TraceSetup → List TraceEntry → Li
       absurd (let no : e ∷ [] ≡ [] = sym (ap option_to_list says) ∙ first_left (words_of line) (Some now) read in cc)
   more_at line (Some p) now e n h None entries numbers read clear says some observes observed = absurd (cc)
   more_at line (Some p) now e n h (Some k) entries numbers read clear says some observes observed =
-      let later = later_left (words_of line) p (Some now) read in
+      let later = later_remaining (words_of line) p (Some now) read in
       let same : now ≡ later.next = let both : Some now ≡ Some later.next = later.is in cc in
-      elim later.left [
+      elim later.remaining [
         | inl quiet ↦ absurd (let no : Some e ≡ None = sym says ∙ ap (λ (q : TraceProgress). q.entry) same ∙ quiet.entry ∙ empty p clear in cc)
         | inr is ↦
             let setup = ap (λ (q : TraceProgress). q.setup) same ∙ is.setup in

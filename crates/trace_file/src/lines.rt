@@ -204,13 +204,13 @@ fn cut_at_blank(line: &[u8]) -> (&[u8], &[u8])
     ensures before { result.0.now ≡ before_first blank line.now }
     ensures behind { result.1.now ≡ after_first blank line.now }
 {
-    let at = place_of_blank(line).unwrap_or(line.len());
+    let at = offset_of_blank(line).unwrap_or(line.len());
     (&line[..at], &line[(at + 1).min(line.len())..])
 }
 
 /// Returns the number of bytes before the first blank, if there is one.
 #[inline(always)]
-fn place_of_blank(line: &[u8]) -> Option<usize>
+fn offset_of_blank(line: &[u8]) -> Option<usize>
     ensures place { result ≡ position blank line.now }
     ensures within { IfSome result (λ at. at < length line.now) }
 {

@@ -3,7 +3,7 @@ ghost use Rattle.std.specs.Prelude.{ℕ, Bool, ◌≤◌, IfOk};
 ghost use Rattle.model.specs.reader_copies.{IsRow, IsWritten};
 ghost use Rattle.register_drive.specs.{IsIdle};
 
-use crate::timing::tell;
+use crate::timing::report;
 use anyhow::{Result, bail};
 use register_drive::{ReadRun, Register, read_all, write_all};
 use std::rt::Clock;
@@ -59,6 +59,6 @@ fn timed<T: Print + Eprint + Clock>(
     } else {
         "read steps"
     };
-    tell(rt, what, &total, total, &start)?;
+    report(rt, what, &total, total, &start)?;
     Ok(())
 }

@@ -6,7 +6,7 @@ ghost use Rattle.board_runs.specs.board.{IsOf, PortState};
 mod calls;
 
 use crate::counters::{counter, counting};
-use crate::timing::tell;
+use crate::timing::report;
 use anyhow::{Result, bail};
 use board_runs::{Board, Port};
 use calls::{calls_again, calls_alone, steps_of_a_call};
@@ -48,7 +48,7 @@ fn largest<T: Print + Eprint + Clock + AllocGlobal>(rt: &T) -> Result<()> {
     let start = Instant::now(rt)?;
     let (_board, ports) = Board::new(rt.alloc(), &setup)?;
     let made = ports.len() as u64;
-    tell(rt, "ports of the largest board", &made, made, &start)?;
+    report(rt, "ports of the largest board", &made, made, &start)?;
     Ok(())
 }
 
@@ -87,7 +87,7 @@ fn timed_alone<T: Print + Eprint + Clock>(
         bail!("a call takes another number of steps");
     }
     let all = steps.saturating_mul(u64::from(calls));
-    tell(rt, run, &steps, all, &start)?;
+    report(rt, run, &steps, all, &start)?;
     Ok(())
 }
 
@@ -124,6 +124,6 @@ fn timed_together<T: Print + Eprint + Clock + Threads + Sync>(
         { calls_again(board, port, &adds, times) },
     )?;
     let least = counts.iter().copied().min().unwrap_or(0);
-    tell(rt, run, &counts.len(), least, &start)?;
+    report(rt, run, &counts.len(), least, &start)?;
     Ok(())
 }

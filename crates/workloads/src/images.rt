@@ -1,5 +1,5 @@
 //! The time that a command on a full image takes.
-use crate::timing::tell;
+use crate::timing::report;
 use anyhow::Result;
 use call_check::Image;
 use plain_store::{Caller, Command, Name, NestedTypes, Reply, Store, Value};
@@ -29,7 +29,7 @@ pub fn times<T: Print + Eprint + Clock>(rt: &T, rounds: u32) -> Result<()> {
             last = image.apply(add, caller)?;
         }
     }
-    tell(rt, "rounds of 8 adds", &last, u64::from(rounds), &start)?;
+    report(rt, "rounds of 8 adds", &last, u64::from(rounds), &start)?;
     println!(rt; "last number {}", image.last(0))?;
     Ok(())
 }

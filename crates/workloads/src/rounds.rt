@@ -5,7 +5,7 @@ ghost use Rattle.plain_store.specs.{checked};
 
 use crate::word;
 use anyhow::{Result, bail};
-use board_runs::{Left, played, read_scenario};
+use board_runs::{BoardResult, played, read_scenario};
 use call_check::weigh;
 use plain_store::Setup;
 use std::env::Env;
@@ -50,18 +50,18 @@ fn play<T: Print + AllocGlobal + Threads + Sync>(
 ) -> Result<()> {
     let scenario = read_scenario(rt.alloc(), file.as_bytes())?;
     match played(rt, &scenario, by_turns)? {
-        Some(left) => tell(rt, &scenario.setup, &left),
+        Some(remaining) => report(rt, &scenario.setup, &remaining),
         None => bail!("a process is at work"),
     }
 }
 
 /// Prints the setup, the ports' lists and the image that the board leaves, and in version 1 the verdict of weighing them.
-fn tell<T: Print + AllocGlobal>(rt: &T, setup: &Setup, left: &Left<'_>) -> Result<()>
+fn report<T: Print + AllocGlobal>(rt: &T, setup: &Setup, remaining: &BoardResult<'_>) -> Result<()>
     requires { checked setup.now ≡ Ok tt }
 {
     print!(rt; "{left}")?;
     if setup.version == 1 {
-        let closing = &left.closing;
+        let closing = &remaining.closing;
         let verdict = weigh(
             rt.alloc(),
             setup,

@@ -9,10 +9,10 @@ use std::time::Instant;
 /// # Errors
 ///
 /// Returns the error of the clock or of a stream.
-pub fn tell<T: Print + Eprint + Clock>(
+pub fn report<T: Print + Eprint + Clock>(
     rt: &T,
     run: &str,
-    left: &impl Display,
+    remaining: &impl Display,
     steps: u64,
     start: &Instant,
 ) -> io::Result<()> {

@@ -7,7 +7,7 @@ ghost use Rattle.model.specs.{lists_of};
 mod histories;
 
 use crate::counters::counting;
-use crate::timing::tell;
+use crate::timing::report;
 use anyhow::{Result, bail};
 use call_check::{Image, weigh};
 use histories::{History, called_in_turn};
@@ -106,7 +106,7 @@ fn timed<T: Print + Eprint + Clock + AllocGlobal>(
     }
     let start = Instant::now(rt)?;
     let verdict = weigh(rt.alloc(), setup, lists, image)?;
-    tell(rt, name, &verdict, calls, &start)?;
+    report(rt, name, &verdict, calls, &start)?;
     Ok(())
 }
 

@@ -22,7 +22,7 @@ use Rattle.laws.proofs.Steps.{StepIs, step_is}
 use Rattle.laws.proofs.Theorems.{less, not_less}
 use Rattle.process.specs.{ProcessState, answered_at, next_number, process_after, stage_doing}
 use Rattle.process.specs.registers.{answered}
-use Rattle.world.specs.{CoreState, Seat, access_made, core_after, is_waiting, marks_made, registers_made, seat_after, seat_of, told, waiting_in, waits_in}
+use Rattle.world.specs.{CoreState, Seat, access_made, core_after, is_waiting, marks_made, registers_made, seat_after, seat_of, reported, waiting_in, waits_in}
 use Rattle.world.proofs.QueueAfter.{before-called}
 use Rattle.world.proofs.QueueBegun.{begun-after}
 use Rattle.world.proofs.WorldLists.{get-beyond, get-mapped}
@@ -33,12 +33,12 @@ use Rattle.world.proofs.WorldShows.{past-after}
 use Rattle.world.proofs.WorldStages.{stage-process}
 
 -- the entry of an event, computed from a core and a history
-abbrev pub entry_told : CoreState → Seat → ℕ → Event → Entry
-entry_told c seat taken what = record { process = process_of what; access = access_made c.registers seat what; marks = map (placed taken) (marks_made c.registers seat what) }
+abbrev pub entry_reported : CoreState → Seat → ℕ → Event → Entry
+entry_reported c seat taken what = record { process = process_of what; access = access_made c.registers seat what; marks = map (placed taken) (marks_made c.registers seat what) }
 
 -- this entry after a past
 abbrev pub entry_made : Setup → Past → Event → Entry
-entry_made s past what = entry_told (core_of s past) (seat_of s past (process_of what)) (length (history s past)) what
+entry_made s past what = entry_reported (core_of s past) (seat_of s past (process_of what)) (length (history s past)) what
 
 -- A process that makes a step.
 
@@ -182,8 +182,8 @@ waited-own past p e h = ap (λ b. is_waiting_stage (cond b (fold stage_after (st
 
 -- an event that is not a call
 seat-then : (s : Setup) → checked s ≡ Ok tt → (events : List Event) (what : Event) → let past : Past = past_of s events in let p : ℕ = process_of what in let e : Entry = entry_made s past what in refused s past what ≡ None → entry_of s past what ≡ Some e →
-    told p (waited past p) (waited (e ∷ past) p) (seat_after (core_of s past) (seat_of s past p) what) ≡ seat_of s (e ∷ past) p
-seat-then s ok events (event.Call p command) allowed h = (λ i. told p (waits i) (now_waits i) then) ∙ (λ i. let seat : Seat = record {
+    reported p (waited past p) (waited (e ∷ past) p) (seat_after (core_of s past) (seat_of s past p) what) ≡ seat_of s (e ∷ past) p
+seat-then s ok events (event.Call p command) allowed h = (λ i. reported p (waits i) (now_waits i) then) ∙ (λ i. let seat : Seat = record {
   process = process-then s ok events (event.Call p command) allowed h i;
   begun = sym (begun-after s g events (event.Call p command) e h) i;
   before = (waiting-is s g events ∙ sym (before-called s g events (event.Call p command) e h refl)) i;
@@ -261,5 +261,5 @@ core-goes s ok events what allowed = λ i. let core : CoreState = record { setup
         ∙ ap is_waiting_stage (stage-process s g (what ∷ events) p)
         ∙ ap (λ past. waited past p) (past-after s events what e h)
 
-    seats : map (told p (is_waiting (seat_of s past p)) (is_waiting then)) (slice_set (map (seat_of s past) (processes s)) p then) ≡ map (seat_of s (e ∷ past)) (processes s)
-    seats = (λ i. map (told p (was i) (waits i)) (slice_set (map (seat_of s past) (processes s)) p then)) ∙ all-seats s ok events what e h then (seat-then s ok events what allowed h)
+    seats : map (reported p (is_waiting (seat_of s past p)) (is_waiting then)) (slice_set (map (seat_of s past) (processes s)) p then) ≡ map (seat_of s (e ∷ past)) (processes s)
+    seats = (λ i. map (reported p (was i) (waits i)) (slice_set (map (seat_of s past) (processes s)) p then)) ∙ all-seats s ok events what e h then (seat-then s ok events what allowed h)

@@ -6,12 +6,12 @@ use Rattle.std.proofs.lemmas.List.{length-map, length-set, length_push}
 use Rattle.plain_store.specs.{Command, Reply, Setup}
 use Rattle.model.specs.{Access, Entry, Event, Past, Taken, call_number, entry_of, history, is_call, is_event, last_command, own, past_of, placed, process_of, refused, reply_taken, value_of}
 use Rattle.model.specs.declared.events.Event.TheVariants as event
-use Rattle.process.specs.{Effect, answered_at, marks_of}
-use Rattle.world.specs.{CoreGoes, CoreRefuses, CoreState, KeepsCore, Seat, access_made, call_in, core_after, history_with, is_pending, is_waiting, marks_made, pending, pending_in, seat_after, seat_of, told, with_history, with_taken}
+use Rattle.process.specs.{EventOutcome, answered_at, marks_of}
+use Rattle.world.specs.{CoreGoes, CoreRefuses, CoreState, KeepsCore, Seat, access_made, call_in, core_after, history_with, is_pending, is_waiting, marks_made, pending, pending_in, seat_after, seat_of, reported, with_history, with_taken}
 use Rattle.world.specs.Shows.{Shows}
-use Rattle.world.proofs.CoreGoes.{core-goes, entry_made, entry_told, made}
+use Rattle.world.proofs.CoreGoes.{core-goes, entry_made, entry_reported, made}
 use Rattle.world.proofs.WorldOpen.{core-shown, core_of, history-shown, is-allowed, many-seats, seat-indexed, seat-shown}
-use Rattle.world.proofs.WorldPending.{fails-pending, keeps, pending-most, pending-set, pending-told, takes}
+use Rattle.world.proofs.WorldPending.{fails-pending, keeps, pending-most, pending-set, pending-reported, takes}
 use Rattle.world.proofs.WorldShows.{history-then, reply-placed, shows-on}
 
 -- an event of a core, by the seat of its process; it is not refused
@@ -28,7 +28,7 @@ taken_length h p command number None = omega arith
 taken_length h p command number (Some r) = length_push h (record { process = p; command = command; reply = r; number = number })
 
 -- the last call of a process is that of its seat after the event
-call-set : (seats : List Seat) (waited waits : Bool) (p i : ℕ) (then : Seat) → i < length seats → call_in (map (told p waited waits) (slice_set seats i then)) i ≡ (then.process.command, then.process.number)
+call-set : (seats : List Seat) (waited waits : Bool) (p i : ℕ) (then : Seat) → i < length seats → call_in (map (reported p waited waits) (slice_set seats i then)) i ≡ (then.process.command, then.process.number)
 call-set [] waited waits p i then l = absurd (omega (arith, l))
 call-set (x ∷ seats) waited waits p zero then l = refl
 call-set (x ∷ seats) waited waits p (suc i) then l = call-set seats waited waits p i then (omega (arith, l))
@@ -76,11 +76,11 @@ module _ (c : CoreState) (taken : List Taken) (events : List Event) (what : Even
   taken-is : taken ≡ history s past
   taken-is = history-shown c taken events shows
 
-  told-is : entry_told c seat (length taken) what ≡ entry_made s past what
-  told-is = λ i. entry_told (core-is i) (seat-is i) (length (taken-is i)) what
+  reported-is : entry_reported c seat (length taken) what ≡ entry_made s past what
+  reported-is = λ i. entry_reported (core-is i) (seat-is i) (length (taken-is i)) what
 
-  pub next-adds : entry_of s past what ≡ Some (entry_told c seat (length taken) what)
-  next-adds = made s shows.good events what allowed ∙ ap Some (sym told-is)
+  pub next-adds : entry_of s past what ≡ Some (entry_reported c seat (length taken) what)
+  next-adds = made s shows.good events what allowed ∙ ap Some (sym reported-is)
 
   history-goes : history_after c seat what taken ≡ history s (entry_made s past what ∷ past)
   history-goes =
@@ -133,9 +133,9 @@ seat-pending c seat (event.Restart p) other = omega arith
 next-pending : (c : CoreState) (seat : Seat) (what : Event) → slice_get c.seats (process_of what) ≡ Some seat →
     pending_in (core_after c seat what).seats + pending seat ≡ pending_in c.seats + pending (seat_after c seat what)
 next-pending c seat what there =
-    let told = pending-told (process_of what) (is_waiting seat) (is_waiting (seat_after c seat what)) (slice_set c.seats (process_of what) (seat_after c seat what)) in
+    let reported = pending-reported (process_of what) (is_waiting seat) (is_waiting (seat_after c seat what)) (slice_set c.seats (process_of what) (seat_after c seat what)) in
     let set = pending-set c.seats (process_of what) (seat_after c seat what) seat there in
-    omega (arith, told, set)
+    omega (arith, reported, set)
 
 pub next-fewer : (c : CoreState) (seat : Seat) (what : Event) → slice_get c.seats (process_of what) ≡ Some seat → is_call what ≡ false →
     pending_in (core_after c seat what).seats + taking_of (reply_taken (marks_made c.registers seat what)) ≤ pending_in c.seats
@@ -143,7 +143,7 @@ next-fewer c seat what there other = let all = next-pending c seat what there in
 
 many-after : (c : CoreState) (seat : Seat) (what : Event) → length (core_after c seat what).seats ≡ length c.seats
 many-after c seat what =
-    length-map (slice_set c.seats (process_of what) (seat_after c seat what)) (told (process_of what) (is_waiting seat) (is_waiting (seat_after c seat what)))
+    length-map (slice_set c.seats (process_of what) (seat_after c seat what)) (reported (process_of what) (is_waiting seat) (is_waiting (seat_after c seat what)))
     ∙ length-set c.seats (process_of what) (seat_after c seat what)
 
 next-few : (c : CoreState) (seat : Seat) (what : Event) → slice_get c.seats (process_of what) ≡ Some seat →
@@ -182,7 +182,7 @@ pub next-keeps : (c new : CoreState) (what : Event) (seat : Seat) → KeepsCore 
 next-keeps c new what seat k n is = subst KeepsCore (sym is) (keeps_core _ _ _ (next-shows c k.taken k.events what seat k.shows n))
 
 -- the core makes the event
-pub next-goes : (c d new : CoreState) (what : Event) (effect : Effect) (access : Option Access) (seat : Seat) → c ≡ d → IsNext c what seat →
+pub next-goes : (c d new : CoreState) (what : Event) (effect : EventOutcome) (access : Option Access) (seat : Seat) → c ≡ d → IsNext c what seat →
     access ≡ access_made c.registers seat what → marks_of effect ≡ marks_made c.registers seat what → new ≡ core_after c seat what → CoreGoes d what effect access new
 next-goes c d new what effect access seat view n access_is marks is =
     subst (λ (d : CoreState). CoreGoes d what effect access new) view (subst (CoreGoes c what effect access) (sym is) (record {

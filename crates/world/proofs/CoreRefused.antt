@@ -8,11 +8,11 @@ use Rattle.model.specs.{Event, Past, Refusal, Taken, calls_full, calls_in, is_ca
 use Rattle.model.specs.declared.events.Event.TheVariants.{Step}
 use Rattle.model.specs.declared.refusals.Refusal.TheVariants.{NoProcess, NotRunning, CallsFull}
 use Rattle.model.proofs.Width.{is_good}
-use Rattle.process.specs.{is_full, left_at, may_step, refusal_of, stage_doing}
+use Rattle.process.specs.{is_full, remaining_at, may_step, refusal_of, stage_doing}
 use Rattle.world.specs.{CoreRefuses, CoreState, Seat, seat_of, with_history}
 use Rattle.world.specs.Shows.{Shows}
 use Rattle.world.proofs.WorldOpen.{many-seats, seat-shown, seatless}
-use Rattle.world.proofs.WorldStages.{left-may, stage-process, step-refused}
+use Rattle.world.proofs.WorldStages.{remaining-may, stage-process, step-refused}
 
 refused-by : (s : Setup) (past : Past) (what : Event) (b : Bool) (r : Option Refusal) (f : Bool) → nat_lt (process_of what) s.processes ≡ b → refused_at what (stage (process_of what) past) ≡ r → calls_full s past what ≡ f →
     refused s past what ≡ cond b (elim r as (λ _. Option Refusal) [ Some x ↦ Some x | None ↦ cond f (Some CallsFull) None ]) (Some NoProcess)
@@ -48,8 +48,8 @@ module _ (c : CoreState) (taken : List Taken) (events : List Event) (what : Even
   pub below-is : nat_lt p s.processes ≡ true
   below-is = let many = many-seats (with_history c taken) events shows in let l = slice_get_within c.seats p seat there in is-below p s.processes (omega (arith, many, l))
 
-  pub stage-told : stage_doing seat.process.doing ≡ stage p past
-  stage-told = ap (λ (x : Seat). stage_doing x.process.doing) seat_is ∙ stage-process s (is_good s shows.good) events p
+  pub stage-reported : stage_doing seat.process.doing ≡ stage p past
+  stage-reported = ap (λ (x : Seat). stage_doing x.process.doing) seat_is ∙ stage-process s (is_good s shows.good) events p
 
   pub full-is : is_full seat.process.setup seat.process.number what ≡ calls_full s past what
   full-is = ap (λ (x : Seat). is_full x.process.setup x.process.number what) seat_is ∙ by (is_call what) (s.version == 2)
@@ -59,12 +59,12 @@ module _ (c : CoreState) (taken : List Taken) (events : List Event) (what : Even
       by true false = refl
       by false v = refl
 
-  told-refused : refused s past what ≡ refusal_of seat.process what
-  told-refused = refused-by s past what true (refused_at what (stage_doing seat.process.doing)) (is_full seat.process.setup seat.process.number what) below-is (ap (refused_at what) (sym stage-told)) (sym full-is)
+  reported-refused : refused s past what ≡ refusal_of seat.process what
+  reported-refused = refused-by s past what true (refused_at what (stage_doing seat.process.doing)) (is_full seat.process.setup seat.process.number what) below-is (ap (refused_at what) (sym stage-reported)) (sym full-is)
 
 -- an event is refused for the reason that its process gives
-pub refused-told : (c : CoreState) (what : Event) (seat : Seat) → slice_get c.seats (process_of what) ≡ Some seat → CoreRefuses c what (refusal_of seat.process what)
-refused-told c what seat there taken events shows = told-refused c taken events what seat shows there
+pub refused-reported : (c : CoreState) (what : Event) (seat : Seat) → slice_get c.seats (process_of what) ≡ Some seat → CoreRefuses c what (refusal_of seat.process what)
+refused-reported c what seat there taken events shows = reported-refused c taken events what seat shows there
 
 -- a step is refused unless the process has one to make
 pub refused-step : (c : CoreState) (p : ℕ) (flick : Bool) (seat : Seat) → slice_get c.seats p ≡ Some seat → CoreRefuses c (Step p flick) (cond (may_step seat.process.doing) None (Some NotRunning))
@@ -80,5 +80,5 @@ refused-step c p flick seat there taken events shows =
     by false = refl
 
 -- within a register access a step is not refused
-pub step-within : (c : CoreState) (p : ℕ) (flick : Bool) (seat : Seat) → slice_get c.seats p ≡ Some seat → 0 < left_at seat.process → CoreRefuses c (Step p flick) None
-step-within c p flick seat there some = subst (λ b. CoreRefuses c (Step p flick) (cond b None (Some NotRunning))) (left-may seat.process some) (refused-step c p flick seat there)
+pub step-within : (c : CoreState) (p : ℕ) (flick : Bool) (seat : Seat) → slice_get c.seats p ≡ Some seat → 0 < remaining_at seat.process → CoreRefuses c (Step p flick) None
+step-within c p flick seat there some = subst (λ b. CoreRefuses c (Step p flick) (cond b None (Some NotRunning))) (remaining-may seat.process some) (refused-step c p flick seat there)

@@ -13,7 +13,7 @@ pub mod WorldLists
 pub mod WorldStages
 pub mod WorldOpen
 pub mod WorldSeats
-pub mod WorldTelling
+pub mod WorldReporting
 -- The world after an event
 pub mod WorldShows
 pub mod CoreGoes

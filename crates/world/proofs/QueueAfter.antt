@@ -79,16 +79,16 @@ comes-to-wait st (Waiting t ∷ ms) was then = refl
 comes-to-wait st (Called c ∷ ms) was then = comes-to-wait stages.Doorway ms refl then
 comes-to-wait st (Entered ∷ ms) was then = comes-to-wait stages.Inside ms refl then
 comes-to-wait st (Taken k r ∷ ms) was then = comes-to-wait st ms was then
-comes-to-wait st (Left ∷ ms) was then = comes-to-wait (stage_after st Left) ms (left st) then
+comes-to-wait st (Left ∷ ms) was then = comes-to-wait (stage_after st Left) ms (remaining st) then
   where
-    left : (st : Stage) → is_waiting_stage (stage_after st Left) ≡ false
-    left stages.Settling = refl
-    left stages.Idle = refl
-    left stages.Doorway = refl
-    left stages.Waiting = refl
-    left stages.Inside = refl
-    left stages.Leaving = refl
-    left stages.Down = refl
+    remaining : (st : Stage) → is_waiting_stage (stage_after st Left) ≡ false
+    remaining stages.Settling = refl
+    remaining stages.Idle = refl
+    remaining stages.Doorway = refl
+    remaining stages.Waiting = refl
+    remaining stages.Inside = refl
+    remaining stages.Leaving = refl
+    remaining stages.Down = refl
 comes-to-wait st (Answered a ∷ ms) was then = comes-to-wait stages.Idle ms refl then
 comes-to-wait st (Failed ∷ ms) was then = comes-to-wait stages.Settling ms refl then
 comes-to-wait st (Settled v ∷ ms) was then = comes-to-wait st ms was then

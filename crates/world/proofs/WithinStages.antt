@@ -5,8 +5,8 @@ use Rattle.model.specs.declared.stages.Stage.TheVariants as stages
 use Rattle.model.specs.Parts.{Part, Raises, Asks, TakesTicket, Lowers, Refuses, Waits, AsksCommit, AsksStamp, AsksImage, WritesImage, WritesStamp, WritesCommit, Clears, Over, stage_of}
 use Rattle.model.proofs.Width.{is_good}
 use Rattle.laws.specs.{Doing, Rests, Lies, Runs, Closes}
-use Rattle.process.specs.{ProcessState, left_at, stage_doing}
-use Rattle.world.specs.{Seat, left_in}
+use Rattle.process.specs.{ProcessState, remaining_at, stage_doing}
+use Rattle.world.specs.{Seat, remaining_in}
 use Rattle.world.specs.Shows.{Shows, WorldState}
 use Rattle.world.proofs.WorldOpen.{seat-shown, seat-there}
 use Rattle.world.proofs.WorldStages.{stage-process}
@@ -30,16 +30,16 @@ part-unsettled (Clears a) false is = absurd (cc)
 part-unsettled Over fresh is = absurd (cc)
 
 -- a process within a register access of its call is not settling
-left-unsettled : (now : ProcessState) (d : Doing) → now.doing ≡ d → 0 < left_at now → stage_doing d ≡ stages.Settling → ⊥
-left-unsettled now Rests is some settling = absurd (cc)
-left-unsettled now Lies is some settling = absurd (cc)
-left-unsettled now (Runs command number at) is some settling = part-unsettled at.part (is_fresh at.run) settling
-left-unsettled now (Closes command number at) is some settling =
-    let none : left_at now ≡ 0 = ap (λ d. left_at (record now { doing = d })) is in absurd (omega (arith, some, none))
+remaining-unsettled : (now : ProcessState) (d : Doing) → now.doing ≡ d → 0 < remaining_at now → stage_doing d ≡ stages.Settling → ⊥
+remaining-unsettled now Rests is some settling = absurd (cc)
+remaining-unsettled now Lies is some settling = absurd (cc)
+remaining-unsettled now (Runs command number at) is some settling = part-unsettled at.part (is_fresh at.run) settling
+remaining-unsettled now (Closes command number at) is some settling =
+    let none : remaining_at now ≡ 0 = ap (λ d. remaining_at (record now { doing = d })) is in absurd (omega (arith, some, none))
 
 -- it is not settling in any record that a world shows
-pub within-unsettled : (w : WorldState) (events : List Event) (p : ℕ) → Shows w events → 0 < left_in w.seats p → stage p (past_of w.setup events) ≡ stages.Settling → ⊥
+pub within-unsettled : (w : WorldState) (events : List Event) (p : ℕ) → Shows w events → 0 < remaining_in w.seats p → stage p (past_of w.setup events) ≡ stages.Settling → ⊥
 within-unsettled w events p shows some settling =
-    let (seat, is, left) = seat-there w.seats p some in
-    left-unsettled seat.process seat.process.doing refl left
+    let (seat, is, remaining) = seat-there w.seats p some in
+    remaining-unsettled seat.process seat.process.doing refl remaining
     (ap (λ (x : Seat). stage_doing x.process.doing) (seat-shown w events p seat shows is) ∙ stage-process w.setup (is_good w.setup shows.good) events p ∙ settling)

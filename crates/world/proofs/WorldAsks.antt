@@ -11,14 +11,14 @@ use Rattle.laws.proofs.FrameInside.{stage-is}
 use Rattle.laws.proofs.FrameSteps.{doing-above}
 use Rattle.process.specs.{stage_doing}
 use Rattle.world.specs.{CoreState, InEachCorePast, Seat, is_at_door, listed, stage_in, with_history}
-use Rattle.world.proofs.CoreRefused.{below-is, is-above, stage-told}
+use Rattle.world.proofs.CoreRefused.{below-is, is-above, stage-reported}
 use Rattle.world.proofs.QueueListed.{ahead-listed}
 use Rattle.world.proofs.WorldOpen.{seat-shown, seatless}
 
 -- the stage of a process that exists
 pub stage-there : (c : CoreState) (p : ℕ) (seat : Seat) → slice_get c.seats p ≡ Some seat → InEachCorePast c (λ s past. Some (stage_doing seat.process.doing) ≡ stage_in s past p)
 stage-there c p seat there taken events shows =
-    ap Some (stage-told c taken events (event.Fail p) seat shows there)
+    ap Some (stage-reported c taken events (event.Fail p) seat shows there)
     ∙ sym (ap (λ b. cond b (Some (stage p (past_of c.setup events))) None) (below-is c taken events (event.Fail p) seat shows there))
 
 -- the stage of a process that does not exist
@@ -30,7 +30,7 @@ stage-beyond c p none taken events shows =
 pub ahead-there : (c : CoreState) (p : ℕ) (seat : Seat) (queued : Bool) → slice_get c.seats p ≡ Some seat → is_at_door seat ≡ queued →
     InEachCorePast c (λ s past. elim queued as (λ _. List ℕ) [ true ↦ listed seat.before | false ↦ [] ] ≡ ahead s p past)
 ahead-there c p seat queued there h taken events shows =
-    let stands : is_queued (stage p (past_of c.setup events)) ≡ queued = ap is_queued (sym (stage-told c taken events (event.Fail p) seat shows there)) ∙ h in
+    let stands : is_queued (stage p (past_of c.setup events)) ≡ queued = ap is_queued (sym (stage-reported c taken events (event.Fail p) seat shows there)) ∙ h in
     let before = ap (λ (x : Seat). x.before) (seat-shown (with_history c taken) events p seat shows there) in
     sym (ahead-listed c.setup shows.good events p ∙ (λ i. elim (stands i) as (λ _. List ℕ) [ true ↦ listed (sym before i) | false ↦ [] ]))
 

@@ -4,8 +4,8 @@ use Rattle.std.specs.List.{range_with_len}
 use Rattle.plain_store.specs.{Setup}
 use Rattle.model.specs.{Access, Event, Taken, is_call, process_of, reply_taken}
 use Rattle.model.specs.declared.events.Event.TheVariants.{Step}
-use Rattle.process.specs.{Effect, StepTold, marks_of, marks_told}
-use Rattle.process.specs.declared.told.Effect.TheVariants.{Steps}
+use Rattle.process.specs.{EventOutcome, StepOutcome, marks_of, marks_reported}
+use Rattle.process.specs.declared.outcomes.EventOutcome.TheVariants.{Steps}
 use Rattle.world.specs.{CoreMakes, CoreState, CoreSteps, CoreWalks, KeepsWorld, call_in, pending_in, seat_of, taking, with_history, with_taken}
 use Rattle.choices.specs.{FlickState, flick_of}
 use Rattle.world.specs.Shows.{Shows, WorldState}
@@ -29,7 +29,7 @@ new_keeps c h capacity empty shows = record {
 }
 
 -- after an event that may take a command, there is room for this command and then for each other pending call
-pub made_keeps : (c new : CoreState) (h then : List Taken) (what : Event) (effect : Effect) (capacity more : ℕ) → KeepsWorld (with_history c h) capacity → CoreMakes c what effect new → length h + (pending_in new.seats + taking effect) ≤ more →
+pub made_keeps : (c new : CoreState) (h then : List Taken) (what : Event) (effect : EventOutcome) (capacity more : ℕ) → KeepsWorld (with_history c h) capacity → CoreMakes c what effect new → length h + (pending_in new.seats + taking effect) ≤ more →
     then ≡ with_taken h (process_of what) (call_in new.seats (process_of what)).0 (call_in new.seats (process_of what)).1 (reply_taken (marks_of effect)) → KeepsWorld (with_history new then) more
 made_keeps c new h then what effect capacity more keeps makes room is = subst (λ h. KeepsWorld (with_history new h) more) (sym is) (record {
   events = what ∷ keeps.events;
@@ -40,13 +40,13 @@ made_keeps c new h then what effect capacity more keeps makes room is = subst (�
 })
 
 -- the room, of a call and of each other event
-pub made_room : (c new : CoreState) (h : List Taken) (what : Event) (effect : Effect) (capacity more : ℕ) → KeepsWorld (with_history c h) capacity → capacity ≤ more → (is_call what ≡ true → length h + length c.seats ≤ more) →
+pub made_room : (c new : CoreState) (h : List Taken) (what : Event) (effect : EventOutcome) (capacity more : ℕ) → KeepsWorld (with_history c h) capacity → capacity ≤ more → (is_call what ≡ true → length h + length c.seats ≤ more) →
     pending_in new.seats + taking effect ≤ length c.seats → (is_call what ≡ false → pending_in new.seats + taking effect ≤ pending_in c.seats) → length h + (pending_in new.seats + taking effect) ≤ more
 made_room c new h what effect capacity more keeps grown room few fewer = by (is_call what) refl
   where
     by : (b : Bool) → is_call what ≡ b → length h + (pending_in new.seats + taking effect) ≤ more
     by true call = let all = room call in omega (arith, all, few)
-    by false other = let left = fewer other in let had = keeps.room in omega (arith, had, left, grown)
+    by false other = let remaining = fewer other in let had = keeps.room in omega (arith, had, remaining, grown)
 
 -- the invariant with more room
 pub wider_keeps : (c : CoreState) (h then : List Taken) (capacity more : ℕ) → KeepsWorld (with_history c h) capacity → capacity ≤ more → then ≡ h → KeepsWorld (with_history c then) more
@@ -56,9 +56,9 @@ wider_keeps c h then capacity more keeps grown same = subst (λ h. KeepsWorld (w
   room = let room = keeps.room in omega (arith, room, grown);
 })
 
-pub step_keeps : (c new : CoreState) (h then : List Taken) (p : ℕ) (flick : Bool) (told : StepTold) (capacity more : ℕ) → KeepsWorld (with_history c h) capacity → CoreSteps c p flick told new → pending_in new.seats + taking (Steps told) ≤ pending_in c.seats →
-    then ≡ with_taken h p (call_in new.seats p).0 (call_in new.seats p).1 (reply_taken (marks_told told)) → capacity ≤ more → KeepsWorld (with_history new then) more
-step_keeps c new h then p flick told capacity more keeps steps fewer is grown = let room = keeps.room in made_keeps c new h then (Step p flick) (Steps told) capacity more keeps steps (omega (arith, room, fewer, grown)) is
+pub step_keeps : (c new : CoreState) (h then : List Taken) (p : ℕ) (flick : Bool) (reported : StepOutcome) (capacity more : ℕ) → KeepsWorld (with_history c h) capacity → CoreSteps c p flick reported new → pending_in new.seats + taking (Steps reported) ≤ pending_in c.seats →
+    then ≡ with_taken h p (call_in new.seats p).0 (call_in new.seats p).1 (reply_taken (marks_reported reported)) → capacity ≤ more → KeepsWorld (with_history new then) more
+step_keeps c new h then p flick reported capacity more keeps steps fewer is grown = let room = keeps.room in made_keeps c new h then (Step p flick) (Steps reported) capacity more keeps steps (omega (arith, room, fewer, grown)) is
 
 -- after several steps
 walks-shown : (n : ℕ) (newest : Access) (overlapped : ℕ) (old new : WorldState) (f g : FlickState) (p : ℕ) (events : List Event) → Walks old f p n newest overlapped new g → Shows old events → (later : List Event) × Shows new later

@@ -47,8 +47,8 @@ pub newest-none : (c : CoreState) → list_any (λ (seat : Seat). is_inside seat
 newest-none c h taken events shows = ap (λ b. cond b None (Some (image_of (store_after c.setup (history c.setup (past_of c.setup events)))))) (sym (sym (inside-seats (with_history c taken) events shows) ∙ h))
 
 -- it is the store after the history while no process is inside
-pub newest-told : (c : CoreState) (store : Contents) → list_any (λ (seat : Seat). is_inside seat.process.doing) c.seats ≡ false → store ≡ newest_store c.setup c.registers → InEachCorePast c (λ s past. Some (image_of store) ≡ newest s past)
-newest-told c store h is taken events shows =
+pub newest-reported : (c : CoreState) (store : Contents) → list_any (λ (seat : Seat). is_inside seat.process.doing) c.seats ≡ false → store ≡ newest_store c.setup c.registers → InEachCorePast c (λ s past. Some (image_of store) ≡ newest s past)
+newest-reported c store h is taken events shows =
     let s : Setup = c.setup in
     let outside = sym (inside-seats (with_history c taken) events shows) ∙ h in
     ap (λ store. Some (image_of store)) (is ∙ ap (λ (x : CoreState). newest_store s x.registers) (core-shown c taken events shows) ∙ newest-store s shows.good events shows.given outside)

@@ -8,9 +8,9 @@ use Rattle.plain_store.proofs.GoodSetups.{few-processes}
 use Rattle.model.specs.{Event, Past, Refusal, Taken, calls_full, history, past_of, process_of, processes, refused, refused_at, stage}
 use Rattle.model.specs.declared.refusals.Refusal.TheVariants.{NoProcess, CallsFull}
 use Rattle.laws.proofs.Theorems.{less}
-use Rattle.process.specs.{left_at}
+use Rattle.process.specs.{remaining_at}
 use Rattle.process.specs.registers.{AreOf}
-use Rattle.world.specs.{CoreState, Seat, left_in, seat_of, with_history}
+use Rattle.world.specs.{CoreState, Seat, remaining_in, seat_of, with_history}
 use Rattle.world.specs.Shows.{Shows, WorldState}
 use Rattle.world.proofs.WorldLists.{get-mapped}
 use Rattle.world.proofs.WorldRegisters.{are_of, registers_at}
@@ -38,13 +38,13 @@ pub seat-indexed : (seats : List Seat) (i p : ℕ) (seat : Seat) → i ≡ p →
 seat-indexed seats i p seat index l is = ap (slice_get seats) (sym index) ∙ slice_get_read seats (length seats) i seat refl l is
 
 -- a seat exists if accesses are left in its register access
-pub seat-there : (seats : List Seat) (p : ℕ) → 0 < left_in seats p → (seat : Seat) × (slice_get seats p ≡ Some seat) × (0 < left_at seat.process)
+pub seat-there : (seats : List Seat) (p : ℕ) → 0 < remaining_in seats p → (seat : Seat) × (slice_get seats p ≡ Some seat) × (0 < remaining_at seat.process)
 seat-there [] p some = absurd (omega (arith, some))
 seat-there (x ∷ seats) zero some = (x, refl, some)
 seat-there (x ∷ seats) (suc p) some = seat-there seats p some
 
-pub seat-left : (seats : List Seat) (p : ℕ) (seat : Seat) → slice_get seats p ≡ Some seat → left_in seats p ≡ left_at seat.process
-seat-left seats p seat is = ap (λ (o : Option Seat). elim o as (λ _. ℕ) [ None ↦ 0 | Some x ↦ left_at x.process ]) is
+pub seat-remaining : (seats : List Seat) (p : ℕ) (seat : Seat) → slice_get seats p ≡ Some seat → remaining_in seats p ≡ remaining_at seat.process
+seat-remaining seats p seat is = ap (λ (o : Option Seat). elim o as (λ _. ℕ) [ None ↦ 0 | Some x ↦ remaining_at x.process ]) is
 
 -- A world that shows a record.
 

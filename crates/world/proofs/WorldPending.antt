@@ -10,7 +10,7 @@ use Rattle.model.specs.Parts as part
 use Rattle.model.specs.reader_copies.Runs as copies
 use Rattle.model.specs.safe_number.{new_write}
 use Rattle.laws.specs.{Closes, Doing, Lies, Rests, Runs, call, closes, cut_of, does_then, is_inside, marks_with, runs}
-use Rattle.world.specs.{Seat, is_open_part, is_pending, pending, pending_in, told}
+use Rattle.world.specs.{Seat, is_open_part, is_pending, pending, pending_in, reported}
 use Rattle.history_laws.proofs.Outside.{entered-none}
 
 -- a call that is over is not pending
@@ -207,9 +207,9 @@ fails-pending s p command number (Closes its called at) h =
 
 -- The number of pending calls.
 
-pub pending-told : (p : ℕ) (waited waits : Bool) (seats : List Seat) → pending_in (map (told p waited waits) seats) ≡ pending_in seats
-pending-told p waited waits [] = refl
-pending-told p waited waits (seat ∷ seats) = ap (λ n. pending seat + n) (pending-told p waited waits seats)
+pub pending-reported : (p : ℕ) (waited waits : Bool) (seats : List Seat) → pending_in (map (reported p waited waits) seats) ≡ pending_in seats
+pending-reported p waited waits [] = refl
+pending-reported p waited waits (seat ∷ seats) = ap (λ n. pending seat + n) (pending-reported p waited waits seats)
 
 -- one seat is changed
 pub pending-set : (seats : List Seat) (p : ℕ) (then seat : Seat) → slice_get seats p ≡ Some seat → pending_in (slice_set seats p then) + pending seat ≡ pending_in seats + pending then

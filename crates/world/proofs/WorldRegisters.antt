@@ -9,9 +9,9 @@ use Rattle.model.proofs.Width.{IsGood, is_good}
 use Rattle.laws.specs.{Closes, Doing, IsThere, Lies, Rests, Runs, call, cell_held, doing, drops, reads_of}
 use Rattle.laws.proofs.AtPlaces.{AtPlace}
 use Rattle.laws.proofs.FrameCells.{OnCopy, on-copy}
-use Rattle.laws.proofs.FrameCuts.{LeftIn, LeftRun, left}
+use Rattle.laws.proofs.FrameCuts.{LeftIn, LeftRun, remaining}
 use Rattle.laws.proofs.FrameEvents.{accepted}
-use Rattle.laws.proofs.FrameSteps.{left-is}
+use Rattle.laws.proofs.FrameSteps.{remaining-is}
 use Rattle.laws.proofs.HeldCells.{held-entry, held-marks, held_answers}
 use Rattle.laws.proofs.HeldOwners.{OwnersAt, owner-there, owners_there}
 use Rattle.laws.proofs.HeldReads.{open_read, reads_are, reads_now}
@@ -164,4 +164,4 @@ pub registers-dropped : (s : Setup) → checked s ≡ Ok tt → (events : List E
 registers-dropped s ok events event e is none gone =
     let past : Past = past_of s events in
     let g : IsGood s = is_good s ok in
-    drop-registers s (cell_held s (e ∷ past)) (cell_held s past) e.process (doing s e.process past) (left s (own e.process past)) (entry-dropping s ok events event e is none gone) (left-is s g events e.process) (owners_there s g events e.process)
+    drop-registers s (cell_held s (e ∷ past)) (cell_held s past) e.process (doing s e.process past) (remaining s (own e.process past)) (entry-dropping s ok events event e is none gone) (remaining-is s g events e.process) (owners_there s g events e.process)

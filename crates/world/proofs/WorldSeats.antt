@@ -14,7 +14,7 @@ use Rattle.laws.proofs.FrameEvents.{accepted}
 use Rattle.laws.proofs.Theorems.{not_ahead_of_itself}
 use Rattle.plain_store.proofs.GoodSetups.{few-processes}
 use Rattle.process.specs.{ProcessState, process_after, stage_doing}
-use Rattle.world.specs.{Seat, before_told, seat_of, told, waiting_before}
+use Rattle.world.specs.{Seat, before_reported, seat_of, reported, waiting_before}
 use Rattle.world.proofs.WorldLists.{map-changed}
 use Rattle.world.proofs.QueueAfter.{before-done, before-waits, before-kept}
 use Rattle.world.proofs.QueueBegun.{begun-after, begun-others}
@@ -24,11 +24,11 @@ abbrev pub waited : Past → ℕ → Bool
 waited past p = is_waiting_stage (stage p past)
 
 -- the updated seat of q has the right processes ahead, by whether its doorway had begun
-abbrev pub IsTold : Past → ℕ → Entry → ℕ → Type 0
-IsTold past p e q = before_told p (waited past p) (waited (e ∷ past) p) (is_some (doorway_begin q past)) (waiting_before past q) ≡ waiting_before (e ∷ past) q
+abbrev pub IsReported : Past → ℕ → Entry → ℕ → Type 0
+IsReported past p e q = before_reported p (waited past p) (waited (e ∷ past) p) (is_some (doorway_begin q past)) (waiting_before past q) ≡ waiting_before (e ∷ past) q
 
 -- another process keeps all other fields of its seat
-other-seat : (s : Setup) (past : Past) (p : ℕ) (e : Entry) (q : ℕ) → e.process ≢ q → IsTold past p e q → told p (waited past p) (waited (e ∷ past) p) (seat_of s past q) ≡ seat_of s (e ∷ past) q
+other-seat : (s : Setup) (past : Past) (p : ℕ) (e : Entry) (q : ℕ) → e.process ≢ q → IsReported past p e q → reported p (waited past p) (waited (e ∷ past) p) (seat_of s past q) ≡ seat_of s (e ∷ past) q
 other-seat s past p e q ne before = λ i. let seat : Seat = record {
   process = record {
     setup = s;
@@ -67,8 +67,8 @@ process-goes s past e d called is = λ i. let now : ProcessState = record {
 -- An entry that an event adds.
 
 -- the processes that are then ahead of each process, except of one that has just called
-pub is-told : (s : Setup) → IsGood s → (events : List Event) (what : Event) (e : Entry) → entry_of s (past_of s events) what ≡ Some e → (q : ℕ) → (has is_called e && (e.process == q)) ≡ false → IsTold (past_of s events) e.process e q
-is-told s g events what e h q other = go (waited past p) (waited (e ∷ past) p) refl refl
+pub is-reported : (s : Setup) → IsGood s → (events : List Event) (what : Event) (e : Entry) → entry_of s (past_of s events) what ≡ Some e → (q : ℕ) → (has is_called e && (e.process == q)) ≡ false → IsReported (past_of s events) e.process e q
+is-reported s g events what e h q other = go (waited past p) (waited (e ∷ past) p) refl refl
   where
     past : Past
     past = past_of s events
@@ -76,7 +76,7 @@ is-told s g events what e h q other = go (waited past p) (waited (e ∷ past) p)
     p : ℕ
     p = e.process
 
-    go : (was is : Bool) → waited past p ≡ was → waited (e ∷ past) p ≡ is → before_told p was is (is_some (doorway_begin q past)) (waiting_before past q) ≡ waiting_before (e ∷ past) q
+    go : (was is : Bool) → waited past p ≡ was → waited (e ∷ past) p ≡ is → before_reported p was is (is_some (doorway_begin q past)) (waiting_before past q) ≡ waiting_before (e ∷ past) q
     go true true k m = sym (before-kept s g events what e h (m ∙ sym k) q other)
     go false false k m = sym (before-kept s g events what e h (m ∙ sym k) q other)
     go true false k m = sym (before-done s g events what e h k m q)
@@ -147,11 +147,11 @@ begun-before s g good events what e h called was is = begun ∙ sym (begun-after
 pub own-seat : (s : Setup) → checked s ≡ Ok tt → (events : List Event) (what : Event) (e : Entry) → entry_of s (past_of s events) what ≡ Some e → has is_called e ≡ false →
     (then : Seat) → let past : Past = past_of s events in let p : ℕ = e.process in
     then.process ≡ process_after s (e ∷ past) p → then.begun ≡ is_some (doorway_begin p (e ∷ past)) → then.before ≡ waiting_before past p →
-    told p (waited past p) (waited (e ∷ past) p) then ≡ seat_of s (e ∷ past) p
+    reported p (waited past p) (waited (e ∷ past) p) then ≡ seat_of s (e ∷ past) p
 own-seat s good events what e h called then is_process is_begun is_before = λ i. let seat : Seat = record {
   process = is_process i;
   begun = is_begun i;
-  before = (ap (before_told p (waited past p) (waited (e ∷ past) p) then.begun) is_before ∙ go (waited past p) (waited (e ∷ past) p) refl refl ∙ is-told s g events what e h p (ap (λ b. b && (p == p)) called)) i;
+  before = (ap (before_reported p (waited past p) (waited (e ∷ past) p) then.begun) is_before ∙ go (waited past p) (waited (e ∷ past) p) refl refl ∙ is-reported s g events what e h p (ap (λ b. b && (p == p)) called)) i;
 } in seat
   where
     g : IsGood s
@@ -163,7 +163,7 @@ own-seat s good events what e h called then is_process is_begun is_before = λ i
     p : ℕ
     p = e.process
 
-    go : (was is : Bool) → waited past p ≡ was → waited (e ∷ past) p ≡ is → before_told p was is then.begun (waiting_before past p) ≡ before_told p was is (is_some (doorway_begin p past)) (waiting_before past p)
+    go : (was is : Bool) → waited past p ≡ was → waited (e ∷ past) p ≡ is → before_reported p was is then.begun (waiting_before past p) ≡ before_reported p was is (is_some (doorway_begin p past)) (waiting_before past p)
     go true true k m = refl
     go true false k m = refl
     go false true k m = ap (λ b. slice_set (waiting_before past p) p (not b)) (is_begun ∙ sym (begun-before s g good events what e h called k m))
@@ -172,14 +172,14 @@ own-seat s good events what e h called then is_process is_begun is_before = λ i
 -- all seats, after that one is stored
 pub all-seats : (s : Setup) → checked s ≡ Ok tt → (events : List Event) (what : Event) (e : Entry) → entry_of s (past_of s events) what ≡ Some e →
     (seat : Seat) → let past : Past = past_of s events in let p : ℕ = e.process in
-    told p (waited past p) (waited (e ∷ past) p) seat ≡ seat_of s (e ∷ past) p →
-    map (told p (waited past p) (waited (e ∷ past) p)) (slice_set (map (seat_of s past) (processes s)) p seat) ≡ map (seat_of s (e ∷ past)) (processes s)
+    reported p (waited past p) (waited (e ∷ past) p) seat ≡ seat_of s (e ∷ past) p →
+    map (reported p (waited past p) (waited (e ∷ past) p)) (slice_set (map (seat_of s past) (processes s)) p seat) ≡ map (seat_of s (e ∷ past)) (processes s)
 all-seats s good events what e h seat own_is =
     let g : IsGood s = is_good s good in
     let past : Past = past_of s events in
     let p : ℕ = e.process in
-    map-changed (seat_of s past) (seat_of s (e ∷ past)) (told p (waited past p) (waited (e ∷ past) p)) seat 0 s.processes p p ((accepted s g events what e h).below) (omega arith) own_is
-    (λ q ne. other-seat s past p e q (λ u. ne (sym u)) (is-told s g events what e h q (apart q (λ u. ne (sym u)))))
+    map-changed (seat_of s past) (seat_of s (e ∷ past)) (reported p (waited past p) (waited (e ∷ past) p)) seat 0 s.processes p p ((accepted s g events what e h).below) (omega arith) own_is
+    (λ q ne. other-seat s past p e q (λ u. ne (sym u)) (is-reported s g events what e h q (apart q (λ u. ne (sym u)))))
   where
     apart : (q : ℕ) → e.process ≢ q → (has is_called e && (e.process == q)) ≡ false
     apart q ne = ap (λ b. has is_called e && b) (Rattle.std.proofs.Common.ne_eqb e.process q ne) ∙ false-and (has is_called e)

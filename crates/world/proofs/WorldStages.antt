@@ -11,7 +11,7 @@ use Rattle.laws.proofs.Doings.{stage_of}
 use Rattle.laws.proofs.Frame.{Does, at_rest, lying, running, leaving, settling}
 use Rattle.laws.proofs.FrameEvents.{does_all}
 use Rattle.laws.proofs.FrameInside.{stage-is}
-use Rattle.process.specs.{ProcessState, left_at, may_step, refusal_of, stage_doing}
+use Rattle.process.specs.{ProcessState, remaining_at, may_step, refusal_of, stage_doing}
 
 -- the stage of the work
 stage-doing : (d : Doing) → stage_doing d ≡ stage_of d
@@ -62,11 +62,11 @@ step-allowed p flick now h = go now.doing h
     go (Closes command number at) h = refl
 
 -- a process within a register access has a step to make
-pub left-may : (now : ProcessState) → 0 < left_at now → may_step now.doing ≡ true
-left-may now some = go now.doing refl
+pub remaining-may : (now : ProcessState) → 0 < remaining_at now → may_step now.doing ≡ true
+remaining-may now some = go now.doing refl
   where
-    none : (d : Doing) → now.doing ≡ d → (n : ℕ) → left_at (record now { doing = d }) ≡ n → 0 < n
-    none d is n h = let all : left_at now ≡ n = ap (λ d. left_at (record now { doing = d })) is ∙ h in omega (arith, some, all)
+    none : (d : Doing) → now.doing ≡ d → (n : ℕ) → remaining_at (record now { doing = d }) ≡ n → 0 < n
+    none d is n h = let all : remaining_at now ≡ n = ap (λ d. remaining_at (record now { doing = d })) is ∙ h in omega (arith, some, all)
 
     go : (d : Doing) → now.doing ≡ d → may_step now.doing ≡ true
     go Rests is = absurd (omega (arith, none Rests is 0 refl))

@@ -11,8 +11,8 @@ use Rattle.model.specs.declared.events.Event.TheVariants.{Step}
 use Rattle.model.proofs.Width.{IsGood}
 use Rattle.laws.specs.{Closes, Doing, Lies, Rests, Runs, call, does_then, doing, next_of}
 use Rattle.laws.proofs.Steps.{StepIs, step_is}
-use Rattle.process.specs.{ProcessState, left_at, left_of, process_after}
-use Rattle.process.proofs.Left.{left-runs, live-by}
+use Rattle.process.specs.{ProcessState, remaining_at, remaining_of, process_after}
+use Rattle.process.proofs.Left.{remaining-runs, live-by}
 use Rattle.world.proofs.WorldShows.{past-after}
 
 -- one of two consecutive numbers is even
@@ -71,7 +71,7 @@ module _ (Follows : Move → Move → Type 0) (reads : (v : Bool) → Follows Be
   turn-place c part (Reading bits false) x u v = reads v
   turn-place c part (Reading bits true) x u v = read_on u
 
-  turn-by : (s : Setup) (p : ℕ) (now : ProcessState) (d : Doing) (f g x u v : Bool) (a b : Access) → now.setup ≡ s → now.process ≡ p → 0 < left_at (record now { doing = d }) → next_of s p d f ≡ Some a → next_of s p (does_then s p d f x) g ≡ Some b →
+  turn-by : (s : Setup) (p : ℕ) (now : ProcessState) (d : Doing) (f g x u v : Bool) (a b : Access) → now.setup ≡ s → now.process ≡ p → 0 < remaining_at (record now { doing = d }) → next_of s p d f ≡ Some a → next_of s p (does_then s p d f x) g ≡ Some b →
       Follows (ended u a.how) (ended v b.how)
   turn-by s p now Rests f g x u v a b same mine more first next = absurd (cc)
   turn-by s p now Lies f g x u v a b same mine more first next = absurd (cc)
@@ -79,17 +79,17 @@ module _ (Follows : Move → Move → Type 0) (reads : (v : Bool) → Follows Be
   turn-by s p now (Runs command number at) f g x u v a b same mine more first next =
       let c : Call = call s p command number in
       let here : call now.setup now.process command number ≡ c = λ i. call (same i) (mine i) command number in
-      let live = live-by (is_over at.part) (left_of (call now.setup now.process command number) at.part at.run) more in
-      let some : 0 < left_of c at.part at.run = subst (λ (c : Call). 0 < left_of c at.part at.run) here live.1 in
+      let live = live-by (is_over at.part) (remaining_of (call now.setup now.process command number) at.part at.run) more in
+      let some : 0 < remaining_of c at.part at.run = subst (λ (c : Call). 0 < remaining_of c at.part at.run) here live.1 in
       let after : Place = record { part = at.part; run = run_after c at.part at.run x } in
-      let does : does_then s p (Runs command number at) f x ≡ Runs command number after = left-runs s p command number at f x live.0 some in
+      let does : does_then s p (Runs command number at) f x ≡ Runs command number after = remaining-runs s p command number at f x live.0 some in
       let second : Some (access_at c at.part after.run) ≡ Some b = sym (ap (λ d. next_of s p d g) does) ∙ next in
       let is_first : access_at c at.part at.run ≡ a = cc in
       let is_second : access_at c at.part after.run ≡ b = cc in
       subst (λ (b : Access). Follows (ended u a.how) (ended v b.how)) is_second (subst (λ (a : Access). Follows (ended u a.how) (ended v (access_at c at.part after.run).how)) is_first (turn-place c at.part at.run x u v))
 
   -- the accesses of two consecutive steps, of which the first is made within a register access
-  pub takes-turns : (s : Setup) → IsGood s → (events : List Event) (p : ℕ) (f g : Bool) (d e : Entry) (a b : Access) → 0 < left_at (process_after s (past_of s events) p) →
+  pub takes-turns : (s : Setup) → IsGood s → (events : List Event) (p : ℕ) (f g : Bool) (d e : Entry) (a b : Access) → 0 < remaining_at (process_after s (past_of s events) p) →
       entry_of s (past_of s events) (Step p f) ≡ Some d → d.access ≡ Some a → entry_of s (past_of s (Step p f ∷ events)) (Step p g) ≡ Some e → e.access ≡ Some b → Follows a.how b.how
   takes-turns s good events p f g d e a b more adds made adds_next made_next =
       let past : Past = past_of s events in

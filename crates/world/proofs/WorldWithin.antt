@@ -10,20 +10,20 @@ use Rattle.model.specs.declared.events.Event.TheVariants.{Step}
 use Rattle.model.proofs.Width.{IsGood}
 use Rattle.laws.specs.{Closes, Doing, Lies, Rests, Runs, call, doing, next_of}
 use Rattle.laws.proofs.Steps.{StepIs, step_is}
-use Rattle.process.specs.{ProcessState, left_at, left_of, process_after, rest_of}
-use Rattle.process.proofs.Left.{left-some, live-by}
-use Rattle.world.specs.{MakesQuietly, Seat, left_in}
+use Rattle.process.specs.{ProcessState, remaining_at, remaining_of, process_after, rest_of}
+use Rattle.process.proofs.Left.{remaining-some, live-by}
+use Rattle.world.specs.{MakesQuietly, Seat, remaining_in}
 use Rattle.world.specs.Walks.{Walks}
 use Rattle.world.specs.Shows.{Shows, WorldState}
-use Rattle.world.proofs.WorldOpen.{seat-left, seat-shown, seat-there}
+use Rattle.world.proofs.WorldOpen.{seat-remaining, seat-shown, seat-there}
 
 -- HOW MANY ARE LEFT
 
 -- the number of accesses left is that of the past
-pub left-shown : (w : WorldState) (events : List Event) (p : ℕ) → Shows w events → 0 < left_in w.seats p → left_in w.seats p ≡ left_at (process_after w.setup (past_of w.setup events) p)
-left-shown w events p shows some =
+pub remaining-shown : (w : WorldState) (events : List Event) (p : ℕ) → Shows w events → 0 < remaining_in w.seats p → remaining_in w.seats p ≡ remaining_at (process_after w.setup (past_of w.setup events) p)
+remaining-shown w events p shows some =
     let there = seat-there w.seats p some in
-    seat-left w.seats p there.0 there.1 ∙ ap (λ (x : Seat). left_at x.process) (seat-shown w events p there.0 shows there.1)
+    seat-remaining w.seats p there.0 there.1 ∙ ap (λ (x : Seat). remaining_at x.process) (seat-shown w events p there.0 shows there.1)
 
 -- ONE STEP
 
@@ -58,20 +58,20 @@ inside-at c part (Writing w) v more reads last = written-no-read _ v _ reads
 inside-at c part (Reading bits false) v more reads last = absurd (cc)
 inside-at c part (Reading bits true) v more reads last = absurd (omega (arith, more, last))
 
-inside-by : (s : Setup) (p : ℕ) (now : ProcessState) (d : Doing) (flick v : Bool) (a : Access) → now.setup ≡ s → now.process ≡ p → 0 < left_at (record now { doing = d }) → next_of s p d flick ≡ Some a → a.how ≡ EndRead v → a.bit + 1 ≡ width s a.field → ⊥
+inside-by : (s : Setup) (p : ℕ) (now : ProcessState) (d : Doing) (flick v : Bool) (a : Access) → now.setup ≡ s → now.process ≡ p → 0 < remaining_at (record now { doing = d }) → next_of s p d flick ≡ Some a → a.how ≡ EndRead v → a.bit + 1 ≡ width s a.field → ⊥
 inside-by s p now Rests flick v a same mine more next reads last = absurd (cc)
 inside-by s p now Lies flick v a same mine more next reads last = absurd (cc)
 inside-by s p now (Closes command number at) flick v a same mine more next reads last = absurd (omega (arith, more))
 inside-by s p now (Runs command number at) flick v a same mine more next reads last =
     let c : Call = call s p command number in
     let here : call now.setup now.process command number ≡ c = λ i. call (same i) (mine i) command number in
-    let live = live-by (is_over at.part) (left_of (call now.setup now.process command number) at.part at.run) more in
-    let some : 0 < left_of c at.part at.run = subst (λ (c : Call). 0 < left_of c at.part at.run) here live.1 in
+    let live = live-by (is_over at.part) (remaining_of (call now.setup now.process command number) at.part at.run) more in
+    let some : 0 < remaining_of c at.part at.run = subst (λ (c : Call). 0 < remaining_of c at.part at.run) here live.1 in
     let is : access_at c at.part at.run ≡ a = cc in
-    inside-at c at.part at.run v (left-some c at.part at.run some).0 (ap (λ (a : Access). a.how) is ∙ reads) (ap (λ (a : Access). a.bit + 1) is ∙ last ∙ ap (λ (a : Access). width s a.field) (sym is))
+    inside-at c at.part at.run v (remaining-some c at.part at.run some).0 (ap (λ (a : Access). a.how) is ∙ reads) (ap (λ (a : Access). a.bit + 1) is ∙ last ∙ ap (λ (a : Access). width s a.field) (sym is))
 
 -- the next access within a register access does not end the read of a number
-pub inside-number : (s : Setup) → IsGood s → (events : List Event) (p : ℕ) (flick v : Bool) (e : Entry) (a : Access) → entry_of s (past_of s events) (Step p flick) ≡ Some e → e.access ≡ Some a → 0 < left_at (process_after s (past_of s events) p) →
+pub inside-number : (s : Setup) → IsGood s → (events : List Event) (p : ℕ) (flick v : Bool) (e : Entry) (a : Access) → entry_of s (past_of s events) (Step p flick) ≡ Some e → e.access ≡ Some a → 0 < remaining_at (process_after s (past_of s events) p) →
     a.how ≡ EndRead v → a.bit + 1 ≡ width s a.field → ⊥
 inside-number s g events p flick v e a adds access more reads last =
     let past : Past = past_of s events in

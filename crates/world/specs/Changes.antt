@@ -7,15 +7,15 @@ use Rattle.laws.specs.{Doing, Runs, Closes}
 use Rattle.world.specs.Seats.{Seat, is_waiting}
 
 -- the processes ahead of a process after an event of p; waited, waits: p waited before it, waits after it; begun: the doorway of the process has begun
-abbrev pub before_told : (p : ℕ) (waited waits begun : Bool) → List Bool → List Bool
-before_told p true true begun before = before
-before_told p true false begun before = slice_set before p false
-before_told p false true begun before = slice_set before p (not begun)
-before_told p false false begun before = before
+abbrev pub before_reported : (p : ℕ) (waited waits begun : Bool) → List Bool → List Bool
+before_reported p true true begun before = before
+before_reported p true false begun before = slice_set before p false
+before_reported p false true begun before = slice_set before p (not begun)
+before_reported p false false begun before = before
 
 -- the seat of a process, updated after an event of p
-abbrev pub told : (p : ℕ) (waited waits : Bool) → Seat → Seat
-told p waited waits seat = record seat { before = before_told p waited waits seat.begun seat.before }
+abbrev pub reported : (p : ℕ) (waited waits : Bool) → Seat → Seat
+reported p waited waits seat = record seat { before = before_reported p waited waits seat.begun seat.before }
 
 -- a call at this part may still be taken
 abbrev pub is_open_part : Part → Bool

@@ -6,15 +6,15 @@ use Rattle.plain_store.specs.{Command, Reply, Setup}
 use Rattle.plain_store.specs.declared.Command.TheVariants.{Ask}
 use Rattle.model.specs.{Access, Event, Past, Refusal, Taken, is_call, process_of, reply_taken}
 use Rattle.model.specs.declared.events.Event.TheVariants.{Step}
-use Rattle.process.specs.{Effect, StepTold, marks_of}
-use Rattle.process.specs.declared.told.Effect.TheVariants.{Steps}
+use Rattle.process.specs.{EventOutcome, StepOutcome, marks_of}
+use Rattle.process.specs.declared.outcomes.EventOutcome.TheVariants.{Steps}
 use Rattle.model.specs.safe_bit.Cell.{Cell}
 use Rattle.world.specs.Changes.{pending_in, with_taken}
 use Rattle.world.specs.Events.{AddsEvent, GoesOn, InEachPast, IsRefused, IsTurnedAway, UnlessRefused}
 use Rattle.choices.specs.{FlickState}
 use Rattle.world.specs.Seats.{Seat}
 use Rattle.world.specs.Shows.{Shows, WorldState}
-use Rattle.world.specs.Walks.{AddsQuietly, TellsOverlapped, Walks}
+use Rattle.world.specs.Walks.{AddsQuietly, ReportsOverlapped, Walks}
 
 -- the registers and the seat of each process; the size is fixed
 pub record CoreState : Type 0 where
@@ -62,43 +62,43 @@ abbrev pub history_with : List Taken → CoreState → ℕ → Option Reply → 
 history_with taken c p reply = with_taken taken p (call_in c.seats p).0 (call_in c.seats p).1 reply
 
 -- with each history, an event adds the entry with this effect and this access; below, a step does
-abbrev pub CoreAdds : CoreState → Event → Effect → Option Access → Type 0
+abbrev pub CoreAdds : CoreState → Event → EventOutcome → Option Access → Type 0
 CoreAdds c event effect access = (taken : List Taken) → AddsEvent (with_history c taken) event effect access
 
-abbrev pub CoreAddsStep : CoreState → ℕ → Bool → StepTold → Access → Type 0
-CoreAddsStep c p flick told access = CoreAdds c (Step p flick) (Steps told) (Some access)
+abbrev pub CoreAddsStep : CoreState → ℕ → Bool → StepOutcome → Access → Type 0
+CoreAddsStep c p flick reported access = CoreAdds c (Step p flick) (Steps reported) (Some access)
 
 -- with each history, a step adds the entry with this access and without a mark
 abbrev pub CoreAddsQuietly : CoreState → ℕ → Bool → Access → Type 0
 CoreAddsQuietly c p flick access = (taken : List Taken) → AddsQuietly (with_history c taken) p flick access
 
 -- with each history, whether the access would end a read that a write overlapped
-abbrev pub CoreTellsOverlapped : CoreState → Access → Bool → Type 0
-CoreTellsOverlapped c access overlapped = (taken : List Taken) → TellsOverlapped (with_history c taken) access overlapped
+abbrev pub CoreReportsOverlapped : CoreState → Access → Bool → Type 0
+CoreReportsOverlapped c access overlapped = (taken : List Taken) → ReportsOverlapped (with_history c taken) access overlapped
 
 -- the process of the event exists, and the new core with the extended history shows the event too
-pub record CoreMakes (old : CoreState) (event : Event) (effect : Effect) (new : CoreState) : Type 0 where
+pub record CoreMakes (old : CoreState) (event : Event) (effect : EventOutcome) (new : CoreState) : Type 0 where
   pub there : process_of event < length new.seats
   pub goes : (taken : List Taken) → GoesOn (with_history old taken) event (with_history new (history_with taken new (process_of event) (reply_taken (marks_of effect))))
 
 -- a step makes this core of the old one
-abbrev pub CoreSteps : CoreState → ℕ → Bool → StepTold → CoreState → Type 0
-CoreSteps old p flick told new = CoreMakes old (Step p flick) (Steps told) new
+abbrev pub CoreSteps : CoreState → ℕ → Bool → StepOutcome → CoreState → Type 0
+CoreSteps old p flick reported new = CoreMakes old (Step p flick) (Steps reported) new
 
 -- 1 if an event takes a command
-abbrev pub taking : Effect → ℕ
+abbrev pub taking : EventOutcome → ℕ
 taking effect = elim (reply_taken (marks_of effect)) as (λ _. ℕ) [ None ↦ 0 | Some r ↦ 1 ]
 
 -- the number of pending calls, with the one that is taken
-abbrev pub pending_with : Effect → CoreState → ℕ
+abbrev pub pending_with : EventOutcome → CoreState → ℕ
 pending_with effect c = pending_in c.seats + taking effect
 
 -- these calls were pending before
-abbrev pub PendedBefore : CoreState → Effect → CoreState → Type 0
+abbrev pub PendedBefore : CoreState → EventOutcome → CoreState → Type 0
 PendedBefore old effect new = pending_with effect new ≤ pending_in old.seats
 
 -- these calls were pending before, unless the event is a call
-abbrev pub PendedUnlessCall : Event → CoreState → Effect → CoreState → Type 0
+abbrev pub PendedUnlessCall : Event → CoreState → EventOutcome → CoreState → Type 0
 PendedUnlessCall event old effect new = is_call event ≡ false → PendedBefore old effect new
 
 -- before a call, the history has room for one command of each process

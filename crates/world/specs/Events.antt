@@ -3,8 +3,8 @@ use Rattle.std.specs.Prelude.{◌≡◌, ◌⊎◌, ℕ, ◌+◌, ◌≤◌, Boo
 use Rattle.model.specs.{Access, Act, Entry, Event, KeepsHeadline, Past, Refusal, Stage, entry_of, is_call, past_of, process_of, refused, stage}
 use Rattle.model.specs.declared.events.Event.TheVariants.{Step}
 use Rattle.model.specs.declared.refusals.Refusal.TheVariants.{Memory}
-use Rattle.process.specs.{Effect, StepTold, act_of}
-use Rattle.process.specs.declared.told.Effect.TheVariants.{Steps}
+use Rattle.process.specs.{EventOutcome, StepOutcome, act_of}
+use Rattle.process.specs.declared.outcomes.EventOutcome.TheVariants.{Steps}
 use Rattle.plain_store.specs.{Setup}
 use Rattle.world.specs.Changes.{pending_in}
 use Rattle.world.specs.Shows.{Shows, WorldState}
@@ -34,22 +34,22 @@ abbrev pub KeepsTheHeadline : WorldState → ℕ → Act → Type 0
 KeepsTheHeadline w p act = (events : List Event) → Shows w events → KeepsHeadline w.setup (past_of w.setup events) (entry_with p act)
 
 -- the act of an event with this access and this effect; a command that it takes is the next of the history
-abbrev pub act_next : WorldState → Option Access → Effect → Act
+abbrev pub act_next : WorldState → Option Access → EventOutcome → Act
 act_next w access effect = act_of (length w.history) (record { access = access; effect = effect })
 
 -- an event adds the entry with this access and this effect; below, this entry keeps the main theorem
-abbrev pub AddsEvent : WorldState → Event → Effect → Option Access → Type 0
+abbrev pub AddsEvent : WorldState → Event → EventOutcome → Option Access → Type 0
 AddsEvent w event effect access = Adds w event (process_of event) (act_next w access effect)
 
-abbrev pub EventKeepsHeadline : WorldState → Event → Effect → Option Access → Type 0
+abbrev pub EventKeepsHeadline : WorldState → Event → EventOutcome → Option Access → Type 0
 EventKeepsHeadline w event effect access = KeepsTheHeadline w (process_of event) (act_next w access effect)
 
 -- a step adds the entry with this access and this outcome; below, this entry keeps the main theorem
-abbrev pub AddsStep : WorldState → ℕ → Bool → StepTold → Access → Type 0
-AddsStep w p flick told access = AddsEvent w (Step p flick) (Steps told) (Some access)
+abbrev pub AddsStep : WorldState → ℕ → Bool → StepOutcome → Access → Type 0
+AddsStep w p flick reported access = AddsEvent w (Step p flick) (Steps reported) (Some access)
 
-abbrev pub StepKeepsHeadline : WorldState → ℕ → StepTold → Access → Type 0
-StepKeepsHeadline w p told access = KeepsTheHeadline w p (act_next w (Some access) (Steps told))
+abbrev pub StepKeepsHeadline : WorldState → ℕ → StepOutcome → Access → Type 0
+StepKeepsHeadline w p reported access = KeepsTheHeadline w p (act_next w (Some access) (Steps reported))
 
 -- the world then shows the event too
 abbrev pub GoesOn : WorldState → Event → WorldState → Type 0

@@ -4,8 +4,8 @@ use Rattle.model.specs.safe_bit.Cell.{Cell}
 use Rattle.model.specs.{Access, Event, Mark, process_of, value_of}
 use Rattle.model.specs.declared.events.Event.TheVariants.{Call, Step, Fail, Withdraw, Restart}
 use Rattle.model.specs.declared.marks.Mark.TheVariants.{Called, Failed, Withdrew, Restarted}
-use Rattle.process.specs.{Effect, answered_at, dropped, failed, marks_on, next_number, restarted, step_by, withdrawn}
-use Rattle.world.specs.Changes.{told, waiting_in}
+use Rattle.process.specs.{EventOutcome, answered_at, dropped, failed, marks_on, next_number, restarted, step_by, withdrawn}
+use Rattle.world.specs.Changes.{reported, waiting_in}
 use Rattle.world.specs.Cores.{CoreAdds, CoreMakes, CoreState, PendedUnlessCall, pending_with}
 use Rattle.world.specs.Seats.{Seat, is_waiting, seat_called, seat_stepped, seat_with}
 
@@ -26,7 +26,7 @@ registers_made registers seat _ = registers
 
 -- the core with these registers and this new seat of p; every seat is updated with whether p waits
 abbrev pub core_with : CoreState → ℕ → Seat → Seat → List (List Cell) → CoreState
-core_with c p seat then registers = record c { registers = registers; seats = map (told p (is_waiting seat) (is_waiting then)) (slice_set c.seats p then) }
+core_with c p seat then registers = record c { registers = registers; seats = map (reported p (is_waiting seat) (is_waiting then)) (slice_set c.seats p then) }
 
 -- the seat of the process, and the whole core, after the event
 abbrev pub seat_after : CoreState → Seat → Event → Seat
@@ -49,7 +49,7 @@ marks_made registers seat (Withdraw p) = Withdrew ∷ []
 marks_made registers seat (Restart p) = Restarted ∷ []
 
 -- a core makes an event with this effect and this access
-pub record CoreGoes (old : CoreState) (event : Event) (effect : Effect) (access : Option Access) (new : CoreState) : Type 0 where
+pub record CoreGoes (old : CoreState) (event : Event) (effect : EventOutcome) (access : Option Access) (new : CoreState) : Type 0 where
   pub adds : CoreAdds old event effect access
   pub makes : CoreMakes old event effect new
   pub pending : PendedUnlessCall event old effect new

@@ -7,7 +7,7 @@ use Rattle.model.specs.{Access, Entry, Event, Past, Taken, copy, entry_of, past_
 use Rattle.model.specs.declared.events.Event.TheVariants.{Step}
 use Rattle.laws.specs.{cell_held}
 use Rattle.process.specs.registers.{BitCopy, RegisterName, copy_bytes}
-use Rattle.process.specs.{left_at, process_after}
+use Rattle.process.specs.{remaining_at, process_after}
 use Rattle.world.specs.Cores.{CoreState, with_history}
 use Rattle.world.specs.Shows.{Shows}
 
@@ -18,7 +18,7 @@ IsStepEntry c p flick taken entry = (history : List Taken) (events : List Event)
 
 -- If p added the newest entry within a register access of its call, without a mark, this is the access of that entry.
 abbrev pub IsNewestAccess : ℕ → Option Access → Setup → Past → Type 0
-IsNewestAccess p last s past = (a : Access) (before : Past) → past ≡ record { process = p; access = Some a; marks = [] } ∷ before → 0 < left_at (process_after s before p) → last ≡ Some a
+IsNewestAccess p last s past = (a : Access) (before : Past) → past ≡ record { process = p; access = Some a; marks = [] } ∷ before → 0 < remaining_at (process_after s before p) → last ≡ Some a
 
 -- The cells that the registers hold of a reader's copies of a register.
 abbrev pub cells_held : Setup → Past → RegisterName → ℕ → List Cell

@@ -8,7 +8,7 @@ use Rattle.world.specs.Events.{Adds, GoesOn, InEachPast, KeepsTheHeadline}
 use Rattle.choices.specs.{FlickState, after_flick, flick_of}
 use Rattle.world.specs.Seats.{Seat}
 use Rattle.world.specs.Shows.{WorldState}
-use Rattle.process.specs.{left_at}
+use Rattle.process.specs.{remaining_at}
 
 -- the move ends a read that a write overlapped: a write was open when the latest read began, or has begun since
 abbrev pub ends_overlapped : List Move → Move → Bool
@@ -20,8 +20,8 @@ abbrev pub ends_overlapped_read : Past → Entry → Bool
 ends_overlapped_read before e = elim e.access [ None ↦ false | Some a ↦ ends_overlapped (moves_of a before) a.how ]
 
 -- whether the access would end a read that a write overlapped, in every record that the world shows
-abbrev pub TellsOverlapped : WorldState → Access → Bool → Type 0
-TellsOverlapped w access overlapped = InEachPast w (λ s past. overlapped ≡ ends_overlapped (moves_of access past) access.how)
+abbrev pub ReportsOverlapped : WorldState → Access → Bool → Type 0
+ReportsOverlapped w access overlapped = InEachPast w (λ s past. overlapped ≡ ends_overlapped (moves_of access past) access.how)
 
 -- a step by this flick adds the entry with this access, and with no mark
 abbrev pub AddsQuietly : WorldState → ℕ → Bool → Access → Type 0
@@ -36,19 +36,19 @@ pub record StepsQuietly (old : WorldState) (p : ℕ) (flick : Bool) (new : World
   pub setup : new.setup ≡ old.setup
 
 -- the number of the next steps of p that are within a register access of its call; 0 if p does not exist
-abbrev pub left_in : List Seat → ℕ → ℕ
-left_in seats p = elim (slice_get seats p) [ None ↦ 0 | Some seat ↦ left_at seat.process ]
+abbrev pub remaining_in : List Seat → ℕ → ℕ
+remaining_in seats p = elim (slice_get seats p) [ None ↦ 0 | Some seat ↦ remaining_at seat.process ]
 
 -- for each process other than p, the number of these steps is as before
 abbrev pub KeepOthers : List Seat → ℕ → List Seat → Type 0
-KeepOthers seats p new = (q : ℕ) → (q ≡ p → ⊥) → left_in new q ≡ left_in seats q
+KeepOthers seats p new = (q : ℕ) → (q ≡ p → ⊥) → remaining_in new q ≡ remaining_in seats q
 
 -- such a step within a register access, with this access; overlapped: it ended a read that a write overlapped
 pub record MakesQuietly (old : WorldState) (p : ℕ) (flick : Bool) (access : Access) (overlapped : Bool) (new : WorldState) : Type 0 where
-  pub within : 0 < left_in old.seats p
+  pub within : 0 < remaining_in old.seats p
   pub steps : StepsQuietly old p flick new
   pub access_is : steps.access ≡ access
-  pub tells : TellsOverlapped old access overlapped
+  pub reports : ReportsOverlapped old access overlapped
 
 -- n such steps, each by the next flick; the newest makes this access, and `overlapped` of them ended a read that a write overlapped
 abbrev pub Walks : WorldState → FlickState → ℕ → ℕ → Access → ℕ → WorldState → FlickState → Type 0

@@ -4,23 +4,23 @@ ghost use Rattle.plain_store.specs.{checked, is_command};
 ghost use Rattle.model.specs.store_image.{image_of};
 ghost use Rattle.model.specs.declared.Event.TheVariants.{Call, Step, Fail, Withdraw, Restart};
 ghost use Rattle.model.specs.{ahead, newest};
-ghost use Rattle.process.specs.declared.told.Effect.TheVariants.{Calls, Fails, Restarts, Steps, Withdraws};
+ghost use Rattle.process.specs.declared.outcomes.EventOutcome.TheVariants.{Calls, Fails, Restarts, Steps, Withdraws};
 ghost use Rattle.process.specs.{WantsNoMemory};
-ghost use Rattle.world.specs.Cores.{CoreAdds, CoreAddsStep, CoreMakes, CoreRefuses, CoreRefusesStep, CoreSteps, CoreTellsOverlapped, CoreWalks, InEachCorePast, PendedBefore, PendedUnlessCall, UnlessCoreRefuses, pending_with, taken_by, with_history};
+ghost use Rattle.world.specs.Cores.{CoreAdds, CoreAddsStep, CoreMakes, CoreRefuses, CoreRefusesStep, CoreSteps, CoreReportsOverlapped, CoreWalks, InEachCorePast, PendedBefore, PendedUnlessCall, UnlessCoreRefuses, pending_with, taken_by, with_history};
 ghost use Rattle.world.specs.Events.{stage_in};
 ghost use Rattle.world.specs.Going.{CoreGoes};
 ghost use Rattle.world.specs.Shows.{Shows};
-ghost use Rattle.world.specs.Walks.{KeepOthers, left_in};
+ghost use Rattle.world.specs.Walks.{KeepOthers, remaining_in};
 
 mod copies;
 mod looking;
 
 use crate::queue::listed;
-use crate::seats::{Seat, is_occupied, tell, waiting};
+use crate::seats::{Seat, is_occupied, note_waiting, waiting};
 use choices::Flicks;
 use plain_store::{Command, NestedTypes, Reply, Setup};
 use process::{
-    AccessMade, AccessesMade, BitMemory, Effect, Image, Process, StepTold, newest, open_memory,
+    AccessMade, AccessesMade, BitMemory, EventOutcome, Image, Process, StepOutcome, newest, open_memory,
 };
 use model::{Access, Event, Refusal, Stage, Taken};
 use smallvec::SmallVec;
@@ -151,7 +151,7 @@ impl Core {
     ///
     /// Returns the [`Refusal`] of an event that is refused; the core and `effect` are then unchanged. It is never
     /// [`Refusal::Memory`]: the owner of a history reserves its memory before a call.
-    pub fn event(&mut self, event: &Event, effect: &mut Effect) -> Result<Option<Access>, Refusal>
+    pub fn event(&mut self, event: &Event, effect: &mut EventOutcome) -> Result<Option<Access>, Refusal>
         ensures accepted { IfOk result (CoreAdds self.old event.now effect.new) }
         ensures shows { OnOk result (CoreMakes self.old event.now effect.new self.new) }
         ensures pending { OnOk result (PendedUnlessCall event.now self.old effect.new self.new) }
@@ -159,7 +159,7 @@ impl Core {
         ensures refused { IfErr result (λ refusal. CoreRefuses self.old event.now (Some refusal)) }
         ensures never { IfErr result WantsNoMemory }
         ensures unchanged { OnErr result (self.new ≡ self.old) }
-        ensures untold { OnErr result (effect.new ≡ effect.old) }
+        ensures unreported { OnErr result (effect.new ≡ effect.old) }
         ensures setup { OnOk result (self.new.setup ≡ self.old.setup) }
     {
         let _kept = &self.seats;
@@ -169,33 +169,33 @@ impl Core {
         Ok(self.make_event(event, effect))
     }
 
-    /// Makes one step of a process, or of its memory unit, and writes its outcome to `told`. Returns its access, and
+    /// Makes one step of a process, or of its memory unit, and writes its outcome to `reported`. Returns its access, and
     /// whether it ended a read that a write overlapped. If the step takes a command, it is that of the process's last call.
     ///
     /// # Errors
     ///
-    /// Returns the [`Refusal`] of a step that is refused; the core and `told` are then unchanged.
+    /// Returns the [`Refusal`] of a step that is refused; the core and `reported` are then unchanged.
     #[inline]
     pub fn step(
         &mut self,
         process: u8,
         flick: bool,
-        told: &mut StepTold,
+        reported: &mut StepOutcome,
     ) -> Result<AccessMade, Refusal>
-        ensures accepted { IfOk result (λ made. CoreAddsStep self.old process flick told.new made.access) }
-        ensures overlapped { IfOk result (λ made. CoreTellsOverlapped self.old made.access made.overlapped) }
-        ensures shows { OnOk result (CoreSteps self.old process flick told.new self.new) }
-        ensures pending { OnOk result (PendedBefore self.old (Steps told.new) self.new) }
+        ensures accepted { IfOk result (λ made. CoreAddsStep self.old process flick reported.new made.access) }
+        ensures overlapped { IfOk result (λ made. CoreReportsOverlapped self.old made.access made.overlapped) }
+        ensures shows { OnOk result (CoreSteps self.old process flick reported.new self.new) }
+        ensures pending { OnOk result (PendedBefore self.old (Steps reported.new) self.new) }
         ensures refused { IfErr result (CoreRefusesStep self.old process flick) }
         ensures never { IfErr result WantsNoMemory }
         ensures unchanged { OnErr result (self.new ≡ self.old) }
-        ensures untold { OnErr result (told.new ≡ told.old) }
+        ensures unreported { OnErr result (reported.new ≡ reported.old) }
         ensures setup { OnOk result (self.new.setup ≡ self.old.setup) }
         ensures through { UnlessCoreRefuses self.old (Step process flick) (IsOk result) }
         ensures others { KeepOthers self.old.seats process self.new.seats }
     {
-        if 0 < self.left(process) {
-            *told = StepTold::Nothing;
+        if 0 < self.remaining(process) {
+            *reported = StepOutcome::Nothing;
             let made = self.run(process, &mut Flicks::only(flick), 1);
             return Ok(AccessMade {
                 access: made.newest,
@@ -205,7 +205,7 @@ impl Core {
         if let Some(refusal) = self.step_refusal(process) {
             return Err(refusal);
         }
-        Ok(self.make_step(process, flick, told))
+        Ok(self.make_step(process, flick, reported))
     }
 
     /// Returns the reason for which a step of a process is refused, or `None`, as `refusal` does, without an event.
@@ -221,19 +221,19 @@ impl Core {
         }
     }
 
-    /// Makes the next access of a process, or of its memory unit, and writes its outcome to `told`.
+    /// Makes the next access of a process, or of its memory unit, and writes its outcome to `reported`.
     #[inline]
-    fn make_step(&mut self, process: u8, flick: bool, told: &mut StepTold) -> AccessMade
+    fn make_step(&mut self, process: u8, flick: bool, reported: &mut StepOutcome) -> AccessMade
         requires { CoreRefuses self.old (Step process flick) None }
-        ensures goes { CoreGoes self.old (Step process flick) (Steps told.new) (Some result.access) self.new }
-        ensures overlapped { CoreTellsOverlapped self.old result.access result.overlapped }
+        ensures goes { CoreGoes self.old (Step process flick) (Steps reported.new) (Some result.access) self.new }
+        ensures overlapped { CoreReportsOverlapped self.old result.access result.overlapped }
         ensures others { KeepOthers self.old.seats process self.new.seats }
     {
         let seat = &mut self.seats[usize::from(process)];
         let waited = seat.process.is_waiting();
-        let made = seat.step(&mut self.registers, flick, told);
+        let made = seat.step(&mut self.registers, flick, reported);
         let waits = seat.process.is_waiting();
-        tell(&mut self.seats, process, waited, waits);
+        note_waiting(&mut self.seats, process, waited, waits);
         made
     }
 
@@ -243,9 +243,9 @@ impl Core {
     #[inline(always)]
     pub fn run(&mut self, process: u8, flicks: &mut Flicks, steps: u32) -> AccessesMade
         requires some { 0 < steps }
-        requires within { steps ≤ left_in self.old.seats process }
+        requires within { steps ≤ remaining_in self.old.seats process }
         ensures runs { CoreWalks self.old flicks.old process steps result.newest result.overlapped self.new flicks.new }
-        ensures fewer { left_in self.old.seats process ≡ left_in self.new.seats process + steps }
+        ensures fewer { remaining_in self.old.seats process ≡ remaining_in self.new.seats process + steps }
         ensures others { KeepOthers self.old.seats process self.new.seats }
     {
         self.seats[usize::from(process)]
@@ -257,17 +257,17 @@ impl Core {
     /// processes do. They have no mark, and none is the first of the call or the last of the access. 0 if the process does
     /// not exist.
     #[inline]
-    pub fn left(&self, process: u8) -> u32
-        ensures { result ≡ left_in self.now.seats process }
+    pub fn remaining(&self, process: u8) -> u32
+        ensures { result ≡ remaining_in self.now.seats process }
     {
         match self.seat(process) {
-            Some(seat) => seat.process.left(),
+            Some(seat) => seat.process.remaining(),
             None => 0,
         }
     }
 
     /// Makes an event that is not refused, writes its effect to `effect`, and returns the access of a step.
-    fn make_event(&mut self, event: &Event, effect: &mut Effect) -> Option<Access>
+    fn make_event(&mut self, event: &Event, effect: &mut EventOutcome) -> Option<Access>
         requires { CoreRefuses self.old event.now None }
         ensures { CoreGoes self.old event.now effect.new result self.new }
     {
@@ -278,7 +278,7 @@ impl Core {
         let waited = seat.process.is_waiting();
         let access = seat.make(&mut self.registers, before, event, effect);
         let waits = seat.process.is_waiting();
-        tell(&mut self.seats, process, waited, waits);
+        note_waiting(&mut self.seats, process, waited, waits);
         access
     }
 }

@@ -30,8 +30,8 @@ pub use history_laws;
 pub use laws;
 pub use marks::{event_marks, step_marks};
 pub use process::{
-    AccessMade, AccessProgress, AccessesMade, BitCopy, BitSeen, Effect, EventMade, Image, Process,
-    RegisterName, Settling, StepTold, TicketKnown,
+    AccessMade, AccessProgress, AccessesMade, BitCopy, CopyState, EventOutcome, EventMade, Image, Process,
+    RegisterName, Settling, StepOutcome, KnownTicket,
 };
 pub use model::{Act, Event, Mark, Refusal, Stage, Taken};
 pub use world::World;

@@ -1,43 +1,43 @@
 //! The marks of a step and of an event, as an act contains them. They do not allocate.
 ghost use Rattle.std.specs.Prelude.{◌≡◌, [], ◌∷◌, map};
 ghost use Rattle.model.specs.{placed};
-ghost use Rattle.process.specs.{act_of, marks_of, marks_told};
+ghost use Rattle.process.specs.{act_of, marks_of, marks_reported};
 
-use process::{Effect, EventMade, StepTold};
+use process::{EventOutcome, EventMade, StepOutcome};
 use model::{Act, Mark};
 use smallvec::SmallVec;
 use std::alloc::Global;
 
 /// Returns the marks of a step; a command that is taken gets the position `place` in the history.
-pub fn step_marks(alloc: Global, told: &StepTold, place: u64) -> SmallVec<Mark, 3>
-    ensures { result.items ≡ map (placed place) (marks_told told.now) }
+pub fn step_marks(alloc: Global, reported: &StepOutcome, place: u64) -> SmallVec<Mark, 3>
+    ensures { result.items ≡ map (placed place) (marks_reported reported.now) }
 {
-    match *told {
-        StepTold::Nothing => SmallVec::new(alloc),
-        StepTold::Waits(ticket) => one(alloc, Mark::Waiting(ticket)),
-        StepTold::WaitsAndEnters(ticket) => two(alloc, Mark::Waiting(ticket), Mark::Entered),
-        StepTold::Enters => one(alloc, Mark::Entered),
-        StepTold::Took { reply, .. } => one(alloc, Mark::Taken(place, reply)),
-        StepTold::Leaves => one(alloc, Mark::Left),
-        StepTold::Answers(answer) => one(alloc, Mark::Answered(answer)),
-        StepTold::Settles(value) => one(alloc, Mark::Settled(value)),
-        StepTold::SettlesAndTakes(value, reply) => {
+    match *reported {
+        StepOutcome::Nothing => SmallVec::new(alloc),
+        StepOutcome::Waits(ticket) => one(alloc, Mark::Waiting(ticket)),
+        StepOutcome::WaitsAndEnters(ticket) => two(alloc, Mark::Waiting(ticket), Mark::Entered),
+        StepOutcome::Enters => one(alloc, Mark::Entered),
+        StepOutcome::Took { reply, .. } => one(alloc, Mark::Taken(place, reply)),
+        StepOutcome::Leaves => one(alloc, Mark::Left),
+        StepOutcome::Answers(answer) => one(alloc, Mark::Answered(answer)),
+        StepOutcome::Settles(value) => one(alloc, Mark::Settled(value)),
+        StepOutcome::SettlesAndTakes(value, reply) => {
             two(alloc, Mark::Settled(value), Mark::Taken(place, reply))
         }
-        StepTold::Lies => one(alloc, Mark::Down),
+        StepOutcome::Lies => one(alloc, Mark::Down),
     }
 }
 
 /// Returns the marks of an event; a command that is taken gets the position `place` in the history.
-pub fn event_marks(alloc: Global, effect: &Effect, place: u64) -> SmallVec<Mark, 3>
+pub fn event_marks(alloc: Global, effect: &EventOutcome, place: u64) -> SmallVec<Mark, 3>
     ensures { result.items ≡ map (placed place) (marks_of effect.now) }
 {
     match effect {
-        Effect::Steps(told) => step_marks(alloc, told, place),
-        Effect::Calls(command) => one(alloc, Mark::Called(*command)),
-        Effect::Fails => one(alloc, Mark::Failed),
-        Effect::Withdraws => one(alloc, Mark::Withdrew),
-        Effect::Restarts => one(alloc, Mark::Restarted),
+        EventOutcome::Steps(reported) => step_marks(alloc, reported, place),
+        EventOutcome::Calls(command) => one(alloc, Mark::Called(*command)),
+        EventOutcome::Fails => one(alloc, Mark::Failed),
+        EventOutcome::Withdraws => one(alloc, Mark::Withdrew),
+        EventOutcome::Restarts => one(alloc, Mark::Restarted),
     }
 }
 

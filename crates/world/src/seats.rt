@@ -3,13 +3,13 @@ ghost use Rattle.std.specs.Prelude.{◌≡◌, ◌<◌, None, map, true};
 ghost use Rattle.std.specs.List.{list_any};
 ghost use Rattle.laws.specs.{is_inside};
 ghost use Rattle.process.specs.registers.{AreOf, applied, ends_overlapped};
-ghost use Rattle.process.specs.{answered_at, marks_of, marks_on, marks_told, may_step, refusal_of, stepped};
+ghost use Rattle.process.specs.{answered_at, marks_of, marks_on, marks_reported, may_step, refusal_of, stepped};
 ghost use Rattle.model.specs.{is_call, value_of};
-ghost use Rattle.world.specs.Changes.{told, waiting_in, waits_in};
+ghost use Rattle.world.specs.Changes.{reported, waiting_in, waits_in};
 ghost use Rattle.world.specs.Going.{access_made, marks_made, registers_made, seat_made};
 ghost use Rattle.world.specs.Seats.{seat_stepped};
 
-use process::{AccessMade, BitMemory, Effect, Process, StepTold};
+use process::{AccessMade, BitMemory, EventOutcome, Process, StepOutcome};
 use model::{Access, Event};
 
 /// The state of one process in a world.
@@ -30,7 +30,7 @@ impl Seat {
         registers: &mut BitMemory,
         before: [bool; 16],
         event: &Event,
-        effect: &mut Effect,
+        effect: &mut EventOutcome,
     ) -> Option<Access>
         requires allowed { refusal_of self.old.process event.now ≡ None }
         requires registers { AreOf self.old.process.setup registers.old }
@@ -45,42 +45,42 @@ impl Seat {
                 self.process.call(*command, number);
                 self.begun = false;
                 self.before = before;
-                *effect = Effect::Calls(*command);
+                *effect = EventOutcome::Calls(*command);
                 None
             }
             Event::Step(_, flick) => {
-                let mut told = StepTold::Nothing;
-                let made = self.step(registers, *flick, &mut told);
-                *effect = Effect::Steps(told);
+                let mut reported = StepOutcome::Nothing;
+                let made = self.step(registers, *flick, &mut reported);
+                *effect = EventOutcome::Steps(reported);
                 Some(made.access)
             }
             Event::Fail(_) => {
                 self.process.fail(registers);
-                *effect = Effect::Fails;
+                *effect = EventOutcome::Fails;
                 None
             }
             Event::Withdraw(_) => {
                 self.process.withdraw(registers);
-                *effect = Effect::Withdraws;
+                *effect = EventOutcome::Withdraws;
                 None
             }
             Event::Restart(_) => {
                 self.process.restart();
-                *effect = Effect::Restarts;
+                *effect = EventOutcome::Restarts;
                 None
             }
         }
     }
 
     /// Makes the next access of this seat's process, or of its memory unit, on the registers, and writes its outcome to
-    /// `told`. Returns the access, and whether it ended a read that a write overlapped. The doorway begins with the first
+    /// `reported`. Returns the access, and whether it ended a read that a write overlapped. The doorway begins with the first
     /// step.
     #[inline]
     pub fn step(
         &mut self,
         registers: &mut BitMemory,
         flick: bool,
-        told: &mut StepTold,
+        reported: &mut StepOutcome,
     ) -> AccessMade
         requires goes { may_step self.old.process.doing ≡ true }
         requires registers { AreOf self.old.process.setup registers.old }
@@ -88,12 +88,12 @@ impl Seat {
         ensures overlapped { result.overlapped ≡
             ends_overlapped self.old.process.setup.processes registers.old result.access }
         ensures seat { self.new ≡ seat_stepped (stepped self.old.process flick (value_of result.access.how)) self.old }
-        ensures marks { marks_told told.new ≡ marks_on self.old.process flick (value_of result.access.how) }
+        ensures marks { marks_reported reported.new ≡ marks_on self.old.process flick (value_of result.access.how) }
         ensures registers { registers.new ≡
             applied self.old.process.setup.processes registers.old result.access }
     {
         self.begun = self.begun || self.process.is_at_door();
-        self.process.step(registers, flick, told)
+        self.process.step(registers, flick, reported)
     }
 }
 
@@ -129,9 +129,9 @@ pub(crate) fn waiting(seats: &[Seat], event: &Event) -> [bool; 16]
 }
 
 /// Updates every seat after a process starts or stops waiting.
-pub(crate) fn tell(seats: &mut [Seat], process: u8, waited: bool, waits: bool)
+pub(crate) fn note_waiting(seats: &mut [Seat], process: u8, waited: bool, waits: bool)
     requires { process < 16 }
-    ensures { seats.new ≡ map (told process waited waits) seats.old }
+    ensures { seats.new ≡ map (reported process waited waits) seats.old }
 {
     if waited != waits {
         for seat in seats.iter_mut() {

@@ -9,8 +9,8 @@ ghost use Rattle.model.specs.{ahead, history, is_call, newest, process_of, refus
 ghost use Rattle.world.specs.Cores.{CoreTurnsAway, HasRoomToTake, MakesRoomForCall, history_with, with_history};
 ghost use Rattle.world.specs.Events.{Adds, AddsEvent, AddsStep, EventKeepsHeadline, GoesOn, InEachPast, IsRefused, IsTurnedAway, KeepsTheHeadline, StepKeepsHeadline, UnlessRefused, stage_in};
 ghost use Rattle.world.specs.Shows.{Shows};
-ghost use Rattle.process.specs.declared.told.Effect.TheVariants.{Steps};
-ghost use Rattle.world.specs.Walks.{KeepOthers, TellsOverlapped, Walks, left_in};
+ghost use Rattle.process.specs.declared.outcomes.EventOutcome.TheVariants.{Steps};
+ghost use Rattle.world.specs.Walks.{KeepOthers, ReportsOverlapped, Walks, remaining_in};
 
 mod looking;
 
@@ -18,7 +18,7 @@ use crate::cores::Core;
 use crate::marks::act_made;
 use choices::Flicks;
 use plain_store::{NestedTypes, Reply, Setup};
-use process::{AccessMade, AccessesMade, Effect, EventMade, Image, StepTold};
+use process::{AccessMade, AccessesMade, EventOutcome, EventMade, Image, StepOutcome};
 use model::{Access, Act, Event, Refusal, Stage, Taken};
 use smallvec::SmallVec;
 use std::alloc::{AllocError, Global};
@@ -86,7 +86,7 @@ impl World {
         ensures headline { IfOk result (λ act. KeepsTheHeadline self.old (process_of event) act) }
     {
         let place = self.history.len() as u64;
-        let mut effect = Effect::Steps(StepTold::Nothing);
+        let mut effect = EventOutcome::Steps(StepOutcome::Nothing);
         match self.make(&event, &mut effect) {
             Ok(access) => Ok(act_made(self.alloc, &EventMade { access, effect }, place)),
             Err(refusal) => Err(refusal),
@@ -99,12 +99,12 @@ impl World {
     /// # Errors
     ///
     /// Returns the same [`Refusal`] as `event`; the world and `effect` are then unchanged.
-    pub fn make(&mut self, event: &Event, effect: &mut Effect) -> Result<Option<Access>, Refusal>
+    pub fn make(&mut self, event: &Event, effect: &mut EventOutcome) -> Result<Option<Access>, Refusal>
         ensures accepted { IfOk result (AddsEvent self.old event.now effect.new) }
         ensures shows { OnOk result (GoesOn self.old event.now self.new) }
         ensures refused { IfErr result (λ refusal. IsTurnedAway self.old event.now refusal) }
         ensures unchanged { OnErr result (self.new ≡ self.old) }
-        ensures untold { OnErr result (effect.new ≡ effect.old) }
+        ensures unreported { OnErr result (effect.new ≡ effect.old) }
         ensures setup { OnOk result (self.new.setup ≡ self.old.setup) }
         ensures headline { IfOk result (EventKeepsHeadline self.old event.now effect.new) }
     {
@@ -125,7 +125,7 @@ impl World {
         }
     }
 
-    /// Makes one step of a process, or of its memory unit, as `event` does, and writes its outcome to `told`. Returns its
+    /// Makes one step of a process, or of its memory unit, as `event` does, and writes its outcome to `reported`. Returns its
     /// access, and whether it ended a read that a write overlapped.
     ///
     /// An act has room for three marks, and few steps have a mark, so the outcome is best written in place. The position
@@ -133,28 +133,28 @@ impl World {
     ///
     /// # Errors
     ///
-    /// Returns the [`Refusal`] of a step that is refused; the world and `told` are then unchanged.
+    /// Returns the [`Refusal`] of a step that is refused; the world and `reported` are then unchanged.
     #[inline(never)]
     pub fn step(
         &mut self,
         process: u8,
         flick: bool,
-        told: &mut StepTold,
+        reported: &mut StepOutcome,
     ) -> Result<AccessMade, Refusal>
-        ensures accepted { IfOk result (λ made. AddsStep self.old process flick told.new made.access) }
-        ensures overlapped { IfOk result (λ made. TellsOverlapped self.old made.access made.overlapped) }
+        ensures accepted { IfOk result (λ made. AddsStep self.old process flick reported.new made.access) }
+        ensures overlapped { IfOk result (λ made. ReportsOverlapped self.old made.access made.overlapped) }
         ensures shows { OnOk result (GoesOn self.old (Step process flick) self.new) }
         ensures refused { IfErr result (λ why. IsRefused self.old (Step process flick) (Some why)) }
         ensures unchanged { OnErr result (self.new ≡ self.old) }
-        ensures untold { OnErr result (told.new ≡ told.old) }
+        ensures unreported { OnErr result (reported.new ≡ reported.old) }
         ensures setup { OnOk result (self.new.setup ≡ self.old.setup) }
         ensures through { UnlessRefused self.old (Step process flick) (IsOk result) }
-        ensures headline { IfOk result (λ made. StepKeepsHeadline self.old process told.new made.access) }
+        ensures headline { IfOk result (λ made. StepKeepsHeadline self.old process reported.new made.access) }
         ensures others { KeepOthers self.old.seats process self.new.seats }
     {
-        match self.core.step(process, flick, told) {
+        match self.core.step(process, flick, reported) {
             Ok(made) => {
-                take(&mut self.history, &self.core, process, told.reply());
+                take(&mut self.history, &self.core, process, reported.reply());
                 Ok(made)
             }
             Err(refusal) => Err(refusal),
@@ -167,9 +167,9 @@ impl World {
     #[inline(always)]
     pub fn run(&mut self, process: u8, flicks: &mut Flicks, steps: u32) -> AccessesMade
         requires some { 0 < steps }
-        requires within { steps ≤ left_in self.old.seats process }
+        requires within { steps ≤ remaining_in self.old.seats process }
         ensures runs { Walks self.old flicks.old process steps result.newest result.overlapped self.new flicks.new }
-        ensures fewer { left_in self.old.seats process ≡ left_in self.new.seats process + steps }
+        ensures fewer { remaining_in self.old.seats process ≡ remaining_in self.new.seats process + steps }
         ensures others { KeepOthers self.old.seats process self.new.seats }
     {
         self.core.run(process, flicks, steps)
@@ -179,10 +179,10 @@ impl World {
     /// processes do. They have no mark, and none is the first of the call or the last of the access. 0 if the process does
     /// not exist.
     #[inline]
-    pub fn left(&self, process: u8) -> u32
-        ensures { result ≡ left_in self.now.seats process }
+    pub fn remaining(&self, process: u8) -> u32
+        ensures { result ≡ remaining_in self.now.seats process }
     {
-        self.core.left(process)
+        self.core.remaining(process)
     }
 
     /// Proves that the world shows the record of some events. It does nothing at run time: a caller that borrowed the

@@ -18,14 +18,14 @@ use std::alloc::{AllocError, Global};
 
 /// The form of the picture of a record, and the accesses and the window that are asked for.
 #[derive(Clone, Copy)]
-pub(crate) struct Around {
+pub(crate) struct PictureForm {
     pub alloc: Global,
     pub form: Form,
     /// All accesses are shown if the record or the window is short. Otherwise this is shown.
     pub asked: PictureOptions,
 }
 
-impl Around {
+impl PictureForm {
     /// Begins a picture without entries, and writes the start of a page.
     ///
     /// # Errors

@@ -6,7 +6,7 @@ ghost use Rattle.model.specs.{Entry as Noted};
 ghost use Rattle.judge.specs.record_file.{step_entry};
 ghost use Rattle.draw.specs.Canvases.{DrawsLast, kept, kept_at_first, plan_of};
 ghost use Rattle.draw.specs.Items.{Part, SaysEnd, entries_among};
-ghost use Rattle.draw.specs.Overlaps.{TellsEnd, Watches};
+ghost use Rattle.draw.specs.Overlaps.{ReportsEnd, Monitors};
 ghost use Rattle.draw.specs.RecordDrawings.{DrawsEntry, RecordRecalls};
 ghost use Rattle.draw.specs.RecordItems.{source_of};
 ghost use Rattle.draw.specs.Drawings.{HasOpening};
@@ -14,9 +14,9 @@ ghost use Rattle.draw.specs.Writing.{IsWriteFault, failed_write};
 ghost use Rattle.draw.specs.declared.views.AccessView.{AccessView as Seen};
 
 use crate::drawing::{Drawing, lines_of_setup};
-use crate::read_watch::ReadWatch;
+use crate::read_monitor::ReadMonitor;
 use crate::views::AccessView;
-use picture::{Form, Saying};
+use picture::{Form, LineContent};
 use model::{Access, Entry};
 use record_accesses::plain_store::{NestedTypes, Setup};
 use scenario::{Fault, Sink};
@@ -26,7 +26,7 @@ use std::alloc::{AllocError, Global};
 #[derive(Drop)]
 pub(crate) struct RecordDrawing {
     pub drawing: Drawing,
-    watch: ReadWatch,
+    monitor: ReadMonitor,
 }
 
 /// Returns the line of the page's list that stands for all entries of a record.
@@ -53,10 +53,10 @@ impl RecordDrawing {
         ensures fault { IfErr result IsWriteFault }
         ensures failures { failed_write result ≡ 0 }
     {
-        let watch = ReadWatch::new(alloc, setup, view.reads)?;
+        let monitor = ReadMonitor::new(alloc, setup, view.reads)?;
         Ok(RecordDrawing {
             drawing: Drawing::new(alloc, setup, form, view, line_of_entries(setup))?,
-            watch,
+            monitor,
         })
     }
 
@@ -113,37 +113,37 @@ impl RecordDrawing {
     fn ends_overlapped(&mut self, access: Option<Access>) -> bool
         ensures overlapped { (view : Seen) (s : Given) (parts : List Part) (e : Noted) → e.access ≡ access →
             RecordRecalls view s parts self.old →
-            TellsEnd view.reads s (entries_among parts) access result
-            × Watches view.reads s (e ∷ entries_among parts) self.new.watch.watch }
+            ReportsEnd view.reads s (entries_among parts) access result
+            × Monitors view.reads s (e ∷ entries_among parts) self.new.monitor.monitor }
         ensures drawing { self.new.drawing ≡ self.old.drawing }
     {
         if !self.drawing.shows_reads() {
             return false;
         }
-        self.watch.hear(access)
+        self.monitor.observe(access)
     }
 
-    /// Draws the last line, or the verdict with it if `told` has lines of a judge, writes what is held back, and returns the
+    /// Draws the last line, or the verdict with it if `reported` has lines of a judge, writes what is held back, and returns the
     /// heights of the bands.
     ///
     /// # Errors
     ///
     /// Returns [`Fault::Write`] if a call of the sink fails, and [`Fault::Memory`] if memory is lacking.
-    pub fn end<W: Sink>(&mut self, setup: &Setup, told: &[u8], output: &mut W) -> Result<u64, Fault>
+    pub fn end<W: Sink>(&mut self, setup: &Setup, reported: &[u8], output: &mut W) -> Result<u64, Fault>
         requires { W.failures output.old < 2 ^ 64 - 1 }
         ensures drawn { IfOk result (DrawsLast self.old.drawing.canvas (W.taken output.old) (W.taken output.new)
-            (source_of setup.now + 1) self.old.drawing.entries told.now
+            (source_of setup.now + 1) self.old.drawing.entries reported.now
             (SaysEnd self.old.drawing.entries self.old.drawing.store.taken 0)) }
         ensures fault { IfErr result IsWriteFault }
         ensures failures { W.failures output.new ≡ W.failures output.old + failed_write result }
     {
         self.drawing.source = line_of_entries(setup) + 1;
-        let saying = Saying::Ended {
+        let line_content = LineContent::Ended {
             events: self.drawing.entries,
             taken: self.drawing.store.taken(),
             refused: 0,
         };
-        self.drawing.end(saying, told, output)
+        self.drawing.end(line_content, reported, output)
     }
 
     /// Returns the words of the store before the window, once all entries are drawn.

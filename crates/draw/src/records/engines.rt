@@ -5,21 +5,21 @@ ghost use Rattle.std.specs.Io.KnownBytes.{IsAtEnd};
 ghost use Rattle.scenario.specs.files.{failed_reading, streams};
 ghost use Rattle.picture.specs.declared.page.Form.TheVariants as form_variants;
 ghost use Rattle.judge.specs.{IsOfRecord};
-ghost use Rattle.judge.specs.Trials.{Stands as HearerStands};
+ghost use Rattle.judge.specs.Trials.{Stands as ObserverStands};
 ghost use Rattle.picture.specs.declared.reads.PictureOptions.{PictureOptions as Options};
 ghost use Rattle.draw.specs.Writing.{IsWriteFault, failed_write};
 ghost use Rattle.model.specs.{Entry as Noted};
 ghost use Rattle.judge.specs.record_file.{Progress, Said};
 ghost use Rattle.draw.specs.Judges.{DrewJudgedBy};
-ghost use Rattle.draw.specs.Judgings.{HasRead, TellsOfLines};
+ghost use Rattle.draw.specs.Judgings.{HasRead, ReportsOfLines};
 ghost use Rattle.draw.specs.Sheets.{DrawsAllBands, DrawsAsked, DrawsBandsOf, DrewRecord, DrewJudged, IsDrawFault, IsJudged, Stands};
 
-use crate::records::held::{Held, held_fault};
-use crate::records::sheet::{DrawnEntry, Sheet};
+use crate::records::held::{StoredBands, held_fault};
+use crate::records::sheet::{DrawnEntry, RecordPicture};
 use crate::surroundings::{around_picture, write_page_end};
 use crate::writing::write_markup;
 use judge::source_lines::Lines;
-use judge::{Explaining, Judge, Judging, Telling, ThisLockJudge, Trial};
+use judge::{ExplainingJudge, AnyLockJudge, Judging, Reporting, ThisLockJudge, Trial};
 use picture::{FIRST_BAND, Form, PictureOptions, Subject};
 use scenario::{Fault, FaultKind, Sink, Source, write_all};
 use std::alloc::{AllocError, Global};
@@ -85,10 +85,10 @@ pub fn draw_judged_record<R: Source, W: Sink>(
         (streams ⟦<R as Source>⟧ ⟦<W as Sink>⟧ input.new output.new) }
 {
     match by {
-        JudgedBy::ThisLock => judged_page::<Explaining<ThisLockJudge>, R, W>(
+        JudgedBy::ThisLock => judged_page::<ExplainingJudge<ThisLockJudge>, R, W>(
             alloc, options, input, output,
         ),
-        JudgedBy::AnyLock => judged_page::<Explaining<Judge>, R, W>(alloc, options, input, output),
+        JudgedBy::AnyLock => judged_page::<ExplainingJudge<AnyLockJudge>, R, W>(alloc, options, input, output),
     }
 }
 
@@ -101,7 +101,7 @@ fn judged_page<H: Judging, R: Source, W: Sink>(
 ) -> Result<u8, Fault>
     requires reads { R.failures input.old < 2 ^ 64 - 1 }
     requires writes { W.failures output.old < 2 ^ 64 - 1 }
-    ensures { DrewJudged H.Keeps H.Tells options form_variants.Page result
+    ensures { DrewJudged H.Keeps H.Reports options form_variants.Page result
         (streams ⟦<R as Source>⟧ ⟦<W as Sink>⟧ input.old output.old)
         (streams ⟦<R as Source>⟧ ⟦<W as Sink>⟧ input.new output.new) }
 {
@@ -113,9 +113,9 @@ fn judged_page<H: Judging, R: Source, W: Sink>(
 /// Writes the end of a page.
 fn end_page<W: Sink>(alloc: Global, drawn: &DrawnEntry, output: &mut W) -> Result<(), Fault>
     requires { W.failures output.old < 2 ^ 64 - 1 }
-    ensures ok { OnOk result ((options : Options) (said : Said) (told : List ℕ) (first : Option (List ℕ)) →
-        DrawsBandsOf options form_variants.Page drawn.now first (W.taken output.old) said told →
-        DrawsAsked options form_variants.Page said told first (W.taken output.new)) }
+    ensures ok { OnOk result ((options : Options) (said : Said) (reported : List ℕ) (first : Option (List ℕ)) →
+        DrawsBandsOf options form_variants.Page drawn.now first (W.taken output.old) said reported →
+        DrawsAsked options form_variants.Page said reported first (W.taken output.new)) }
     ensures fault { IfErr result IsWriteFault }
     ensures failures { W.failures output.new ≡ W.failures output.old + failed_write result }
 {
@@ -141,7 +141,7 @@ pub fn draw_record_svg<R: Source, W: Sink>(
         (streams ⟦<R as Source>⟧ ⟦<W as Sink>⟧ input.old output.old)
         (streams ⟦<R as Source>⟧ ⟦<W as Sink>⟧ input.new output.new) }
 {
-    let mut bands = Held::new(alloc);
+    let mut bands = StoredBands::new(alloc);
     match draw_bands(alloc, Form::Picture(FIRST_BAND), options, input, &mut bands) {
         Ok(drawn) => write_picture(alloc, &drawn, bands.bytes(), output),
         Err(fault) => Err(held_fault(fault)),
@@ -168,10 +168,10 @@ pub fn draw_judged_record_svg<R: Source, W: Sink>(
         (streams ⟦<R as Source>⟧ ⟦<W as Sink>⟧ input.new output.new) }
 {
     match by {
-        JudgedBy::ThisLock => judged_picture::<Explaining<ThisLockJudge>, R, W>(
+        JudgedBy::ThisLock => judged_picture::<ExplainingJudge<ThisLockJudge>, R, W>(
             alloc, options, input, output,
         ),
-        JudgedBy::AnyLock => judged_picture::<Explaining<Judge>, R, W>(
+        JudgedBy::AnyLock => judged_picture::<ExplainingJudge<AnyLockJudge>, R, W>(
             alloc, options, input, output,
         ),
     }
@@ -186,13 +186,13 @@ fn judged_picture<H: Judging, R: Source, W: Sink>(
 ) -> Result<u8, Fault>
     requires reads { R.failures input.old < 2 ^ 64 - 1 }
     requires writes { W.failures output.old < 2 ^ 64 - 1 }
-    ensures { DrewJudged H.Keeps H.Tells options (form_variants.Picture 34) result
+    ensures { DrewJudged H.Keeps H.Reports options (form_variants.Picture 34) result
         (streams ⟦<R as Source>⟧ ⟦<W as Sink>⟧ input.old output.old)
         (streams ⟦<R as Source>⟧ ⟦<W as Sink>⟧ input.new output.new) }
 {
-    let mut bands = Held::new(alloc);
+    let mut bands = StoredBands::new(alloc);
     let form = Form::Picture(FIRST_BAND);
-    match judge_bands::<H, R, Held>(alloc, form, options, input, &mut bands) {
+    match judge_bands::<H, R, StoredBands>(alloc, form, options, input, &mut bands) {
         Ok((drawn, status)) => {
             write_picture(alloc, &drawn, bands.bytes(), output)?;
             Ok(status)
@@ -209,7 +209,7 @@ fn write_picture<W: Sink>(
     output: &mut W,
 ) -> Result<(), Fault>
     requires { W.failures output.old < 2 ^ 64 - 1 }
-    ensures ok { OnOk result ((options : Options) (said : Said) (told : List ℕ) → DrawsBandsOf options (form_variants.Picture 34) drawn.now (Some []) (Some bands.now) said told → DrawsAsked options (form_variants.Picture 34) said told (W.taken output.old) (W.taken output.new)) }
+    ensures ok { OnOk result ((options : Options) (said : Said) (reported : List ℕ) → DrawsBandsOf options (form_variants.Picture 34) drawn.now (Some []) (Some bands.now) said reported → DrawsAsked options (form_variants.Picture 34) said reported (W.taken output.old) (W.taken output.new)) }
     ensures fault { IfErr result IsWriteFault }
     ensures failures { W.failures output.new ≡ W.failures output.old + failed_write result }
 {
@@ -243,7 +243,7 @@ fn draw_bands<R: Source, W: Sink>(
     ensures write_failures { W.failures output.new ≡ W.failures output.old + failed_write result }
 {
     let mut lines = Lines::new(alloc);
-    let mut sheet = Sheet::new(alloc, form, options);
+    let mut sheet = RecordPicture::new(alloc, form, options);
     draw_lines(&mut lines, &mut sheet, input, output)
 }
 
@@ -251,7 +251,7 @@ fn draw_bands<R: Source, W: Sink>(
 /// each way out of a function takes long to prove.
 fn draw_lines<R: Source, W: Sink>(
     lines: &mut Lines,
-    sheet: &mut Sheet,
+    sheet: &mut RecordPicture,
     input: &mut R,
     output: &mut W,
 ) -> Result<DrawnEntry, Fault>
@@ -288,7 +288,7 @@ fn judge_bands<H: Judging, R: Source, W: Sink>(
 ) -> Result<(DrawnEntry, u8), Fault>
     requires reads { R.failures input.old < 2 ^ 64 - 1 }
     requires writes { W.failures output.old < 2 ^ 64 - 1 }
-    ensures drawn { IfOk result (λ answer. IfSome (R.to_come input.old) (IsOfRecord (IsJudged H.Keeps H.Tells answer.1 (DrawsBandsOf options form answer.0 (W.taken output.old) (W.taken output.new))))) }
+    ensures drawn { IfOk result (λ answer. IfSome (R.to_come input.old) (IsOfRecord (IsJudged H.Keeps H.Reports answer.1 (DrawsBandsOf options form answer.0 (W.taken output.old) (W.taken output.new))))) }
     ensures good { IfOk result (λ answer. checked answer.0.setup ≡ Ok tt) }
     ensures end { IfOk result (λ _. IsAtEnd (R.to_come input.new)) }
     ensures fault { IfErr result (λ fault. IsDrawFault fault (R.to_come input.old)) }
@@ -296,7 +296,7 @@ fn judge_bands<H: Judging, R: Source, W: Sink>(
     ensures write_failures { W.failures output.new ≡ W.failures output.old + failed_write result }
 {
     let mut lines = Lines::new(alloc);
-    let mut sheet = Sheet::new(alloc, form, options);
+    let mut sheet = RecordPicture::new(alloc, form, options);
     judge_sheet::<H, R, W>(alloc, &mut lines, &mut sheet, input, output)
 }
 
@@ -304,7 +304,7 @@ fn judge_bands<H: Judging, R: Source, W: Sink>(
 fn judge_sheet<H: Judging, R: Source, W: Sink>(
     alloc: Global,
     lines: &mut Lines,
-    sheet: &mut Sheet,
+    sheet: &mut RecordPicture,
     input: &mut R,
     output: &mut W,
 ) -> Result<(DrawnEntry, u8), Fault>
@@ -314,7 +314,7 @@ fn judge_sheet<H: Judging, R: Source, W: Sink>(
     requires stands { (taken : Option (List ℕ)) → Stands sheet.old None [] taken taken }
     requires reads { R.failures input.old < 2 ^ 64 - 1 }
     requires writes { W.failures output.old < 2 ^ 64 - 1 }
-    ensures drawn { IfOk result (λ answer. IfSome (R.to_come input.old) (IsOfRecord (IsJudged H.Keeps H.Tells answer.1 (DrawsBandsOf sheet.old.options sheet.old.form answer.0 (W.taken output.old) (W.taken output.new))))) }
+    ensures drawn { IfOk result (λ answer. IfSome (R.to_come input.old) (IsOfRecord (IsJudged H.Keeps H.Reports answer.1 (DrawsBandsOf sheet.old.options sheet.old.form answer.0 (W.taken output.old) (W.taken output.new))))) }
     ensures good { IfOk result (λ answer. checked answer.0.setup ≡ Ok tt) }
     ensures end { IfOk result (λ _. IsAtEnd (R.to_come input.new)) }
     ensures fault { IfErr result (λ fault. IsDrawFault fault (R.to_come input.old)) }
@@ -330,18 +330,18 @@ fn judge_sheet<H: Judging, R: Source, W: Sink>(
 fn judge_lines<H: Judging, R: Source, W: Sink>(
     lines: &mut Lines,
     trial: &mut Trial<H>,
-    sheet: &mut Sheet,
+    sheet: &mut RecordPicture,
     input: &mut R,
     output: &mut W,
 ) -> Result<(), Fault>
     requires ahead { lines.old.ahead.bytes ≡ [] }
     requires ended { lines.old.ahead.ended ≡ false }
     requires taken { lines.old.taken ≡ 0 }
-    requires trial { HearerStands H.HasHeard trial.old.reader trial.old.hearer None [] [] }
+    requires trial { ObserverStands H.HasObserved trial.old.reader trial.old.observer None [] [] }
     requires stands { (taken : Option (List ℕ)) → Stands sheet.old None [] taken taken }
     requires reads { R.failures input.old < 2 ^ 64 - 1 }
     requires writes { W.failures output.old < 2 ^ 64 - 1 }
-    ensures read { OnOk result (HasRead H.HasHeard H.Keeps H.finds_good (R.to_come input.old) lines.new.taken trial.new.reader trial.new.hearer sheet.new (W.taken output.old) (W.taken output.new)) }
+    ensures read { OnOk result (HasRead H.HasObserved H.Keeps H.finds_good (R.to_come input.old) lines.new.taken trial.new.reader trial.new.observer sheet.new (W.taken output.old) (W.taken output.new)) }
     ensures form { OnOk result (sheet.new.form ≡ sheet.old.form) }
     ensures options { OnOk result (sheet.new.options ≡ sheet.old.options) }
     ensures end { OnOk result (IsAtEnd (R.to_come input.new)) }
@@ -370,31 +370,31 @@ fn end_judged<H: Judging, W: Sink>(
     alloc: Global,
     lines: &Lines,
     trial: Trial<H>,
-    sheet: &mut Sheet,
+    sheet: &mut RecordPicture,
     output: &mut W,
 ) -> Result<(DrawnEntry, u8), Fault>
     requires { W.failures output.old < 2 ^ 64 - 1 }
-    ensures drawn { IfOk result (λ answer. (to_come first : Option (List ℕ)) → HasRead H.HasHeard H.Keeps H.finds_good to_come lines.now.taken trial.reader trial.hearer sheet.old first (W.taken output.old) → IfSome to_come (IsOfRecord (IsJudged H.Keeps H.Tells answer.1 (DrawsBandsOf sheet.old.options sheet.old.form answer.0 first (W.taken output.new))))) }
+    ensures drawn { IfOk result (λ answer. (to_come first : Option (List ℕ)) → HasRead H.HasObserved H.Keeps H.finds_good to_come lines.now.taken trial.reader trial.observer sheet.old first (W.taken output.old) → IfSome to_come (IsOfRecord (IsJudged H.Keeps H.Reports answer.1 (DrawsBandsOf sheet.old.options sheet.old.form answer.0 first (W.taken output.new))))) }
     ensures good { IfOk result (λ answer. checked answer.0.setup ≡ Ok tt) }
-    ensures fault { IfErr result (λ fault. (to_come first : Option (List ℕ)) → HasRead H.HasHeard H.Keeps H.finds_good to_come lines.now.taken trial.reader trial.hearer sheet.old first (W.taken output.old) → IsDrawFault fault to_come) }
+    ensures fault { IfErr result (λ fault. (to_come first : Option (List ℕ)) → HasRead H.HasObserved H.Keeps H.finds_good to_come lines.now.taken trial.reader trial.observer sheet.old first (W.taken output.old) → IsDrawFault fault to_come) }
     ensures reads { failed_reading result ≡ 0 }
     ensures failures { W.failures output.new ≡ W.failures output.old + failed_write result }
 {
-    let Some(telling) = telling_of(alloc, trial)? else {
+    let Some(reporting) = reporting_of(alloc, trial)? else {
         return Err(lines.behind(FaultKind::NotFirst));
     };
-    match sheet.end(telling.text.as_slice(), output)? {
+    match sheet.end(reporting.text.as_slice(), output)? {
         None => Err(lines.behind(FaultKind::NotFirst)),
-        Some(drawn) => Ok((drawn, telling.status)),
+        Some(drawn) => Ok((drawn, reporting.status)),
     }
 }
 
 /// Returns what a judge tells of the lines that were read, or `None` if all of them were skipped.
-fn telling_of<H: Judging>(alloc: Global, trial: Trial<H>) -> Result<Option<Telling>, AllocError>
-    ensures { IfOk result (λ telling. (before : Option Progress) (entries : List Noted) (numbers : List ℕ) → HearerStands H.HasHeard trial.reader trial.hearer before entries numbers → TellsOfLines H.Tells telling before entries numbers) }
+fn reporting_of<H: Judging>(alloc: Global, trial: Trial<H>) -> Result<Option<Reporting>, AllocError>
+    ensures { IfOk result (λ reporting. (before : Option Progress) (entries : List Noted) (numbers : List ℕ) → ObserverStands H.HasObserved trial.reader trial.observer before entries numbers → ReportsOfLines H.Reports reporting before entries numbers) }
 {
-    match trial.into_hearer()? {
+    match trial.into_observer()? {
         None => Ok(None),
-        Some(hearer) => Ok(Some(hearer.tell(alloc)?)),
+        Some(observer) => Ok(Some(observer.report(alloc)?)),
     }
 }

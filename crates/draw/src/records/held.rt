@@ -7,18 +7,18 @@ use std::alloc::Global;
 
 /// The sink of the bands of one picture, until its height is known.
 #[derive(Drop)]
-pub struct Held {
+pub struct StoredBands {
     bytes: Vec<u8>,
     failures: u64,
 }
 
-impl Held {
+impl StoredBands {
     /// Creates a sink without bytes.
-    pub fn new(alloc: Global) -> Held
+    pub fn new(alloc: Global) -> StoredBands
         ensures bytes { result.bytes.items ≡ [] }
         ensures failures { result.failures ≡ 0 }
     {
-        Held {
+        StoredBands {
             bytes: Vec::new(alloc),
             failures: 0,
         }
@@ -32,7 +32,7 @@ impl Held {
     }
 }
 
-impl Sink for Held {
+impl Sink for StoredBands {
     ghost taken = { λ h. Some h.bytes.items };
 
     ghost failures = { λ h. h.failures };

@@ -6,7 +6,7 @@ ghost use Rattle.judge.specs.record_file.{Progress, line_read};
 ghost use Rattle.draw.specs.Writing.{IsWriteFault, failed_write};
 ghost use Rattle.draw.specs.Sheets.{EndsAsked, GoesOn, LineStops, Stands, entries_of};
 
-use crate::records::around::Around;
+use crate::records::around::PictureForm;
 use crate::records::stored::RecordEntries;
 use judge::{RecordReader, read_any_line, read_step};
 use picture::{Form, PictureOptions, Reads};
@@ -16,7 +16,7 @@ use std::alloc::Global;
 
 /// What was read of a record file, and its entries.
 #[derive(Drop)]
-pub(crate) struct Sheet {
+pub(crate) struct RecordPicture {
     alloc: Global,
     form: Form,
     /// The accesses and the window that are asked for.
@@ -35,14 +35,14 @@ pub(crate) struct DrawnEntry {
     pub height: u64,
 }
 
-impl Sheet {
+impl RecordPicture {
     /// Creates a sheet of which nothing is read.
-    pub fn new(alloc: Global, form: Form, options: PictureOptions) -> Sheet
+    pub fn new(alloc: Global, form: Form, options: PictureOptions) -> RecordPicture
         ensures form { result.form ≡ form }
         ensures options { result.options ≡ options }
         ensures stands { (taken : Option (List ℕ)) → Stands result None [] taken taken }
     {
-        Sheet {
+        RecordPicture {
             alloc,
             form,
             options,
@@ -70,7 +70,7 @@ impl Sheet {
         ensures failures { W.failures output.new ≡ W.failures output.old + failed_write result }
     {
         if self.observes_none() {
-            if self.hears_step(line, output)? {
+            if self.observes_step(line, output)? {
                 return Ok(());
             }
             return self.any_line(number, line, output);
@@ -78,7 +78,7 @@ impl Sheet {
         self.shown_line(number, line, output)
     }
 
-    /// Reads a line where accesses are observed or nothing is drawn yet. [`Sheet::read`] has a branch of its own where none is
+    /// Reads a line where accesses are observed or nothing is drawn yet. [`RecordPicture::read`] has a branch of its own where none is
     /// observed. In that branch the access of a Step is not used, so that the compiler keeps only the test of `read_step`. This
     /// function is a call, because both branches together would be too large to be a part of the loop.
     #[inline(never)]
@@ -92,7 +92,7 @@ impl Sheet {
         ensures fault { IfErr result (λ fault. LineStops fault number (λ kind. (before : Option Progress) → self.old.reader ≡ before → line_read line.now before ≡ Err kind)) }
         ensures failures { W.failures output.new ≡ W.failures output.old + failed_write result }
     {
-        if self.hears_step(line, output)? {
+        if self.observes_step(line, output)? {
             return Ok(());
         }
         self.any_line(number, line, output)
@@ -115,15 +115,15 @@ impl Sheet {
     ///
     /// Returns [`Fault::Write`] if a call of the sink fails, and [`Fault::Memory`] if memory is lacking.
     #[inline(always)]
-    fn hears_step<W: Sink>(&mut self, line: &[u8], output: &mut W) -> Result<bool, Fault>
+    fn observes_step<W: Sink>(&mut self, line: &[u8], output: &mut W) -> Result<bool, Fault>
         requires short { length line.now ≤ 128 }
         requires few { entries_of self.old.entries < 2 ^ 64 - 1 }
         requires writes { W.failures output.old < 2 ^ 64 - 1 }
         ensures form { self.new.form ≡ self.old.form }
         ensures options { self.new.options ≡ self.old.options }
-        ensures heard { IfOk result (λ heard. heard ≡ true → (before : Option Progress) (past : Past) (first : Option (List ℕ)) → Stands self.old before past first (W.taken output.old) → GoesOn (line_read line.now before) self.new past first (W.taken output.new)) }
-        ensures same { IfOk result (λ heard. heard ≡ false → self.new ≡ self.old) }
-        ensures unwritten { IfOk result (λ heard. heard ≡ false → output.new ≡ output.old) }
+        ensures observed { IfOk result (λ observed. observed ≡ true → (before : Option Progress) (past : Past) (first : Option (List ℕ)) → Stands self.old before past first (W.taken output.old) → GoesOn (line_read line.now before) self.new past first (W.taken output.new)) }
+        ensures same { IfOk result (λ observed. observed ≡ false → self.new ≡ self.old) }
+        ensures unwritten { IfOk result (λ observed. observed ≡ false → output.new ≡ output.old) }
         ensures fault { IfErr result IsWriteFault }
         ensures failures { W.failures output.new ≡ W.failures output.old + failed_write result }
     {
@@ -157,7 +157,7 @@ impl Sheet {
         }
         if let Some(reader) = &mut self.reader {
             if let Some(entry) = reader.last_entry() {
-                let around = Around {
+                let around = PictureForm {
                     alloc: self.alloc,
                     form: self.form,
                     asked: self.options,
@@ -175,10 +175,10 @@ impl Sheet {
     /// # Errors
     ///
     /// Returns [`Fault::Write`] if a call of the sink fails, and [`Fault::Memory`] if memory is lacking.
-    pub fn end<W: Sink>(&mut self, told: &[u8], output: &mut W) -> Result<Option<DrawnEntry>, Fault>
+    pub fn end<W: Sink>(&mut self, reported: &[u8], output: &mut W) -> Result<Option<DrawnEntry>, Fault>
         requires { W.failures output.old < 2 ^ 64 - 1 }
         ensures none { IfOk result (λ drawn. drawn ≡ None → self.old.reader ≡ None) }
-        ensures ok { IfOk result (λ drawn. IfSome drawn (λ d. (p : Progress) (past : Past) (first : Option (List ℕ)) → self.old.reader ≡ Some p → Stands self.old (Some p) past first (W.taken output.old) → (d.setup ≡ p.head.setup) × EndsAsked self.old.options self.old.form p.head.setup past told.now d.shows d.opening.items d.height first (W.taken output.new))) }
+        ensures ok { IfOk result (λ drawn. IfSome drawn (λ d. (p : Progress) (past : Past) (first : Option (List ℕ)) → self.old.reader ≡ Some p → Stands self.old (Some p) past first (W.taken output.old) → (d.setup ≡ p.head.setup) × EndsAsked self.old.options self.old.form p.head.setup past reported.now d.shows d.opening.items d.height first (W.taken output.new))) }
         ensures some { IfOk result (λ drawn. IfSome drawn (λ _. IsSome self.old.reader)) }
         ensures good { IfOk result (λ drawn. IfSome drawn (λ d. checked d.setup ≡ Ok tt)) }
         ensures fault { IfErr result IsWriteFault }
@@ -188,12 +188,12 @@ impl Sheet {
         let Some(reader) = &self.reader else {
             return Ok(None);
         };
-        let around = Around {
+        let around = PictureForm {
             alloc: self.alloc,
             form: self.form,
             asked: self.options,
         };
-        let bands = self.entries.end(around, reader.setup(), told, output)?;
+        let bands = self.entries.end(around, reader.setup(), reported, output)?;
         Ok(Some(DrawnEntry {
             setup: *reader.setup(),
             shows: bands.shows,

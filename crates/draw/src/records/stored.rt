@@ -10,7 +10,7 @@ ghost use Rattle.draw.specs.Sheets.{AreStored, DrawsPast, EndsAsked, IsDrawn, en
 ghost use Rattle.draw.specs.Views.{most_asked, most_stored};
 ghost use Rattle.draw.specs.Writing.{IsWriteFault, failed_write};
 
-use crate::records::around::Around;
+use crate::records::around::PictureForm;
 use crate::records::drawing::RecordDrawing;
 use crate::views::{AccessView, is_short};
 use judge::{entry_of_parts, parts};
@@ -57,7 +57,7 @@ impl RecordEntries {
     /// Returns [`Fault::Write`] if a call of the sink fails, and [`Fault::Memory`] if memory is lacking.
     pub fn take<W: Sink>(
         &mut self,
-        around: Around,
+        around: PictureForm,
         setup: &Setup,
         entry: &Entry,
         output: &mut W,
@@ -84,7 +84,7 @@ impl RecordEntries {
     #[inline(never)]
     fn store_or_draw<W: Sink>(
         &mut self,
-        around: Around,
+        around: PictureForm,
         setup: &Setup,
         entry: &Entry,
         output: &mut W,
@@ -113,23 +113,23 @@ impl RecordEntries {
     }
 
     /// Draws the entries that are stored, which are few, with their accesses. Then draws the last line, or the verdict with it
-    /// if `told` has lines of a judge, and writes what is held back. Returns what was drawn.
+    /// if `reported` has lines of a judge, and writes what is held back. Returns what was drawn.
     ///
     /// # Errors
     ///
     /// Returns [`Fault::Write`] if a call of the sink fails, and [`Fault::Memory`] if memory is lacking.
     pub fn end<W: Sink>(
         &mut self,
-        around: Around,
+        around: PictureForm,
         setup: &Setup,
-        told: &[u8],
+        reported: &[u8],
         output: &mut W,
     ) -> Result<RecordBands, Fault>
         requires good { checked setup.now ≡ Ok tt }
         requires writes { W.failures output.old < 2 ^ 64 - 1 }
         ensures drawn { IfOk result (λ bands. (past : Past) (first : Option (List ℕ)) →
             DrawsPast around.asked around.form self.old setup.now past first (W.taken output.old) →
-            EndsAsked around.asked around.form setup.now past told.now
+            EndsAsked around.asked around.form setup.now past reported.now
             bands.shows bands.opening.items bands.height first (W.taken output.new)) }
         ensures fault { IfErr result IsWriteFault }
         ensures failures { W.failures output.new ≡ W.failures output.old + failed_write result }
@@ -137,12 +137,12 @@ impl RecordEntries {
         match &mut self.drawing {
             Some(drawing) => {
                 let view = AccessView::long(around.asked);
-                end_drawn(drawing, setup, view.reads, told, output)
+                end_drawn(drawing, setup, view.reads, reported, output)
             }
             None => {
                 let view = AccessView::short(around.asked);
                 let mut drawing = draw_stored(around, setup, view, &self.stored, output)?;
-                end_drawn(&mut drawing, setup, view.reads, told, output)
+                end_drawn(&mut drawing, setup, view.reads, reported, output)
             }
         }
     }
@@ -153,13 +153,13 @@ fn end_drawn<W: Sink>(
     drawing: &mut RecordDrawing,
     setup: &Setup,
     shows: Reads,
-    told: &[u8],
+    reported: &[u8],
     output: &mut W,
 ) -> Result<RecordBands, Fault>
     requires { W.failures output.old < 2 ^ 64 - 1 }
     ensures drawn { IfOk result (λ bands. DrawsLast drawing.old.drawing.canvas
         (W.taken output.old) (W.taken output.new) (source_of setup.now + 1)
-        drawing.old.drawing.entries told.now
+        drawing.old.drawing.entries reported.now
         (SaysEnd drawing.old.drawing.entries drawing.old.drawing.store.taken 0) bands.height) }
     ensures shows { IfOk result (λ bands. bands.shows ≡ shows) }
     ensures opening { IfOk result (λ bands. HasOpening drawing.old.drawing bands.opening.items) }
@@ -167,7 +167,7 @@ fn end_drawn<W: Sink>(
     ensures failures { W.failures output.new ≡ W.failures output.old + failed_write result }
 {
     let opening = drawing.opening()?;
-    let height = drawing.end(setup, told, output)?;
+    let height = drawing.end(setup, reported, output)?;
     Ok(RecordBands {
         shows,
         opening,
@@ -177,7 +177,7 @@ fn end_drawn<W: Sink>(
 
 /// Draws entries in their order, after the start of a page.
 fn draw_stored<W: Sink>(
-    around: Around,
+    around: PictureForm,
     setup: &Setup,
     view: AccessView,
     stored: &[Entry],

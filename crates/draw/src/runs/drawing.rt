@@ -7,21 +7,21 @@ ghost use Rattle.draw.specs.Drawings.{HasOpening, Recalls};
 ghost use Rattle.draw.specs.Writing.{IsWriteFault, failed_write};
 ghost use Rattle.scenario.specs.{script};
 ghost use Rattle.scenario_run.specs.{Follows, counted, happenings, run_at_start, summary_of};
-ghost use Rattle.draw.specs.RunDrawings.{DrawsTold, tally};
+ghost use Rattle.draw.specs.RunDrawings.{DrawsReported, tally};
 ghost use Rattle.draw.specs.RunItems.{run_given, says_end};
 ghost use Rattle.draw.specs.Pictures.{opening_of};
 ghost use Rattle.draw.specs.Views.{full_view};
 ghost use Rattle.draw.specs.declared.views.AccessView.{AccessView as Seen};
 
-mod listening;
+mod observing;
 
 use crate::drawing::{Drawing, lines_of_setup};
 use crate::views::AccessView;
-use scenario_run::{Course, Summary, Told, newest_words};
-use listening::draw_line;
-use picture::{Form, PictureOptions, Saying};
+use scenario_run::{ScenarioRun, Summary, TurnReport, newest_words};
+use observing::draw_line;
+use picture::{Form, PictureOptions, LineContent};
 use record_accesses::plain_store::{NestedTypes, Setup};
-use scenario::progress::{LinePlace, Onlooker};
+use scenario::progress::{LinePosition, ProgressObserver};
 use scenario::{Fault, Scenario, Sink};
 use std::alloc::Global;
 
@@ -47,13 +47,13 @@ pub(crate) struct DrawnRun {
 /// # Errors
 ///
 /// Returns [`Fault::Write`] if a call of the sink fails, and [`Fault::Memory`] if memory is lacking.
-pub(crate) fn draw_bands<W: Sink, L: Onlooker>(
+pub(crate) fn draw_bands<W: Sink, L: ProgressObserver>(
     alloc: Global,
     scenario: &Scenario,
     form: Form,
     options: PictureOptions,
     output: &mut W,
-    onlooker: &mut L,
+    progress_observer: &mut L,
 ) -> Result<DrawnRun, Fault>
     requires { W.failures output.old < 2 ^ 64 - 1 }
     ensures ok { IfOk result (λ drawn. DrawsBands (plan_of form options.window scenario.now.setup)
@@ -67,21 +67,21 @@ pub(crate) fn draw_bands<W: Sink, L: Onlooker>(
     ensures failures { W.failures output.new ≡ W.failures output.old + failed_write result }
 {
     let mut run = RunDrawing::new(alloc, &scenario.setup, form, options)?;
-    let mut course = Course::new(alloc, &scenario.setup)?;
-    draw_lines(scenario, &mut course, &mut run, output, onlooker)
+    let mut scenario_run = ScenarioRun::new(alloc, &scenario.setup)?;
+    draw_lines(scenario, &mut scenario_run, &mut run, output, progress_observer)
 }
 
 /// Does the work of [`draw_bands`] with a course and a drawing that have just begun. It borrows them, because a value that
 /// is dropped at each way out of a function takes long to prove.
-fn draw_lines<W: Sink, L: Onlooker>(
+fn draw_lines<W: Sink, L: ProgressObserver>(
     scenario: &Scenario,
-    course: &mut Course,
+    scenario_run: &mut ScenarioRun,
     run: &mut RunDrawing,
     output: &mut W,
-    onlooker: &mut L,
+    progress_observer: &mut L,
 ) -> Result<DrawnRun, Fault>
-    requires setup { course.old.world.setup ≡ scenario.now.setup }
-    requires follows { Follows course.old run_at_start }
+    requires setup { scenario_run.old.world.setup ≡ scenario.now.setup }
+    requires follows { Follows scenario_run.old run_at_start }
     requires tally { tally run.old ≡ record { events = 0; taken = 0; refused = 0 } }
     requires source { run.old.drawing.source ≡ length scenario.now.setup.opening + 5 }
     requires writes { W.failures output.old < 2 ^ 64 - 1 }
@@ -101,14 +101,14 @@ fn draw_lines<W: Sink, L: Onlooker>(
     ensures fault { IfErr result IsWriteFault }
     ensures failures { W.failures output.new ≡ W.failures output.old + failed_write result }
 {
-    let mut place = LinePlace::before(&scenario.numbers);
+    let mut place = LinePosition::before(&scenario.numbers);
     for line in &scenario.lines {
-        onlooker.reached(place.begin_line(run.drawing.entries));
+        progress_observer.reached(place.begin_line(run.drawing.entries));
         run.drawing.source += 1;
-        draw_line(course, line, run, output)?;
+        draw_line(scenario_run, line, run, output)?;
     }
     run.drawing.source += 1;
-    run.end(course.taken(), output)
+    run.end(scenario_run.taken(), output)
 }
 
 impl RunDrawing {
@@ -137,19 +137,19 @@ impl RunDrawing {
     }
 
     /// Draws and counts what a turn tells.
-    fn draw_told<W: Sink>(&mut self, told: &Told, output: &mut W) -> Result<(), Fault>
+    fn draw_reported<W: Sink>(&mut self, reported: &TurnReport, output: &mut W) -> Result<(), Fault>
         requires writes { W.failures output.old < 2 ^ 64 - 1 }
         requires events { self.old.drawing.entries < 2 ^ 64 - 1 }
         requires refused { self.old.refused < 2 ^ 64 - 1 }
-        ensures drawn { OnOk result (DrawsTold self.old self.new told.now (W.taken output.old) (W.taken output.new)) }
+        ensures drawn { OnOk result (DrawsReported self.old self.new reported.now (W.taken output.old) (W.taken output.new)) }
         ensures source { self.new.drawing.source ≡ self.old.drawing.source }
-        ensures count { OnOk result (tally self.new ≡ counted told.now (tally self.old)) }
+        ensures count { OnOk result (tally self.new ≡ counted reported.now (tally self.old)) }
         ensures fault { IfErr result IsWriteFault }
         ensures failures { W.failures output.new ≡ W.failures output.old + failed_write result }
     {
         let _nested: NestedTypes = None;
-        match told {
-            Told::Accepted(made) => {
+        match reported {
+            TurnReport::Accepted(made) => {
                 let process = made.event.process();
                 let marks = made.marks(self.alloc);
                 self.drawing.draw_entry(
@@ -160,18 +160,18 @@ impl RunDrawing {
                     output,
                 )
             }
-            Told::Refused { process, refusal } => {
+            TurnReport::Refused { process, refusal } => {
                 self.refused += 1;
-                let saying = Saying::Refused {
+                let line_content = LineContent::Refused {
                     process: *process,
                     refusal: *refusal,
                 };
-                self.drawing.draw_line(saying, output)
+                self.drawing.draw_line(line_content, output)
             }
-            Told::Tired(process) => self.drawing.draw_line(Saying::Tired(*process), output),
-            Told::Shown(store) => {
+            TurnReport::Tired(process) => self.drawing.draw_line(LineContent::Tired(*process), output),
+            TurnReport::Shown(store) => {
                 let words = newest_words(self.alloc, store)?;
-                self.drawing.draw_line(Saying::Shown(words), output)
+                self.drawing.draw_line(LineContent::Shown(words), output)
             }
         }
     }
@@ -191,12 +191,12 @@ impl RunDrawing {
         let opening = self.drawing.opening()?;
         let events = self.drawing.entries;
         let refused = self.refused;
-        let saying = Saying::Ended {
+        let line_content = LineContent::Ended {
             events,
             taken,
             refused,
         };
-        let height = self.drawing.end(saying, b"", output)?;
+        let height = self.drawing.end(line_content, b"", output)?;
         let summary = Summary {
             events,
             taken,

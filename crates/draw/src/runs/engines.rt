@@ -11,12 +11,12 @@ ghost use Rattle.picture.specs.declared.page.Form.TheVariants as form_variants;
 ghost use Rattle.draw.specs.RunDrawings.{DrawsAll, DrawsFramed, DrawsPage, DrewRun};
 
 use crate::runs::drawing::draw_bands;
-use crate::runs::nowhere::Nowhere;
+use crate::runs::nowhere::NullSink;
 use crate::surroundings::{around_picture, write_page_end};
 use crate::writing::write_markup;
 use scenario_run::Summary;
 use picture::{FIRST_BAND, Form, Markup, PictureOptions, Subject, page_head};
-use scenario::progress::{Again, Onlooker};
+use scenario::progress::{SecondRun, ProgressObserver};
 use scenario::{Fault, Scenario, Sink, Source, read_input, read_scenario};
 use std::alloc::Global;
 
@@ -32,12 +32,12 @@ use std::alloc::Global;
 ///
 /// Returns a fault of the input as `replay` does, before it writes anything. Returns [`Fault::Write`] if a call of the sink
 /// fails, and [`Fault::Memory`] if memory is lacking.
-pub fn draw<R: Source, W: Sink, L: Onlooker>(
+pub fn draw<R: Source, W: Sink, L: ProgressObserver>(
     alloc: Global,
     options: PictureOptions,
     input: &mut R,
     output: &mut W,
-    onlooker: &mut L,
+    progress_observer: &mut L,
 ) -> Result<Summary, Fault>
     requires reads { R.failures input.old < 2 ^ 64 - 1 }
     requires writes { W.failures output.old < 2 ^ 64 - 1 }
@@ -47,17 +47,17 @@ pub fn draw<R: Source, W: Sink, L: Onlooker>(
     ensures input { ReadsFront (R.to_come input.old) (R.to_come input.new) }
     ensures summary { IfOk result (λ summary. IsSummaryOf (R.to_come input.old) summary) }
 {
-    draw_file(alloc, Form::Page, options, input, output, onlooker)
+    draw_file(alloc, Form::Page, options, input, output, progress_observer)
 }
 
 /// Writes the page of a scenario's run.
-fn draw_page<W: Sink, L: Onlooker>(
+fn draw_page<W: Sink, L: ProgressObserver>(
     alloc: Global,
     options: PictureOptions,
     file: &[u8],
     scenario: &Scenario,
     output: &mut W,
-    onlooker: &mut L,
+    progress_observer: &mut L,
 ) -> Result<Summary, Fault>
     requires { W.failures output.old < 2 ^ 64 - 1 }
     ensures ok { OnOk result (DrawsAll options form_variants.Page file.now (script scenario.now) (W.taken output.old) (W.taken output.new)) }
@@ -66,18 +66,18 @@ fn draw_page<W: Sink, L: Onlooker>(
     ensures failures { W.failures output.new ≡ W.failures output.old + failed_write result }
 {
     let head = page_head(alloc, Subject::Run, &scenario.setup, file, options.reads)?;
-    draw_behind(alloc, options, &head, scenario, output, onlooker)
+    draw_behind(alloc, options, &head, scenario, output, progress_observer)
 }
 
 /// Writes the start of a page, and the bands and the end after it. It borrows the start, because a value that is dropped at
 /// each way out of a function takes long to prove.
-fn draw_behind<W: Sink, L: Onlooker>(
+fn draw_behind<W: Sink, L: ProgressObserver>(
     alloc: Global,
     options: PictureOptions,
     head: &Markup,
     scenario: &Scenario,
     output: &mut W,
-    onlooker: &mut L,
+    progress_observer: &mut L,
 ) -> Result<Summary, Fault>
     requires { W.failures output.old < 2 ^ 64 - 1 }
     ensures ok { OnOk result (DrawsPage options head.now (script scenario.now)
@@ -87,7 +87,7 @@ fn draw_behind<W: Sink, L: Onlooker>(
     ensures failures { W.failures output.new ≡ W.failures output.old + failed_write result }
 {
     write_markup(head, output)?;
-    let drawn = draw_bands(alloc, scenario, Form::Page, options, output, onlooker)?;
+    let drawn = draw_bands(alloc, scenario, Form::Page, options, output, progress_observer)?;
     write_page_end(alloc, drawn.opening.as_slice(), output)?;
     Ok(drawn.summary)
 }
@@ -103,12 +103,12 @@ struct Frame {
 
 /// Draws the bands of a scenario's run in a frame. It borrows the frame, because a value that is dropped at each way out of
 /// a function takes long to prove.
-fn draw_framed<W: Sink, L: Onlooker>(
+fn draw_framed<W: Sink, L: ProgressObserver>(
     alloc: Global,
     frame: &Frame,
     scenario: &Scenario,
     output: &mut W,
-    onlooker: &mut L,
+    progress_observer: &mut L,
 ) -> Result<Summary, Fault>
     requires { W.failures output.old < 2 ^ 64 - 1 }
     ensures ok { OnOk result (DrawsFramed frame.now.options frame.now.form frame.now.head frame.now.end (script scenario.now) (W.taken output.old) (W.taken output.new)) }
@@ -117,7 +117,7 @@ fn draw_framed<W: Sink, L: Onlooker>(
     ensures failures { W.failures output.new ≡ W.failures output.old + failed_write result }
 {
     write_markup(&frame.head, output)?;
-    let drawn = draw_bands(alloc, scenario, frame.form, frame.options, output, onlooker)?;
+    let drawn = draw_bands(alloc, scenario, frame.form, frame.options, output, progress_observer)?;
     write_markup(&frame.end, output)?;
     Ok(drawn.summary)
 }
@@ -128,12 +128,12 @@ fn draw_framed<W: Sink, L: Onlooker>(
 /// # Errors
 ///
 /// Returns the faults of [`draw`].
-pub fn draw_svg<R: Source, W: Sink, L: Onlooker>(
+pub fn draw_svg<R: Source, W: Sink, L: ProgressObserver>(
     alloc: Global,
     options: PictureOptions,
     input: &mut R,
     output: &mut W,
-    onlooker: &mut L,
+    progress_observer: &mut L,
 ) -> Result<Summary, Fault>
     requires reads { R.failures input.old < 2 ^ 64 - 1 }
     requires writes { W.failures output.old < 2 ^ 64 - 1 }
@@ -144,17 +144,17 @@ pub fn draw_svg<R: Source, W: Sink, L: Onlooker>(
     ensures summary { IfOk result (λ summary. IsSummaryOf (R.to_come input.old) summary) }
 {
     let form = Form::Picture(FIRST_BAND);
-    draw_file(alloc, form, options, input, output, onlooker)
+    draw_file(alloc, form, options, input, output, progress_observer)
 }
 
 /// Reads a scenario file, and draws its run in this form.
-fn draw_file<R: Source, W: Sink, L: Onlooker>(
+fn draw_file<R: Source, W: Sink, L: ProgressObserver>(
     alloc: Global,
     form: Form,
     options: PictureOptions,
     input: &mut R,
     output: &mut W,
-    onlooker: &mut L,
+    progress_observer: &mut L,
 ) -> Result<Summary, Fault>
     requires reads { R.failures input.old < 2 ^ 64 - 1 }
     requires writes { W.failures output.old < 2 ^ 64 - 1 }
@@ -173,19 +173,19 @@ fn draw_file<R: Source, W: Sink, L: Onlooker>(
         file.as_slice(),
         &scenario,
         output,
-        onlooker,
+        progress_observer,
     )
 }
 
 /// Draws a scenario's run in this form.
-fn draw_scenario<W: Sink, L: Onlooker>(
+fn draw_scenario<W: Sink, L: ProgressObserver>(
     alloc: Global,
     form: Form,
     options: PictureOptions,
     file: &[u8],
     scenario: &Scenario,
     output: &mut W,
-    onlooker: &mut L,
+    progress_observer: &mut L,
 ) -> Result<Summary, Fault>
     requires { W.failures output.old < 2 ^ 64 - 1 }
     ensures ok { OnOk result (DrawsAll options form file.now (script scenario.now) (W.taken output.old) (W.taken output.new)) }
@@ -194,20 +194,20 @@ fn draw_scenario<W: Sink, L: Onlooker>(
     ensures failures { W.failures output.new ≡ W.failures output.old + failed_write result }
 {
     match form {
-        Form::Page => draw_page(alloc, options, file, scenario, output, onlooker),
-        Form::Picture(top) => draw_picture(alloc, top, options, file, scenario, output, onlooker),
+        Form::Page => draw_page(alloc, options, file, scenario, output, progress_observer),
+        Form::Picture(top) => draw_picture(alloc, top, options, file, scenario, output, progress_observer),
     }
 }
 
 /// Writes one picture of a scenario's run, whose first band begins at the height `top`.
-fn draw_picture<W: Sink, L: Onlooker>(
+fn draw_picture<W: Sink, L: ProgressObserver>(
     alloc: Global,
     top: u64,
     options: PictureOptions,
     file: &[u8],
     scenario: &Scenario,
     output: &mut W,
-    onlooker: &mut L,
+    progress_observer: &mut L,
 ) -> Result<Summary, Fault>
     requires { W.failures output.old < 2 ^ 64 - 1 }
     ensures ok { OnOk result (DrawsAll options (form_variants.Picture top) file.now (script scenario.now) (W.taken output.old) (W.taken output.new)) }
@@ -216,7 +216,7 @@ fn draw_picture<W: Sink, L: Onlooker>(
     ensures failures { W.failures output.new ≡ W.failures output.old + failed_write result }
 {
     let form = Form::Picture(top);
-    let first = draw_bands(alloc, scenario, form, options, &mut Nowhere, onlooker)?;
+    let first = draw_bands(alloc, scenario, form, options, &mut NullSink, progress_observer)?;
     let (head, end) = around_picture(
         alloc,
         Subject::Run,
@@ -230,6 +230,6 @@ fn draw_picture<W: Sink, L: Onlooker>(
         head,
         end,
     };
-    let mut again = Again::new(onlooker, first.summary.events);
+    let mut again = SecondRun::new(progress_observer, first.summary.events);
     draw_framed(alloc, &frame, scenario, output, &mut again)
 }

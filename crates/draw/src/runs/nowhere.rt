@@ -4,9 +4,9 @@ use scenario::{Failed, Sink};
 
 /// A sink that drops its bytes: a picture is drawn once to learn its height.
 #[derive(Drop)]
-pub(crate) struct Nowhere;
+pub(crate) struct NullSink;
 
-impl Sink for Nowhere {
+impl Sink for NullSink {
     ghost taken = { λ _. None };
 
     ghost failures = { λ _. 0 };

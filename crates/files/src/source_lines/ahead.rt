@@ -20,7 +20,7 @@ const NEAR: usize = 32;
 
 /// Bytes that a source gave and that no line has taken, and whether it has reported its end. Contracts see their list.
 #[derive(Drop)]
-pub(crate) struct Ahead {
+pub(crate) struct ReadAhead {
     block: Vec<u8>,
     at: usize,
     ended: bool,
@@ -29,7 +29,7 @@ pub(crate) struct Ahead {
     end: usize,
 }
 
-impl Model for Ahead {
+impl Model for ReadAhead {
     ghost use Rattle.std.specs.Prelude.{◌≤◌, ◌-◌, drop, length, take};
     ghost use Rattle.files.specs.SourceLines.{Held};
 
@@ -40,13 +40,13 @@ impl Model for Ahead {
     ghost invariant = { λ a. (a.at ≤ length a.block.items) × (a.begin ≤ a.end) × (a.end ≤ length a.block.items) };
 }
 
-impl Ahead {
-    /// Creates an `Ahead` without bytes.
-    pub fn new(alloc: Global) -> Ahead
+impl ReadAhead {
+    /// Creates an `ReadAhead` without bytes.
+    pub fn new(alloc: Global) -> ReadAhead
         ensures bytes { result.given.bytes ≡ [] }
         ensures ended { result.given.ended ≡ false }
     {
-        Ahead {
+        ReadAhead {
             block: Vec::new(alloc),
             at: 0,
             ended: false,
@@ -108,7 +108,7 @@ impl Ahead {
         ensures source { self.new.given.ended ≡ self.old.given.ended }
     {
         let waiting = &self.block[self.at..];
-        match place_of_end(waiting) {
+        match offset_of_end(waiting) {
             Some(count) => {
                 let inner = count_inner(&waiting[..count]);
                 self.begin = self.at;
@@ -141,7 +141,7 @@ impl Ahead {
         ensures source { self.new.given.ended ≡ self.old.given.ended }
     {
         let waiting = &self.block[self.at..];
-        match place_of_end(waiting) {
+        match offset_of_end(waiting) {
             Some(count) => {
                 line.extend_from_slice(&waiting[..count])?;
                 self.at += count + 1;
@@ -159,7 +159,7 @@ impl Ahead {
 /// Returns the number of bytes before the first 0x0A, if there is one.
 #[inline(always)]
 #[tactic(auto, using(crate::proofs::LineEnds::place_is))]
-fn place_of_end(bytes: &[u8]) -> Option<usize>
+fn offset_of_end(bytes: &[u8]) -> Option<usize>
     ensures place { result ≡ position ends_line bytes.now }
     ensures within { IfSome result (λ at. at < length bytes.now) }
 {

@@ -6,17 +6,17 @@ ghost use Rattle.laws.specs.{IsThere};
 ghost use Rattle.process.specs.Alone.{IsOfRegister};
 ghost use Rattle.process.specs.Places.{changes_at, changes_read, marks_on, may_step, stepped};
 ghost use Rattle.process.specs.Serving.{next_at};
-ghost use Rattle.process.specs.Telling.{changes_told, marks_told};
+ghost use Rattle.process.specs.Reporting.{changes_reported, marks_reported};
 ghost use Rattle.process.specs.Working.{AreMarksOn, IsMoved, IsStepped, KeepsPlace, reply_taken, state_at};
 
 use super::Process;
 use crate::call_part::CallPart;
 use crate::entering::{clear, enter, part_over};
-use crate::told::StepTold;
-use crate::work::ProcessWork;
+use crate::outcomes::StepOutcome;
+use crate::activity::Activity;
 use plain_store::{Answer, Reply};
 use model::{Access, Field};
-use registers::{Cursor, NumberRun};
+use registers::{Cursor, RegisterAccessKind};
 
 impl Process {
     /// Returns the next access of the process or of its memory unit; the end of a read has no value yet.
@@ -32,11 +32,11 @@ impl Process {
 
     /// Advances by that access, and returns its outcome. The end of a read returns `value`.
     #[inline]
-    pub fn advance(&mut self, flick: bool, value: bool) -> StepTold
+    pub fn advance(&mut self, flick: bool, value: bool) -> StepOutcome
         requires goes { may_step self.old.doing ≡ true }
         ensures process { self.new ≡ stepped self.old flick value }
-        ensures marks { marks_told result ≡ marks_on self.old flick value }
-        ensures changes { IfSome (changes_told result) (λ changes. changes ≡ changes_read self.old.doing) }
+        ensures marks { marks_reported result ≡ marks_on self.old flick value }
+        ensures changes { IfSome (changes_reported result) (λ changes. changes ≡ changes_read self.old.doing) }
     {
         let fresh = self.cursor.is_fresh();
         let how = self.cursor.next(self.work.given(flick, value)).how;
@@ -49,111 +49,111 @@ impl Process {
 /// the cursor was fresh before it.
 pub(super) fn go_on(
     called: &mut CallPart,
-    work: &mut ProcessWork,
+    work: &mut Activity,
     cursor: &mut Cursor,
     fresh: bool,
-) -> StepTold
+) -> StepOutcome
     requires moved { IsMoved called.old work.old cursor.old fresh }
     ensures doing { IsStepped called.old work.old cursor.old fresh (state_at called.new work.new cursor.new) }
-    ensures marks { AreMarksOn called.old work.old cursor.old fresh (marks_told result) }
-    ensures changes { IfSome (changes_told result) (λ changes. (work.old ≡ ProcessWork.Runs) × (changes ≡ changes_at called.old.part)) }
+    ensures marks { AreMarksOn called.old work.old cursor.old fresh (marks_reported result) }
+    ensures changes { IfSome (changes_reported result) (λ changes. (work.old ≡ Activity.Runs) × (changes ≡ changes_at called.old.part)) }
     ensures keeps { KeepsPlace called.new work.new cursor.new }
 {
     match *work {
-        ProcessWork::Runs => run_on(called, work, cursor, fresh),
-        ProcessWork::Withdraws => withdraw_on(called, work, cursor),
-        ProcessWork::Settles { inside, taken } => settle_on(called, work, cursor, inside, &taken),
-        ProcessWork::Frees { inside } => free_on(called, work, cursor, inside, fresh),
-        ProcessWork::Lowers => lower_on(called, work, cursor),
-        ProcessWork::Rests | ProcessWork::Lies => unreachable!(),
+        Activity::Runs => run_on(called, work, cursor, fresh),
+        Activity::Withdraws => withdraw_on(called, work, cursor),
+        Activity::Settles { inside, taken } => settle_on(called, work, cursor, inside, &taken),
+        Activity::Frees { inside } => free_on(called, work, cursor, inside, fresh),
+        Activity::Lowers => lower_on(called, work, cursor),
+        Activity::Rests | Activity::Lies => unreachable!(),
     }
 }
 
 /// Advances a process that runs its call: it continues with the next register access if this one is over.
 fn run_on(
     called: &mut CallPart,
-    work: &mut ProcessWork,
+    work: &mut Activity,
     cursor: &mut Cursor,
     fresh: bool,
-) -> StepTold
-    requires runs { work.old ≡ ProcessWork.Runs }
-    requires moved { IsMoved called.old ProcessWork.Runs cursor.old fresh }
-    ensures doing { IsStepped called.old ProcessWork.Runs cursor.old fresh (state_at called.new work.new cursor.new) }
-    ensures marks { AreMarksOn called.old ProcessWork.Runs cursor.old fresh (marks_told result) }
-    ensures changes { IfSome (changes_told result) (λ changes. changes ≡ changes_at called.old.part) }
+) -> StepOutcome
+    requires runs { work.old ≡ Activity.Runs }
+    requires moved { IsMoved called.old Activity.Runs cursor.old fresh }
+    ensures doing { IsStepped called.old Activity.Runs cursor.old fresh (state_at called.new work.new cursor.new) }
+    ensures marks { AreMarksOn called.old Activity.Runs cursor.old fresh (marks_reported result) }
+    ensures changes { IfSome (changes_reported result) (λ changes. changes ≡ changes_at called.old.part) }
     ensures keeps { KeepsPlace called.new work.new cursor.new }
 {
     if !cursor.is_over() {
-        return told_first(fresh, called.leaves());
+        return outcome_of_first(fresh, called.leaves());
     }
-    let told = part_over(called, cursor);
+    let reported = part_over(called, cursor);
     if called.is_over() {
-        *work = ProcessWork::Rests;
+        *work = Activity::Rests;
     } else {
         enter(called, cursor);
     }
-    told
+    reported
 }
 
 /// Returns the outcome of an access that is not the last one: the first one may leave.
-fn told_first(fresh: bool, leaves: bool) -> StepTold
-    ensures marks { marks_told result ≡ cond (leaves && fresh) (Left ∷ []) [] }
-    ensures changes { changes_told result ≡ None }
+fn outcome_of_first(fresh: bool, leaves: bool) -> StepOutcome
+    ensures marks { marks_reported result ≡ cond (leaves && fresh) (Left ∷ []) [] }
+    ensures changes { changes_reported result ≡ None }
 {
     if leaves && fresh {
-        StepTold::Leaves
+        StepOutcome::Leaves
     } else {
-        StepTold::Nothing
+        StepOutcome::Nothing
     }
 }
 
 /// Advances a process that gave up waiting and clears its ticket; then it has answered.
-fn withdraw_on(called: &CallPart, work: &mut ProcessWork, cursor: &Cursor) -> StepTold
-    requires withdraws { work.old ≡ ProcessWork.Withdraws }
-    requires moved { (fresh : Bool) × IsMoved called.now ProcessWork.Withdraws cursor.now fresh }
-    ensures doing { (fresh : Bool) → IsStepped called.now ProcessWork.Withdraws cursor.now fresh (state_at called.now work.new cursor.now) }
-    ensures marks { (fresh : Bool) → AreMarksOn called.now ProcessWork.Withdraws cursor.now fresh (marks_told result) }
-    ensures changes { changes_told result ≡ None }
+fn withdraw_on(called: &CallPart, work: &mut Activity, cursor: &Cursor) -> StepOutcome
+    requires withdraws { work.old ≡ Activity.Withdraws }
+    requires moved { (fresh : Bool) × IsMoved called.now Activity.Withdraws cursor.now fresh }
+    ensures doing { (fresh : Bool) → IsStepped called.now Activity.Withdraws cursor.now fresh (state_at called.now work.new cursor.now) }
+    ensures marks { (fresh : Bool) → AreMarksOn called.now Activity.Withdraws cursor.now fresh (marks_reported result) }
+    ensures changes { changes_reported result ≡ None }
     ensures keeps { KeepsPlace called.now work.new cursor.now }
 {
     if !cursor.is_over() {
-        return StepTold::Nothing;
+        return StepOutcome::Nothing;
     }
-    *work = ProcessWork::Rests;
-    StepTold::Answers(Answer::Withdrawn)
+    *work = Activity::Rests;
+    StepOutcome::Answers(Answer::Withdrawn)
 }
 
 /// Advances a unit that settles the torn bit; then it clears the ticket.
 fn settle_on(
     called: &CallPart,
-    work: &mut ProcessWork,
+    work: &mut Activity,
     cursor: &mut Cursor,
     inside: bool,
     taken: &Option<(bool, Reply)>,
-) -> StepTold
-    requires settles { work.old ≡ ProcessWork.Settles inside taken.now }
-    requires moved { (fresh : Bool) × IsMoved called.now (ProcessWork.Settles inside taken.now) cursor.old fresh }
-    ensures doing { (fresh : Bool) → IsStepped called.now (ProcessWork.Settles inside taken.now) cursor.old fresh (state_at called.now work.new cursor.new) }
-    ensures marks { (fresh : Bool) → AreMarksOn called.now (ProcessWork.Settles inside taken.now) cursor.old fresh (marks_told result) }
-    ensures changes { changes_told result ≡ None }
+) -> StepOutcome
+    requires settles { work.old ≡ Activity.Settles inside taken.now }
+    requires moved { (fresh : Bool) × IsMoved called.now (Activity.Settles inside taken.now) cursor.old fresh }
+    ensures doing { (fresh : Bool) → IsStepped called.now (Activity.Settles inside taken.now) cursor.old fresh (state_at called.now work.new cursor.new) }
+    ensures marks { (fresh : Bool) → AreMarksOn called.now (Activity.Settles inside taken.now) cursor.old fresh (marks_reported result) }
+    ensures changes { changes_reported result ≡ None }
     ensures keeps { KeepsPlace called.now work.new cursor.new }
 {
     if !cursor.is_over() {
-        return StepTold::Nothing;
+        return StepOutcome::Nothing;
     }
     let value = value_settled(cursor);
     clear(called, cursor, Field::Ticket);
-    *work = ProcessWork::Frees { inside };
-    told_settled(value, taken)
+    *work = Activity::Frees { inside };
+    outcome_of_settling(value, taken)
 }
 
 /// Returns the value at which a bit was settled.
 fn value_settled(cursor: &Cursor) -> bool
-    requires { (cut : ℕ) × (value : Bool) × (cursor.now.run ≡ NumberRun.Settles cut (Some value)) }
-    ensures { (cut : ℕ) (value : Bool) → cursor.now.run ≡ NumberRun.Settles cut (Some value) → result ≡ value }
+    requires { (cut : ℕ) × (value : Bool) × (cursor.now.run ≡ RegisterAccessKind.Settles cut (Some value)) }
+    ensures { (cut : ℕ) (value : Bool) → cursor.now.run ≡ RegisterAccessKind.Settles cut (Some value) → result ≡ value }
 {
     match cursor.run() {
-        NumberRun::Settles {
+        RegisterAccessKind::Settles {
             value: Some(value),
             ..
         } => value,
@@ -162,51 +162,51 @@ fn value_settled(cursor: &Cursor) -> bool
 }
 
 /// Returns the outcome of the last access of a settling at `value`.
-fn told_settled(value: bool, taken: &Option<(bool, Reply)>) -> StepTold
-    ensures marks { (begun : Bool) → IfSome taken.now (λ (t : Bool × Reply). t.0 ≡ begun) → marks_told result ≡ settled_marks begun (reply_taken taken.now) value }
-    ensures changes { changes_told result ≡ None }
+fn outcome_of_settling(value: bool, taken: &Option<(bool, Reply)>) -> StepOutcome
+    ensures marks { (begun : Bool) → IfSome taken.now (λ (t : Bool × Reply). t.0 ≡ begun) → marks_reported result ≡ settled_marks begun (reply_taken taken.now) value }
+    ensures changes { changes_reported result ≡ None }
 {
     match taken {
-        Some((begun, reply)) if *begun == value => StepTold::SettlesAndTakes(value, *reply),
-        _ => StepTold::Settles(value),
+        Some((begun, reply)) if *begun == value => StepOutcome::SettlesAndTakes(value, *reply),
+        _ => StepOutcome::Settles(value),
     }
 }
 
 /// Advances a unit that clears the ticket; then it clears the choosing bit.
 fn free_on(
     called: &CallPart,
-    work: &mut ProcessWork,
+    work: &mut Activity,
     cursor: &mut Cursor,
     inside: bool,
     fresh: bool,
-) -> StepTold
-    requires frees { work.old ≡ ProcessWork.Frees inside }
-    requires moved { IsMoved called.now (ProcessWork.Frees inside) cursor.old fresh }
-    ensures doing { IsStepped called.now (ProcessWork.Frees inside) cursor.old fresh (state_at called.now work.new cursor.new) }
-    ensures marks { AreMarksOn called.now (ProcessWork.Frees inside) cursor.old fresh (marks_told result) }
-    ensures changes { changes_told result ≡ None }
+) -> StepOutcome
+    requires frees { work.old ≡ Activity.Frees inside }
+    requires moved { IsMoved called.now (Activity.Frees inside) cursor.old fresh }
+    ensures doing { IsStepped called.now (Activity.Frees inside) cursor.old fresh (state_at called.now work.new cursor.new) }
+    ensures marks { AreMarksOn called.now (Activity.Frees inside) cursor.old fresh (marks_reported result) }
+    ensures changes { changes_reported result ≡ None }
     ensures keeps { KeepsPlace called.now work.new cursor.new }
 {
     if !cursor.is_over() {
-        return told_first(fresh, inside);
+        return outcome_of_first(fresh, inside);
     }
     clear(called, cursor, Field::Choosing);
-    *work = ProcessWork::Lowers;
-    told_first(fresh, inside)
+    *work = Activity::Lowers;
+    outcome_of_first(fresh, inside)
 }
 
 /// Advances a unit that clears the choosing bit; then the process is down.
-fn lower_on(called: &CallPart, work: &mut ProcessWork, cursor: &Cursor) -> StepTold
-    requires lowers { work.old ≡ ProcessWork.Lowers }
-    requires moved { (fresh : Bool) × IsMoved called.now ProcessWork.Lowers cursor.now fresh }
-    ensures doing { (fresh : Bool) → IsStepped called.now ProcessWork.Lowers cursor.now fresh (state_at called.now work.new cursor.now) }
-    ensures marks { (fresh : Bool) → AreMarksOn called.now ProcessWork.Lowers cursor.now fresh (marks_told result) }
-    ensures changes { changes_told result ≡ None }
+fn lower_on(called: &CallPart, work: &mut Activity, cursor: &Cursor) -> StepOutcome
+    requires lowers { work.old ≡ Activity.Lowers }
+    requires moved { (fresh : Bool) × IsMoved called.now Activity.Lowers cursor.now fresh }
+    ensures doing { (fresh : Bool) → IsStepped called.now Activity.Lowers cursor.now fresh (state_at called.now work.new cursor.now) }
+    ensures marks { (fresh : Bool) → AreMarksOn called.now Activity.Lowers cursor.now fresh (marks_reported result) }
+    ensures changes { changes_reported result ≡ None }
     ensures keeps { KeepsPlace called.now work.new cursor.now }
 {
     if !cursor.is_over() {
-        return StepTold::Nothing;
+        return StepOutcome::Nothing;
     }
-    *work = ProcessWork::Lies;
-    StepTold::Lies
+    *work = Activity::Lies;
+    StepOutcome::Lies
 }

@@ -6,7 +6,7 @@ ghost use Rattle.process.specs.Places.{changes_read, withdrawn};
 
 use super::Process;
 use crate::entering::{clear, enter};
-use crate::work::ProcessWork;
+use crate::activity::Activity;
 use plain_store::{Answer, Command, Reply};
 use model::{Field, TornBit};
 
@@ -16,7 +16,7 @@ impl Process {
         ensures { result ≡ ticket_of self.now.doing }
     {
         match self.work {
-            ProcessWork::Runs => self.called.ticket(),
+            Activity::Runs => self.called.ticket(),
             _ => None,
         }
     }
@@ -26,7 +26,7 @@ impl Process {
         ensures { result ≡ full_of self.now.doing }
     {
         match self.work {
-            ProcessWork::Runs => self.called.full(),
+            Activity::Runs => self.called.full(),
             _ => None,
         }
     }
@@ -37,7 +37,7 @@ impl Process {
         ensures { result ≡ change_of self.now.setup self.now.process self.now.doing }
     {
         match self.work {
-            ProcessWork::Runs => self.called.pending(),
+            Activity::Runs => self.called.pending(),
             _ => None,
         }
     }
@@ -47,7 +47,7 @@ impl Process {
         ensures { result ≡ answer_of self.now.doing }
     {
         match self.work {
-            ProcessWork::Runs => self.called.answer(),
+            Activity::Runs => self.called.answer(),
             _ => None,
         }
     }
@@ -57,7 +57,7 @@ impl Process {
         ensures { result ≡ changes_read self.now.doing }
     {
         match self.work {
-            ProcessWork::Runs => self.called.changes_read(),
+            Activity::Runs => self.called.changes_read(),
             _ => 0,
         }
     }
@@ -68,7 +68,7 @@ impl Process {
         ensures known { IfSome result (IsTornOf self.now.setup) }
     {
         match self.work {
-            ProcessWork::Runs | ProcessWork::Withdraws => self.cursor.torn(),
+            Activity::Runs | Activity::Withdraws => self.cursor.torn(),
             _ => None,
         }
     }
@@ -77,7 +77,7 @@ impl Process {
     pub fn settles(&self) -> bool
         ensures { result ≡ settles self.now.doing }
     {
-        matches!(self.work, ProcessWork::Settles { .. })
+        matches!(self.work, Activity::Settles { .. })
     }
 
     /// Begins a call at the position where it enters the critical section.
@@ -85,7 +85,7 @@ impl Process {
         ensures { self.new ≡ called_inside self.old command number }
     {
         self.called.start_inside(command, number);
-        self.work = ProcessWork::Runs;
+        self.work = Activity::Runs;
         enter(&self.called, &mut self.cursor);
     }
 
@@ -93,7 +93,7 @@ impl Process {
     pub fn clear_ticket(&mut self)
         ensures { self.new ≡ withdrawn self.old }
     {
-        self.work = ProcessWork::Withdraws;
+        self.work = Activity::Withdraws;
         clear(&self.called, &mut self.cursor, Field::Ticket);
     }
 
@@ -104,7 +104,7 @@ impl Process {
     {
         match torn {
             Some(torn) => {
-                self.work = ProcessWork::Settles {
+                self.work = Activity::Settles {
                     inside: false,
                     taken: None,
                 };
@@ -112,7 +112,7 @@ impl Process {
                     .settle_on(&self.called.setup(), self.called.process(), &torn);
             }
             None => {
-                self.work = ProcessWork::Frees { inside: false };
+                self.work = Activity::Frees { inside: false };
                 clear(&self.called, &mut self.cursor, Field::Ticket);
             }
         }

@@ -7,7 +7,7 @@ ghost use Rattle.process.specs.Working.{IsOfCommit, is_torn_at, reply_taken, tak
 use super::Process;
 use crate::call_part::CallPart;
 use crate::entering::clear;
-use crate::work::ProcessWork;
+use crate::activity::Activity;
 use plain_store::Reply;
 use model::Field;
 use registers::Cursor;
@@ -31,29 +31,29 @@ impl Process {
         let inside = self.is_inside();
         if is_torn(&self.work, &self.cursor) {
             let taken = takes(&self.called, &self.work);
-            self.work = ProcessWork::Settles { inside, taken };
+            self.work = Activity::Settles { inside, taken };
             self.cursor.settle();
         } else {
-            self.work = ProcessWork::Frees { inside };
+            self.work = Activity::Frees { inside };
             clear(&self.called, &mut self.cursor, Field::Ticket);
         }
     }
 }
 
 /// Returns whether the process writes, and its present bit has begun and has not ended on every copy.
-fn is_torn(work: &ProcessWork, cursor: &Cursor) -> bool
+fn is_torn(work: &Activity, cursor: &Cursor) -> bool
     ensures { result ≡ is_torn_at work.now cursor.now }
 {
-    matches!(work, ProcessWork::Runs | ProcessWork::Withdraws) && cursor.is_torn()
+    matches!(work, Activity::Runs | Activity::Withdraws) && cursor.is_torn()
 }
 
 /// Returns the new value of the commit bit, at which the command is taken, and the reply, while the process writes it.
-fn takes(called: &CallPart, work: &ProcessWork) -> Option<(bool, Reply)>
+fn takes(called: &CallPart, work: &Activity) -> Option<(bool, Reply)>
     ensures reply { reply_taken result ≡ taken_at called.now work.now }
     ensures commit { IfSome result (IsOfCommit called.now work.now) }
 {
     match work {
-        ProcessWork::Runs => called.takes(),
+        Activity::Runs => called.takes(),
         _ => None,
     }
 }

@@ -8,12 +8,12 @@ ghost use Rattle.process.specs.RegisterProgress.{last_access, progress};
 ghost use Rattle.process.specs.Working.{settling_at};
 
 use super::Process;
-use crate::asked::Asked;
+use crate::access_request::AccessRequest;
 use crate::call_part::CallPart;
-use crate::looks::{AccessProgress, Settling, TicketKnown};
-use crate::work::ProcessWork;
+use crate::looks::{AccessProgress, Settling, KnownTicket};
+use crate::activity::Activity;
 use model::{Access, Move, bit_of};
-use registers::{Cursor, NumberRun};
+use registers::{Cursor, RegisterAccessKind};
 
 impl Process {
     /// Returns the number that it has read so far of the register that it reads; 0 if it reads no register or an image.
@@ -21,17 +21,17 @@ impl Process {
         ensures { result ≡ number_read self.now.doing }
     {
         match self.work {
-            ProcessWork::Runs => number_at(&self.called, &self.cursor),
+            Activity::Runs => number_at(&self.called, &self.cursor),
             _ => 0,
         }
     }
 
     /// Returns the known facts about its ticket, from the raising of its choosing bit to the end of its doorway.
-    pub fn ticket_known(&self) -> Option<TicketKnown>
+    pub fn ticket_known(&self) -> Option<KnownTicket>
         ensures { result ≡ ticket_known self.now.setup self.now.doing }
     {
         match self.work {
-            ProcessWork::Runs => self.called.ticket_known(),
+            Activity::Runs => self.called.ticket_known(),
             _ => None,
         }
     }
@@ -42,7 +42,7 @@ impl Process {
         ensures { result ≡ bytes_written self.now.setup self.now.process self.now.doing }
     {
         match self.work {
-            ProcessWork::Rests | ProcessWork::Lies | ProcessWork::Settles { .. } => None,
+            Activity::Rests | Activity::Lies | Activity::Settles { .. } => None,
             _ => bytes_written(&self.cursor),
         }
     }
@@ -67,7 +67,7 @@ impl Process {
         ensures { result ≡ last_access self.now.setup self.now.process self.now.doing }
     {
         match self.work {
-            ProcessWork::Runs => self.cursor.last_access(),
+            Activity::Runs => self.cursor.last_access(),
             _ => None,
         }
     }
@@ -77,7 +77,7 @@ impl Process {
         ensures { result ≡ settling_of self.now.doing }
     {
         match self.work {
-            ProcessWork::Settles { .. } => settling_at(&self.cursor),
+            Activity::Settles { .. } => settling_at(&self.cursor),
             _ => None,
         }
     }
@@ -101,7 +101,7 @@ fn reads_number(called: &CallPart) -> bool
     ensures narrow { result ≡ true → width called.now.call.setup (read_at called.now.call called.now.part).1 ≤ 32 }
 {
     match called.asks() {
-        Asked::Reads { .. } => !called.reads_image(),
+        AccessRequest::Reads { .. } => !called.reads_image(),
         _ => false,
     }
 }
@@ -111,7 +111,7 @@ fn bytes_written(cursor: &Cursor) -> Option<[u8; 216]>
     ensures { result ≡ cond (is_writing cursor.now.run) (Some (register_bytes cursor.now.bits)) None }
 {
     match cursor.run() {
-        NumberRun::Writes => Some(cursor.register_bytes()),
+        RegisterAccessKind::Writes => Some(cursor.register_bytes()),
         _ => None,
     }
 }
@@ -123,7 +123,7 @@ fn settling_at(cursor: &Cursor) -> Option<Settling>
     requires reader { cursor.now.reader ≡ 0 }
     ensures { (inside : Bool) (taken : Option Replied) → result ≡ settling_in (settling_at cursor.now.run inside taken cursor.now) }
 {
-    let NumberRun::Settles { cut, value } = cursor.run() else {
+    let RegisterAccessKind::Settles { cut, value } = cursor.run() else {
         return None;
     };
     let next = cursor.next(false);

@@ -3,14 +3,14 @@ ghost use Rattle.std.specs.Prelude.{◌≡◌, ◌<◌, ◌≤◌, IfSome, true}
 ghost use Rattle.model.specs.{value_of};
 ghost use Rattle.model.specs.declared.stages.Stage.TheVariants.{Waiting};
 ghost use Rattle.registers.specs.{AreOf, applied, ends_overlapped};
-ghost use Rattle.process.specs.Places.{changes_read, failed, left_at, marks_on, may_fail, may_step, stage_doing, stepped, withdrawn};
+ghost use Rattle.process.specs.Places.{changes_read, failed, remaining_at, marks_on, may_fail, may_step, stage_doing, stepped, withdrawn};
 ghost use Rattle.process.specs.Serving.{answered_at, dropped, newest_of, overlapped_steps, steps_of};
-ghost use Rattle.process.specs.Telling.{changes_told, marks_told};
+ghost use Rattle.process.specs.Reporting.{changes_reported, marks_reported};
 
 use super::Process;
 use super::advance::go_on;
-use crate::told::StepTold;
-use crate::work::ProcessWork;
+use crate::outcomes::StepOutcome;
+use crate::activity::Activity;
 use choices::Flicks;
 use model::Access;
 use registers::{AccessMade, AccessesMade, BitMemory, given};
@@ -19,33 +19,33 @@ impl Process {
     /// Returns the number of its next accesses that are within a register access of its call. They have no mark, and none is
     /// the first of the call or the last of the register access.
     #[inline]
-    pub fn left(&self) -> u32
-        ensures { result ≡ left_at self.now }
+    pub fn remaining(&self) -> u32
+        ensures { result ≡ remaining_at self.now }
     {
         match self.work {
-            ProcessWork::Runs if !(self.cursor.is_fresh() && self.called.is_told()) => {
-                self.cursor.left().saturating_sub(1)
+            Activity::Runs if !(self.cursor.is_fresh() && self.called.is_reported()) => {
+                self.cursor.remaining().saturating_sub(1)
             }
             _ => 0,
         }
     }
 
-    /// Makes its next access on the memory, by this flick, and writes its outcome to `told`. Returns the access, and whether
+    /// Makes its next access on the memory, by this flick, and writes its outcome to `reported`. Returns the access, and whether
     /// it ended a read that a write overlapped.
     #[inline]
-    pub fn step(&mut self, memory: &mut BitMemory, flick: bool, told: &mut StepTold) -> AccessMade
+    pub fn step(&mut self, memory: &mut BitMemory, flick: bool, reported: &mut StepOutcome) -> AccessMade
         requires goes { may_step self.old.doing ≡ true }
         requires memory { AreOf self.old.setup memory.old }
         ensures access { result.access ≡ answered_at self.old memory.old flick }
         ensures overlapped { result.overlapped ≡ ends_overlapped self.old.setup.processes memory.old result.access }
         ensures process { self.new ≡ stepped self.old flick (value_of result.access.how) }
-        ensures marks { marks_told told.new ≡ marks_on self.old flick (value_of result.access.how) }
-        ensures changes { IfSome (changes_told told.new) (λ changes. changes ≡ changes_read self.old.doing) }
+        ensures marks { marks_reported reported.new ≡ marks_on self.old flick (value_of result.access.how) }
+        ensures changes { IfSome (changes_reported reported.new) (λ changes. changes ≡ changes_read self.old.doing) }
         ensures memory { memory.new ≡ applied self.old.setup.processes memory.old result.access }
     {
         let fresh = self.cursor.is_fresh();
         let made = memory.step(&mut self.cursor, &mut Flicks::only(flick));
-        *told = go_on(&mut self.called, &mut self.work, &mut self.cursor, fresh);
+        *reported = go_on(&mut self.called, &mut self.work, &mut self.cursor, fresh);
         made
     }
 
@@ -61,15 +61,15 @@ impl Process {
 
     /// Returns the access that its next step would make on the memory by this flick, and its outcome. Nothing changes, and
     /// it does not allocate.
-    pub fn next_step(&self, memory: &BitMemory, flick: bool) -> (Access, StepTold)
+    pub fn next_step(&self, memory: &BitMemory, flick: bool) -> (Access, StepOutcome)
         requires goes { may_step self.now.doing ≡ true }
         requires memory { AreOf self.now.setup memory.now }
         ensures access { result.0 ≡ answered_at self.now memory.now flick }
-        ensures marks { marks_told result.1 ≡ marks_on self.now flick (value_of result.0.how) }
+        ensures marks { marks_reported result.1 ≡ marks_on self.now flick (value_of result.0.how) }
     {
         let access = self.next_access(memory, flick);
-        let told = self.copied().advance(flick, given(access.how));
-        (access, told)
+        let reported = self.copied().advance(flick, given(access.how));
+        (access, reported)
     }
 
     /// Returns a copy of it.
@@ -86,7 +86,7 @@ impl Process {
     #[inline(always)]
     pub fn run(&mut self, memory: &mut BitMemory, flicks: &mut Flicks, steps: u32) -> AccessesMade
         requires some { 0 < steps }
-        requires left { steps ≤ left_at self.old }
+        requires remaining { steps ≤ remaining_at self.old }
         requires memory { AreOf self.old.setup memory.old }
         ensures steps { (self.new, memory.new, flicks.new) ≡ steps_of steps (self.old, memory.old, flicks.old) }
         ensures newest { result.newest ≡ newest_of steps (self.old, memory.old, flicks.old) }

@@ -2,7 +2,7 @@
 ghost use Rattle.std.specs.Prelude.{◌≡◌, ◌≤◌, false, length, slice_index_or};
 ghost use Rattle.registers.specs.Progress.{accesses_in_all, accesses_made, last_access, access_on, last_read, last_write};
 
-use super::{Cursor, NumberRun, word_at};
+use super::{Cursor, RegisterAccessKind, word_at};
 use reader_copies::has_flag;
 use model::{Access, Move};
 
@@ -13,12 +13,12 @@ impl Cursor {
     {
         let begun = u32::from(self.begun);
         match self.run {
-            NumberRun::Reads => 2 * u32::from(self.bit) + begun,
-            NumberRun::Writes => {
+            RegisterAccessKind::Reads => 2 * u32::from(self.bit) + begun,
+            RegisterAccessKind::Writes => {
                 let bits = u32::from(self.copies) * u32::from(self.bit) + u32::from(self.copy);
                 2 * bits + begun
             }
-            NumberRun::Settles { cut, .. } => {
+            RegisterAccessKind::Settles { cut, .. } => {
                 let passed = cut % 2 == 1 && cut / 2 < self.copy;
                 (2 * u32::from(self.copy) + begun).saturating_sub(u32::from(passed))
             }
@@ -30,9 +30,9 @@ impl Cursor {
         ensures { result ≡ accesses_in_all self.now }
     {
         match self.run {
-            NumberRun::Reads => 2 * u32::from(self.width),
-            NumberRun::Writes => 2 * (u32::from(self.copies) * u32::from(self.width)),
-            NumberRun::Settles { cut, .. } => {
+            RegisterAccessKind::Reads => 2 * u32::from(self.width),
+            RegisterAccessKind::Writes => 2 * (u32::from(self.copies) * u32::from(self.width)),
+            RegisterAccessKind::Settles { cut, .. } => {
                 (2 * u32::from(self.copies)).saturating_sub(u32::from(cut % 2 == 1))
             }
         }
@@ -43,9 +43,9 @@ impl Cursor {
         ensures { result ≡ last_access self.now }
     {
         match self.run {
-            NumberRun::Reads => self.last_read(),
-            NumberRun::Writes => self.last_write(),
-            NumberRun::Settles { .. } => None,
+            RegisterAccessKind::Reads => self.last_read(),
+            RegisterAccessKind::Writes => self.last_write(),
+            RegisterAccessKind::Settles { .. } => None,
         }
     }
 
@@ -111,9 +111,9 @@ impl Cursor {
         ensures most { result ≤ 1728 }
     {
         match self.run {
-            NumberRun::Reads => self.bit,
-            NumberRun::Writes => self.width,
-            NumberRun::Settles { .. } => self.width,
+            RegisterAccessKind::Reads => self.bit,
+            RegisterAccessKind::Writes => self.width,
+            RegisterAccessKind::Settles { .. } => self.width,
         }
     }
 }

@@ -5,7 +5,7 @@ ghost use Rattle.registers.specs.Cursors.{first_lane};
 ghost use Rattle.reader_copies.specs.{flag_in};
 ghost use Rattle.registers.specs.Wordwise.{AreAhead, more_bits};
 
-use super::{Cursor, NumberRun, word_at};
+use super::{Cursor, RegisterAccessKind, word_at};
 use crate::access_made::AccessMade;
 use reader_copies::{all_flags, choose, has_flag, mask, one_flag};
 use model::{Access, Move};
@@ -46,7 +46,7 @@ impl Cursor {
     /// Returns the next move of a write.
     #[inline(always)]
     pub(crate) fn write_move(&self) -> Move
-        requires writes { self.now.run ≡ NumberRun.Writes }
+        requires writes { self.now.run ≡ RegisterAccessKind.Writes }
         requires going { self.now.bit < self.now.width }
         ensures { result ≡ write_move self.now }
     {
@@ -70,7 +70,7 @@ impl Cursor {
     /// Advances a read by its next access, whose end returns `value`, without a branch on whether it is a begin or an end.
     #[inline(always)]
     pub(crate) fn read_on(&mut self, value: bool)
-        requires reads { self.old.run ≡ NumberRun.Reads }
+        requires reads { self.old.run ≡ RegisterAccessKind.Reads }
         requires going { self.old.bit < self.old.width }
         ensures { self.new ≡ read_after self.old value }
     {
@@ -86,8 +86,8 @@ impl Cursor {
     /// if a bit has begun.
     #[inline(always)]
     pub(crate) fn bits_ahead(&self, steps: u32) -> u32
-        ensures reads { self.now.run ≡ NumberRun.Reads → 2 * result ≤ steps }
-        ensures writes { self.now.run ≡ NumberRun.Writes → 2 * (self.now.copies * result) ≤ steps }
+        ensures reads { self.now.run ≡ RegisterAccessKind.Reads → 2 * result ≤ steps }
+        ensures writes { self.now.run ≡ RegisterAccessKind.Writes → 2 * (self.now.copies * result) ≤ steps }
         ensures ahead { 0 < result → AreAhead self.now result }
     {
         // (a call with 0 steps then returns at once)
@@ -95,7 +95,7 @@ impl Cursor {
             return 0;
         }
         let most = match self.run {
-            NumberRun::Reads => steps / 2,
+            RegisterAccessKind::Reads => steps / 2,
             _ => steps / (2 * u32::from(self.copies)),
         };
         let bit = u32::from(self.bit);
@@ -104,7 +104,7 @@ impl Cursor {
 
     /// Advances a read by its next bits, which are these.
     pub(crate) fn keep_word(&mut self, n: usize, word: u64)
-        requires reads { self.old.run ≡ NumberRun.Reads }
+        requires reads { self.old.run ≡ RegisterAccessKind.Reads }
         requires ahead { AreAhead self.old n }
         ensures { self.new ≡ record self.old { bit = self.old.bit + n; bits = more_bits n (λ j. flag_in word ((self.old.bit + j) % 64)) self.old.bits } }
     {
@@ -117,7 +117,7 @@ impl Cursor {
     /// Advances a write by its next access.
     #[inline(always)]
     pub(crate) fn write_on(&mut self)
-        requires writes { self.old.run ≡ NumberRun.Writes }
+        requires writes { self.old.run ≡ RegisterAccessKind.Writes }
         requires going { self.old.bit < self.old.width }
         ensures { self.new ≡ write_after self.old }
     {

@@ -7,25 +7,25 @@ ghost use Rattle.registers.specs.BitCopies.{cell_of_copy};
 ghost use Rattle.registers.specs.CopyBytes.{copies_in, copy_bytes, has_open_write, values_in};
 ghost use Rattle.registers.specs.Cursors.{Fits};
 ghost use Rattle.registers.specs.Openings.{AreOf};
-ghost use Rattle.reader_copies.specs.{bit_seen, bits_of_words};
+ghost use Rattle.reader_copies.specs.{copy_state, bits_of_words};
 
 use super::BitMemory;
-use crate::cursor::{Cursor, NumberRun, lane_number};
+use crate::cursor::{Cursor, RegisterAccessKind, lane_number};
 use crate::fields::{BitCopy, RegisterName};
 use crate::word_bytes::register_bytes;
 use plain_store::Setup;
-use reader_copies::{BitSeen, Copies};
+use reader_copies::{CopyState, Copies};
 use model::{Access, width_of};
 
 impl BitMemory {
     /// Returns the state of a copy of a bit.
-    pub fn bit_seen(&self, setup: &Setup, copy: BitCopy) -> BitSeen
+    pub fn copy_state(&self, setup: &Setup, copy: BitCopy) -> CopyState
         requires good { checked setup.now ≡ Ok tt }
         requires memory { AreOf setup.now self.now }
         requires owner { copy.register.owner < setup.now.processes }
         requires reader { copy.reader < setup.now.processes }
         requires bit { copy.bit < width setup.now copy.register.field }
-        ensures { result ≡ bit_seen (cell_of_copy setup.now.processes self.now copy) }
+        ensures { result ≡ copy_state (cell_of_copy setup.now.processes self.now copy) }
     {
         let lane = lane_number(setup.processes, copy.register, copy.reader);
         self.lanes[lane].seen(usize::from(copy.bit))
@@ -38,7 +38,7 @@ impl BitMemory {
         requires fits { Fits self.now cursor.now }
         ensures { result ≡ next_answered cursor.now self.now flick }
     {
-        let NumberRun::Reads = cursor.run() else {
+        let RegisterAccessKind::Reads = cursor.run() else {
             return cursor.next(flick);
         };
         let seen = self.lanes[cursor.lane].seen(usize::from(cursor.bit));

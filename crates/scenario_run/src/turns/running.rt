@@ -4,43 +4,43 @@ ghost use Rattle.std.specs.Prelude.{◌≡◌, ◌+◌, ◌-◌, ◌^◌, ◌<�
 ghost use Rattle.model.specs.{stage};
 ghost use Rattle.model.specs.declared.Event.TheVariants.{Step};
 ghost use Rattle.scenario.specs.declared.lines.Line.TheVariants.{Go as GoLine, Wander as WanderLine};
-ghost use Rattle.scenario_run.specs.Listening.{Comes, InItsRun, LeavesRoom, RunsAlone, StopsAlone, StopsAmid, room_wanted};
-ghost use Rattle.scenario_run.specs.Runs.{has_step, is_there as is_target, movers, past_in};
-ghost use Rattle.scenario_run.specs.Steppers.{left_told};
+ghost use Rattle.scenario_run.specs.Observing.{Comes, InItsRun, LeavesRoom, RunsAlone, StopsAlone, StopsAmid, room_wanted};
+ghost use Rattle.scenario_run.specs.Runs.{has_step, is_there as is_target, enabled, past_in};
+ghost use Rattle.scenario_run.specs.Steppers.{remaining_after};
 ghost use Rattle.scenario_run.specs.Turns.{rest_of, turns_in};
 
-use super::Course;
+use super::ScenarioRun;
 use super::steps::{goes_on, pass_by, turn_step};
-use crate::listening::Listener;
-use crate::told::Told;
+use crate::run_observers::RunObserver;
+use crate::reports::TurnReport;
 use model::{Refusal, Stage};
 use scenario::{Fault, Target};
 use smallvec::SmallVec;
 use world::Divisor;
 
-impl Course {
+impl ScenarioRun {
     /// Makes Steps of this process, while more than `floor` turns are left, up to the first that is reported; a Step that is
     /// refused ends the line. `before` receives how many turns were left before the reported Step, or the floor.
     #[inline(never)]
-    pub(super) fn run_alone<L: Listener>(
+    pub(super) fn run_alone<L: RunObserver>(
         &mut self,
         process: u8,
         floor: u32,
         before: &mut u32,
-        listener: &mut L,
-    ) -> Result<Option<Told>, Fault>
-        requires floor { floor ≤ self.old.left }
-        requires room { L.HasRoom listener.old self.old.left }
-        ensures left { IfOk result (λ told. room_wanted told self.new.left ≤ before.new) }
-        ensures fewer { IfOk result (λ told. before.new ≤ self.old.left) }
-        ensures ended { IfOk result (λ told. told ≡ None → self.new.left ≡ floor) }
-        ensures floor { IfOk result (λ told. told ≡ None → before.new ≡ floor) }
-        ensures ok { IfOk result (RunsAlone L.Hears self.old process floor before.new
-            self.new listener.old listener.new) }
+        observer: &mut L,
+    ) -> Result<Option<TurnReport>, Fault>
+        requires floor { floor ≤ self.old.remaining }
+        requires room { L.HasRoom observer.old self.old.remaining }
+        ensures remaining { IfOk result (λ reported. room_wanted reported self.new.remaining ≤ before.new) }
+        ensures fewer { IfOk result (λ reported. before.new ≤ self.old.remaining) }
+        ensures ended { IfOk result (λ reported. reported ≡ None → self.new.remaining ≡ floor) }
+        ensures floor { IfOk result (λ reported. reported ≡ None → before.new ≡ floor) }
+        ensures ok { IfOk result (RunsAlone L.Observes self.old process floor before.new
+            self.new observer.old observer.new) }
         ensures room { IfOk result
-            (LeavesRoom L.HasRoom listener.old self.old.left listener.new self.new.left) }
+            (LeavesRoom L.HasRoom observer.old self.old.remaining observer.new self.new.remaining) }
         ensures cut { IfErr result
-            (StopsAlone L.Stops self.old process floor self.new listener.old listener.new) }
+            (StopsAlone L.Stops self.old process floor self.new observer.old observer.new) }
     {
         let mut outcome = Ok(None);
         let mut known = 1;
@@ -48,13 +48,13 @@ impl Course {
             pass_by(
                 &mut self.world,
                 &mut self.flicks,
-                &mut self.left,
+                &mut self.remaining,
                 &mut known,
                 process,
                 floor,
-                listener,
+                observer,
             );
-            if self.left == floor {
+            if self.remaining == floor {
                 *before = floor;
                 return Ok(None);
             }
@@ -63,59 +63,59 @@ impl Course {
                 &mut known,
                 process,
                 &mut self.flicks,
-                listener,
+                observer,
                 &mut outcome,
             );
             if !is_quiet && !goes_on(&outcome) {
-                *before = self.left;
-                self.left = left_after(&outcome, self.left - 1);
+                *before = self.remaining;
+                self.remaining = left_after(&outcome, self.remaining - 1);
                 return outcome;
             }
-            self.left -= 1;
+            self.remaining -= 1;
         }
     }
 
     /// Makes the turns of `go` while more than `floor` turns are left: Steps, unless the process is at its target, or has
     /// made all its Steps. `before` receives how many turns were left before the turn that is reported, or the floor.
-    pub(super) fn run_to<L: Listener>(
+    pub(super) fn run_to<L: RunObserver>(
         &mut self,
         process: u8,
         target: Target,
         floor: u32,
         before: &mut u32,
-        listener: &mut L,
-    ) -> Result<Option<Told>, Fault>
-        requires few { self.old.left ≤ turns_in (GoLine process target) }
-        requires floor { floor < self.old.left }
-        requires room { L.HasRoom listener.old self.old.left }
-        ensures left { IfOk result (λ told. room_wanted told self.new.left ≤ before.new) }
-        ensures fewer { IfOk result (λ told. before.new ≤ self.old.left) }
-        ensures ok { IfOk result (Comes L.Hears self.old (GoLine process target) floor before.new
-            self.new listener.old listener.new) }
+        observer: &mut L,
+    ) -> Result<Option<TurnReport>, Fault>
+        requires few { self.old.remaining ≤ turns_in (GoLine process target) }
+        requires floor { floor < self.old.remaining }
+        requires room { L.HasRoom observer.old self.old.remaining }
+        ensures remaining { IfOk result (λ reported. room_wanted reported self.new.remaining ≤ before.new) }
+        ensures fewer { IfOk result (λ reported. before.new ≤ self.old.remaining) }
+        ensures ok { IfOk result (Comes L.Observes self.old (GoLine process target) floor before.new
+            self.new observer.old observer.new) }
         ensures room { IfOk result
-            (LeavesRoom L.HasRoom listener.old self.old.left listener.new self.new.left) }
+            (LeavesRoom L.HasRoom observer.old self.old.remaining observer.new self.new.remaining) }
         ensures cut { IfErr result (StopsAmid L.Stops self.old (GoLine process target)
-            listener.old listener.new) }
+            observer.old observer.new) }
     {
         let Some(stage) = self.world.stage(process) else {
-            *before = self.left;
-            self.left = 0;
+            *before = self.remaining;
+            self.remaining = 0;
             let refusal = Refusal::NoProcess;
-            return Ok(Some(Told::Refused { process, refusal }));
+            return Ok(Some(TurnReport::Refused { process, refusal }));
         };
         if is_there(target, stage) {
-            *before = self.left;
-            self.left = 0;
+            *before = self.remaining;
+            self.remaining = 0;
             return Ok(None);
         }
-        if let Some(told) = self.run_alone(process, floor.max(1), before, listener)? {
-            return Ok(Some(told));
+        if let Some(reported) = self.run_alone(process, floor.max(1), before, observer)? {
+            return Ok(Some(reported));
         }
         if floor > 0 {
             return Ok(None);
         }
-        self.left = 0;
-        Ok(Some(Told::Tired(process)))
+        self.remaining = 0;
+        Ok(Some(TurnReport::Tired(process)))
     }
 
     /// Makes the turns of `wander` while more than `floor` turns are left: Steps of picked processes, if there is one to pick.
@@ -126,43 +126,43 @@ impl Course {
     /// begins what follows anew, except for that draw. For the same reason a process is asked once how many of its next Steps
     /// are within its register access, and these are counted down: most Steps ask nothing. The turns are counted down to 0
     /// after the Step, so that one instruction counts a turn and finds whether it is the last.
-    pub(super) fn run_random<L: Listener>(
+    pub(super) fn run_random<L: RunObserver>(
         &mut self,
         floor: u32,
         before: &mut u32,
-        listener: &mut L,
-    ) -> Result<Option<Told>, Fault>
-        requires floor { floor < self.old.left }
-        requires room { L.HasRoom listener.old self.old.left }
-        ensures left { IfOk result (λ told. room_wanted told self.new.left ≤ before.new) }
-        ensures fewer { IfOk result (λ told. before.new ≤ self.old.left) }
-        ensures ok { IfOk result (λ told. (steps : ℕ) →
-            Comes L.Hears self.old (WanderLine steps) floor before.new self.new
-            listener.old listener.new told) }
+        observer: &mut L,
+    ) -> Result<Option<TurnReport>, Fault>
+        requires floor { floor < self.old.remaining }
+        requires room { L.HasRoom observer.old self.old.remaining }
+        ensures remaining { IfOk result (λ reported. room_wanted reported self.new.remaining ≤ before.new) }
+        ensures fewer { IfOk result (λ reported. before.new ≤ self.old.remaining) }
+        ensures ok { IfOk result (λ reported. (steps : ℕ) →
+            Comes L.Observes self.old (WanderLine steps) floor before.new self.new
+            observer.old observer.new reported) }
         ensures room { IfOk result
-            (LeavesRoom L.HasRoom listener.old self.old.left listener.new self.new.left) }
+            (LeavesRoom L.HasRoom observer.old self.old.remaining observer.new self.new.remaining) }
         ensures cut { IfErr result (λ fault. (steps : ℕ) →
-            InItsRun self.old (λ run. self.old.left ≤ steps →
-            L.Stops listener.old self.old.world.setup run.happened
-            (rest_of self.old.world.setup (WanderLine steps) self.old.left run).happened
-            fault listener.new)) }
+            InItsRun self.old (λ run. self.old.remaining ≤ steps →
+            L.Stops observer.old self.old.world.setup run.happened
+            (rest_of self.old.world.setup (WanderLine steps) self.old.remaining run).happened
+            fault observer.new)) }
     {
-        let movers = self.movers();
-        let among = movers.as_slice();
+        let enabled = self.enabled();
+        let among = enabled.as_slice();
         if among.is_empty() {
-            *before = self.left;
-            self.left = 0;
+            *before = self.remaining;
+            self.remaining = 0;
             return Ok(None);
         }
         if among.len() == 1 && self.flicks.is_constant() {
-            let had = self.left;
-            let told = self.run_alone(among[0], floor, before, listener)?;
-            self.flicks.skip_picks(had - self.left);
-            return Ok(told);
+            let had = self.remaining;
+            let reported = self.run_alone(among[0], floor, before, observer)?;
+            self.flicks.skip_picks(had - self.remaining);
+            return Ok(reported);
         }
         let count = Divisor::new(among.len() as u32);
-        let had = self.left - floor;
-        let mut left = had;
+        let had = self.remaining - floor;
+        let mut remaining = had;
         let mut outcome = Ok(None);
         let mut within = [1_u32; 256];
         let mut ahead = self.flicks.twin();
@@ -176,33 +176,33 @@ impl Course {
                 &mut within[usize::from(process)],
                 process,
                 &mut source,
-                listener,
+                observer,
                 &mut outcome,
             );
-            left -= 1;
-            if left == 0 || (!is_quiet && !goes_on(&outcome)) {
-                self.left = floor + left;
-                *before = left_before(&outcome, self.left);
-                self.flicks.skip_picks(had - left);
-                self.flicks.skip(had - left);
+            remaining -= 1;
+            if remaining == 0 || (!is_quiet && !goes_on(&outcome)) {
+                self.remaining = floor + remaining;
+                *before = left_before(&outcome, self.remaining);
+                self.flicks.skip_picks(had - remaining);
+                self.flicks.skip(had - remaining);
                 return outcome;
             }
         }
     }
 
     /// Returns the processes with a Step to make, ascending. They use no allocated memory.
-    fn movers(&self) -> SmallVec<u8, 16>
-        ensures movers { InItsRun self.now (λ run.
-            result.items ≡ movers self.now.world.setup (past_in self.now.world.setup run)) }
+    fn enabled(&self) -> SmallVec<u8, 16>
+        ensures enabled { InItsRun self.now (λ run.
+            result.items ≡ enabled self.now.world.setup (past_in self.now.world.setup run)) }
         ensures few { length result.items ≤ 16 }
     {
-        let mut movers = SmallVec::new(self.alloc);
+        let mut enabled = SmallVec::new(self.alloc);
         for process in 0..self.processes {
             if self.has_step(process) {
-                movers.push_reserved(process);
+                enabled.push_reserved(process);
             }
         }
-        movers
+        enabled
     }
 
     /// Returns whether a process runs, or its memory unit settles.
@@ -236,27 +236,27 @@ fn is_there(target: Target, stage: Stage) -> bool
     }
 }
 
-/// Returns the turns left after a reported Step, of `left`: a refused Step ends a line of one process.
-fn left_after(outcome: &Result<Option<Told>, Fault>, left: u32) -> u32
-    ensures told { IfOk outcome.now (λ told. IfSome told (λ told. result ≡ left_told told left)) }
-    ensures fault { IfErr outcome.now (λ fault. result ≡ left) }
-    ensures fewer { result ≤ left }
+/// Returns the turns left after a reported Step, of `remaining`: a refused Step ends a line of one process.
+fn left_after(outcome: &Result<Option<TurnReport>, Fault>, remaining: u32) -> u32
+    ensures reported { IfOk outcome.now (λ reported. IfSome reported (λ reported. result ≡ remaining_after reported remaining)) }
+    ensures fault { IfErr outcome.now (λ fault. result ≡ remaining) }
+    ensures fewer { result ≤ remaining }
 {
     match outcome {
-        Ok(Some(Told::Refused { .. })) => 0,
-        _ => left,
+        Ok(Some(TurnReport::Refused { .. })) => 0,
+        _ => remaining,
     }
 }
 
 /// Returns how many turns were left before the newest turn if it made a report or failed, and otherwise how many are left.
-fn left_before(outcome: &Result<Option<Told>, Fault>, left: u32) -> u32
-    requires { left < 2 ^ 32 - 1 }
-    ensures none { outcome.now ≡ Ok None → result ≡ left }
-    ensures told { (outcome.now ≡ Ok None → ⊥) → result ≡ left + 1 }
-    ensures fewer { result ≤ left + 1 }
+fn left_before(outcome: &Result<Option<TurnReport>, Fault>, remaining: u32) -> u32
+    requires { remaining < 2 ^ 32 - 1 }
+    ensures none { outcome.now ≡ Ok None → result ≡ remaining }
+    ensures reported { (outcome.now ≡ Ok None → ⊥) → result ≡ remaining + 1 }
+    ensures fewer { result ≤ remaining + 1 }
 {
     match outcome {
-        Ok(None) => left,
-        _ => left + 1,
+        Ok(None) => remaining,
+        _ => remaining + 1,
     }
 }

@@ -3,14 +3,14 @@ ghost use Rattle.std.specs.Prelude.{◌≡◌, ◌<◌, IfErr, IfOk};
 ghost use Rattle.model.specs.{width};
 ghost use Rattle.laws.specs.{doing};
 ghost use Rattle.process.specs.{number_read, process_after};
-ghost use Rattle.process.specs.registers.reader_copies.{bit_seen};
+ghost use Rattle.process.specs.registers.reader_copies.{copy_state};
 ghost use Rattle.world.specs.Cores.{CoreAddsQuietly, CoreAddsStep, CoreRefusesStep, InEachCorePast};
 ghost use Rattle.world.specs.Looking.{IsNewestAccess, IsStepEntry, bytes_held, copy_held};
-ghost use Rattle.world.specs.Walks.{left_in};
+ghost use Rattle.world.specs.Walks.{remaining_in};
 
 use super::Core;
 use crate::marks::step_marks;
-use process::{BitCopy, BitSeen, Process, RegisterName, StepTold};
+use process::{BitCopy, CopyState, Process, RegisterName, StepOutcome};
 use model::{Access, Act, Entry, Move, Refusal};
 use std::alloc::Global;
 
@@ -36,13 +36,13 @@ impl Core {
     }
 
     /// Returns the state of a copy of a bit.
-    pub fn bit_seen(&self, copy: BitCopy) -> BitSeen
+    pub fn copy_state(&self, copy: BitCopy) -> CopyState
         requires owner { copy.register.owner < self.now.setup.processes }
         requires reader { copy.reader < self.now.setup.processes }
         requires bit { copy.bit < width self.now.setup copy.register.field }
-        ensures { InEachCorePast self.now (λ s past. result ≡ bit_seen (copy_held s past copy)) }
+        ensures { InEachCorePast self.now (λ s past. result ≡ copy_state (copy_held s past copy)) }
     {
-        self.registers.bit_seen(&self.setup, copy)
+        self.registers.copy_state(&self.setup, copy)
     }
 
     /// Returns the copy that a reader has of a register as bytes, with zeros after its bits; `None` while a write of one
@@ -66,7 +66,7 @@ impl Core {
     /// changes.
     #[inline]
     pub fn next_access(&self, process: u8, flick: bool) -> Access
-        requires { 0 < left_in self.now.seats process }
+        requires { 0 < remaining_in self.now.seats process }
         ensures { CoreAddsQuietly self.now process flick result }
     {
         let seat = &self.seats[usize::from(process)];
@@ -84,7 +84,7 @@ impl Core {
     /// # Errors
     ///
     /// Returns why the step is refused.
-    pub fn next_step(&self, process: u8, flick: bool) -> Result<(Access, StepTold), Refusal>
+    pub fn next_step(&self, process: u8, flick: bool) -> Result<(Access, StepOutcome), Refusal>
         ensures accepted { IfOk result (λ next. CoreAddsStep self.now process flick next.1 next.0) }
         ensures refused { IfErr result (CoreRefusesStep self.now process flick) }
     {
@@ -102,14 +102,14 @@ impl Core {
     pub fn next_entry(&self, alloc: Global, process: u8, flick: bool, taken: u64) -> Option<Entry>
         ensures entry { IsStepEntry self.now process flick taken result }
     {
-        let Ok((access, told)) = self.next_step(process, flick) else {
+        let Ok((access, reported)) = self.next_step(process, flick) else {
             return None;
         };
         Some(Entry {
             process,
             act: Act {
                 access: Some(access),
-                marks: step_marks(alloc, &told, taken),
+                marks: step_marks(alloc, &reported, taken),
             },
         })
     }

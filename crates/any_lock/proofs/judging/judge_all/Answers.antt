@@ -9,10 +9,10 @@ loop-entry-preserved c =
     let before : List Entry = take c.loop-entry.entry-index c.args.entries.now in
     let e : Entry = c.entry-item.result in
     record {
-      judged = subst (λ (l : List Entry). HasJudged c.hear.new.self c.args.setup.now l)
+      judged = subst (λ (l : List Entry). HasJudged c.observe.new.self c.args.setup.now l)
           (sym (take_more c.args.entries.now c.loop-entry.entry-index e c.loop-entry-test.true ∙ ap (λ (x : Entry). before ++ x ∷ []) (sym c.entry-item.is)))
-          (subst (λ (x : Entry). HasJudged c.hear.new.self c.args.setup.now (before ++ x ∷ [])) c.parts-process.ensures (c.hear.ensures.heard c.args.setup.now before c.loop-entry.invariant.judged));
-      count = c.hear.ensures.count ∙ ap (λ n. n + 1) c.loop-entry.invariant.count;
+          (subst (λ (x : Entry). HasJudged c.observe.new.self c.args.setup.now (before ++ x ∷ [])) c.parts-process.ensures (c.observe.ensures.observed c.args.setup.now before c.loop-entry.invariant.judged));
+      count = c.observe.ensures.count ∙ ap (λ n. n + 1) c.loop-entry.invariant.count;
     }
 
 pub returns : goal.returns

@@ -1,5 +1,5 @@
 use Rattle.std.proofs.Common.{◌≡◌, ◌+◌, ◌<◌, ◌≤◌, ◌++◌, ℕ, vec_capacity, vec_len}
-use Rattle.board.specs.{AreOthers, AreQuiet, EachStandsInRecord, IsIn, done_calls}
+use Rattle.board.specs.{AreOthers, AreQuiet, EachIsInRecord, IsIn, done_calls}
 use Rattle.model.specs.{lists_of}
 use Rattle.board.proofs.closing.join_all.Given as goal
 
@@ -15,7 +15,7 @@ invariant-loop-others l = record {
   quiet : AreQuiet l.others.items;
   all : vec_len l.answers + vec_len l.others ≡ vec_len l.fn.others + 1;
   room : vec_len l.answers + vec_len l.others ≤ vec_capacity l.answers;
-  stand : EachStandsInRecord l.words.key (lists_of l.answers.items);
+  stand : EachIsInRecord l.words.key (lists_of l.answers.items);
   lists : lists_of l.answers.items ++ done_calls l.others.items ≡ lists_of l.fn.answers.items ++ done_calls l.fn.others.items;
 }
 

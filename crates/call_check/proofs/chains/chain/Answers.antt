@@ -1,14 +1,14 @@
 use Rattle.std.proofs.Common.{ℕ, List, [], ◌++◌, length, take, sym, subst}
 use Rattle.std.specs.Global.{Vec}
 use Rattle.std.proofs.lemmas.List.{take_all}
-use Rattle.call_check.specs.{AreChains, Call, Link, all_calls, calls_from}
+use Rattle.call_check.specs.{AreChains, Call, PositionLink, all_calls, calls_from}
 use Rattle.model.specs.{Placed, lists_of}
 use Rattle.call_check.proofs.AllCalls.{all_more}
 use Rattle.call_check.proofs.Linking.{chains_none}
 use Rattle.call_check.proofs.chains.chain.Goals as goal
 
 pub loop-port-init : goal.loop-port-init
-loop-port-init c = subst (λ (links : List Link). AreChains [] (length (all_calls (lists_of c.args.lists.now))) c.in_ok-heads.heads.items links) (sym c.new-links.ensures.items) (chains_none (length (all_calls (lists_of c.args.lists.now))) c.in_ok-heads.heads.items c.in_ok-heads.ensures.size c.in_ok-heads.ensures.nothing)
+loop-port-init c = subst (λ (links : List PositionLink). AreChains [] (length (all_calls (lists_of c.args.lists.now))) c.in_ok-heads.heads.items links) (sym c.new-links.ensures.items) (chains_none (length (all_calls (lists_of c.args.lists.now))) c.in_ok-heads.heads.items c.in_ok-heads.ensures.size c.in_ok-heads.ensures.nothing)
 
 pub loop-port-preserved : goal.loop-port-preserved
 loop-port-preserved c =

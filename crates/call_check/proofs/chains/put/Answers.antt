@@ -1,6 +1,6 @@
 use Rattle.std.proofs.Common.{OnOk, refl, sym, subst, ◌∙◌}
 use Rattle.call_check.specs.{Puts}
-use Rattle.call_check.proofs.Followed.{none_some}
+use Rattle.call_check.proofs.CallNotes.{none_some}
 use Rattle.call_check.proofs.Linking.{chain_without}
 use Rattle.call_check.proofs.chains.put.Goals as goal
 

@@ -1,7 +1,7 @@
 use Rattle.std.proofs.Common.{◌≡◌, ◌≤◌, ◌<◌, length, refl, sym, ap, slice_set, ◌∙◌, arith}
 use Rattle.std.proofs.lemmas.Option.{slice_get_read}
 use Rattle.call_check.proofs.Linking.{chain_with, chain_without}
-use Rattle.call_check.proofs.Followed.{from_some}
+use Rattle.call_check.proofs.CallNotes.{from_some}
 use Rattle.call_check.proofs.chains.put_at.Goals as goal
 
 pub returns-then-len-place : goal.returns-then-len-place

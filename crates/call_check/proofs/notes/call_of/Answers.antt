@@ -3,11 +3,11 @@ use Rattle.std.specs.Global.{Vec}
 use Rattle.std.proofs.lemmas.Option.{get_or_from_slice_get, slice_get_within}
 use Rattle.std.specs.List.{slice_get}
 use Rattle.model.specs.{Placed}
-use Rattle.call_check.specs.{Call, IsOf, Link}
+use Rattle.call_check.specs.{Call, IsOf, PositionLink}
 use Rattle.call_check.proofs.notes.call_of.Goals as goal
 
 -- the list of the link is that of the call
-list_is : (vecs : List (Vec Placed)) (link : Link) (call : Call) (list : Vec Placed) → list ≡ get_or vecs link.port list → (of : IsOf vecs call link) → list ≡ of.list
+list_is : (vecs : List (Vec Placed)) (link : PositionLink) (call : Call) (list : Vec Placed) → list ≡ get_or vecs link.port list → (of : IsOf vecs call link) → list ≡ of.list
 list_is vecs link call list is of = is ∙ get_or_from_slice_get vecs link.port of.list list (ap (slice_get vecs) of.port ∙ of.list_there)
 
 pub bounds-lists-link : goal.bounds-lists-link

@@ -13,58 +13,58 @@ returns-in_err-write_header-clause-front g c = head_cut (script c.args.scenario.
 
 pub returns-in_err-play_all-clause-front : goal.returns-in_err-play_all-clause-front
 returns-in_err-play_all-clause-front g c =
-    let said : Script = record { setup = c.in_ok-course.course.world.setup; lines = c.args.scenario.now.lines.items } in
-    let same : said ≡ script c.args.scenario.now = λ i. record { setup = c.in_ok-course.ensures.setup i; lines = c.args.scenario.now.lines.items } in
-    let cut = c.in_err-play_all.ensures.cut run_at_start c.in_ok-course.ensures.follows in
-    let part = cut.1.part (nothing_tabled said.setup c.in_ok-table.table (c.in_ok-table.ensures.setup ∙ sym c.in_ok-course.ensures.setup) c.in_ok-table.ensures.heard) in
-    let front : WritesFront (g.W.Sink.taken c.args.output.now) (g.W.Sink.taken c.play_all.new.listener.output.now) (tabled said) = table_cut said _ _ _ c.in_ok-write_header.ensures.ok part in
+    let said : Script = record { setup = c.in_ok-scenario_run.scenario_run.world.setup; lines = c.args.scenario.now.lines.items } in
+    let same : said ≡ script c.args.scenario.now = λ i. record { setup = c.in_ok-scenario_run.ensures.setup i; lines = c.args.scenario.now.lines.items } in
+    let cut = c.in_err-play_all.ensures.cut run_at_start c.in_ok-scenario_run.ensures.follows in
+    let part = cut.1.part (nothing_tabled said.setup c.in_ok-table.table (c.in_ok-table.ensures.setup ∙ sym c.in_ok-scenario_run.ensures.setup) c.in_ok-table.ensures.observed) in
+    let front : WritesFront (g.W.Sink.taken c.args.output.now) (g.W.Sink.taken c.play_all.new.observer.output.now) (tabled said) = table_cut said _ _ _ c.in_ok-write_header.ensures.ok part in
     subst (λ w. WritesFront (g.W.Sink.taken c.args.output.now) (g.W.Sink.taken w) (tabled (script c.args.scenario.now))) (sym (c.output-1.given.1 (sym cut.0)))
-    (subst (λ said. WritesFront (g.W.Sink.taken c.args.output.now) (g.W.Sink.taken c.play_all.new.listener.output.now) (tabled said)) same front)
+    (subst (λ said. WritesFront (g.W.Sink.taken c.args.output.now) (g.W.Sink.taken c.play_all.new.observer.output.now) (tabled said)) same front)
 
 pub returns-in_err-play_all-clause-fault : goal.returns-in_err-play_all-clause-fault
 returns-in_err-play_all-clause-fault g c =
-    on_fault c.from_residual-in_err-play_all.result c.in_err-play_all.field-0.0 IsWriteFault c.from_residual-in_err-play_all.ensures.1 (c.in_err-play_all.ensures.cut run_at_start c.in_ok-course.ensures.follows).1.is
+    on_fault c.from_residual-in_err-play_all.result c.in_err-play_all.field-0.0 IsWriteFault c.from_residual-in_err-play_all.ensures.1 (c.in_err-play_all.ensures.cut run_at_start c.in_ok-scenario_run.ensures.follows).1.is
 
 pub returns-in_err-play_all-clause-failures : goal.returns-in_err-play_all-clause-failures
 returns-in_err-play_all-clause-failures g c =
-    let cut = c.in_err-play_all.ensures.cut run_at_start c.in_ok-course.ensures.follows in
+    let cut = c.in_err-play_all.ensures.cut run_at_start c.in_ok-scenario_run.ensures.follows in
     let is = ap g.W.Sink.failures (c.output-1.given.1 (sym cut.0)) ∙ cut.1.fails_are in
     omega (arith, is, c.in_ok-write_header.ensures.failures, failed_same c.from_residual-in_err-play_all.result c.in_err-play_all.field-0.0 c.from_residual-in_err-play_all.ensures.1)
 
 pub write_open-requires-clause-writes : goal.write_open-requires-clause-writes
 write_open-requires-clause-writes g c =
-    let plays = c.in_ok-play_all.ensures.whole refl run_at_start c.in_ok-course.ensures.follows in
-    let whole = ap g.W.Sink.failures (c.output-1.given.1 (sym plays.hears.0)) ∙ plays.hears.3.whole in
+    let plays = c.in_ok-play_all.ensures.whole refl run_at_start c.in_ok-scenario_run.ensures.follows in
+    let whole = ap g.W.Sink.failures (c.output-1.given.1 (sym plays.observes.0)) ∙ plays.observes.3.whole in
     omega (arith, whole, c.in_ok-write_header.ensures.failures, c.requires)
 
 pub write_open-requires-clause-setup : goal.write_open-requires-clause-setup
 write_open-requires-clause-setup g c =
-    let plays = c.in_ok-play_all.ensures.whole refl run_at_start c.in_ok-course.ensures.follows in
-    let had = nothing_tabled c.in_ok-course.course.world.setup c.in_ok-table.table (c.in_ok-table.ensures.setup ∙ sym c.in_ok-course.ensures.setup) c.in_ok-table.ensures.heard in
-    ap (λ (t : TableState). t.setup) (c.table-3-1.given.1 (sym plays.hears.1)) ∙ (plays.hears.2 had).setup ∙ c.in_ok-course.ensures.setup
+    let plays = c.in_ok-play_all.ensures.whole refl run_at_start c.in_ok-scenario_run.ensures.follows in
+    let had = nothing_tabled c.in_ok-scenario_run.scenario_run.world.setup c.in_ok-table.table (c.in_ok-table.ensures.setup ∙ sym c.in_ok-scenario_run.ensures.setup) c.in_ok-table.ensures.observed in
+    ap (λ (t : TableState). t.setup) (c.table-3-1.given.1 (sym plays.observes.1)) ∙ (plays.observes.2 had).setup ∙ c.in_ok-scenario_run.ensures.setup
 
 pub returns-clause-ok : goal.returns-clause-ok
 returns-clause-ok g c =
-    let was : Script = record { setup = c.in_ok-course.course.world.setup; lines = c.args.scenario.now.lines.items } in
+    let was : Script = record { setup = c.in_ok-scenario_run.scenario_run.world.setup; lines = c.args.scenario.now.lines.items } in
     let said : Script = script c.args.scenario.now in
-    let same : was ≡ said = λ i. record { setup = c.in_ok-course.ensures.setup i; lines = c.args.scenario.now.lines.items } in
-    let plays = c.in_ok-play_all.ensures.whole refl run_at_start c.in_ok-course.ensures.follows in
-    let had = nothing_tabled was.setup c.in_ok-table.table (c.in_ok-table.ensures.setup ∙ sym c.in_ok-course.ensures.setup) c.in_ok-table.ensures.heard in
-    let all = all_tabled {was = was} {said = said} same (c.table-3-1.given.1 (sym plays.hears.1)) (ap g.W.Sink.taken (c.output-1.given.1 (sym plays.hears.0))) (plays.hears.2 had) (plays.hears.3.writes had) in
-    ok_then c.write_open.result (λ ends. table_written said _ _ _ _ c.in_ok-write_header.ensures.ok all.1 (ends _ all.0.heard)) c.write_open.ensures.ok
+    let same : was ≡ said = λ i. record { setup = c.in_ok-scenario_run.ensures.setup i; lines = c.args.scenario.now.lines.items } in
+    let plays = c.in_ok-play_all.ensures.whole refl run_at_start c.in_ok-scenario_run.ensures.follows in
+    let had = nothing_tabled was.setup c.in_ok-table.table (c.in_ok-table.ensures.setup ∙ sym c.in_ok-scenario_run.ensures.setup) c.in_ok-table.ensures.observed in
+    let all = all_tabled {was = was} {said = said} same (c.table-3-1.given.1 (sym plays.observes.1)) (ap g.W.Sink.taken (c.output-1.given.1 (sym plays.observes.0))) (plays.observes.2 had) (plays.observes.3.writes had) in
+    ok_then c.write_open.result (λ ends. table_written said _ _ _ _ c.in_ok-write_header.ensures.ok all.1 (ends _ all.0.observed)) c.write_open.ensures.ok
 
 pub returns-clause-front : goal.returns-clause-front
 returns-clause-front g c =
-    let was : Script = record { setup = c.in_ok-course.course.world.setup; lines = c.args.scenario.now.lines.items } in
+    let was : Script = record { setup = c.in_ok-scenario_run.scenario_run.world.setup; lines = c.args.scenario.now.lines.items } in
     let said : Script = script c.args.scenario.now in
-    let same : was ≡ said = λ i. record { setup = c.in_ok-course.ensures.setup i; lines = c.args.scenario.now.lines.items } in
-    let plays = c.in_ok-play_all.ensures.whole refl run_at_start c.in_ok-course.ensures.follows in
-    let had = nothing_tabled was.setup c.in_ok-table.table (c.in_ok-table.ensures.setup ∙ sym c.in_ok-course.ensures.setup) c.in_ok-table.ensures.heard in
-    let all = all_tabled {was = was} {said = said} same (c.table-3-1.given.1 (sym plays.hears.1)) (ap g.W.Sink.taken (c.output-1.given.1 (sym plays.hears.0))) (plays.hears.2 had) (plays.hears.3.writes had) in
-    open_cut said _ _ _ _ c.in_ok-write_header.ensures.ok all.1 (c.write_open.ensures.front _ all.0.heard)
+    let same : was ≡ said = λ i. record { setup = c.in_ok-scenario_run.ensures.setup i; lines = c.args.scenario.now.lines.items } in
+    let plays = c.in_ok-play_all.ensures.whole refl run_at_start c.in_ok-scenario_run.ensures.follows in
+    let had = nothing_tabled was.setup c.in_ok-table.table (c.in_ok-table.ensures.setup ∙ sym c.in_ok-scenario_run.ensures.setup) c.in_ok-table.ensures.observed in
+    let all = all_tabled {was = was} {said = said} same (c.table-3-1.given.1 (sym plays.observes.1)) (ap g.W.Sink.taken (c.output-1.given.1 (sym plays.observes.0))) (plays.observes.2 had) (plays.observes.3.writes had) in
+    open_cut said _ _ _ _ c.in_ok-write_header.ensures.ok all.1 (c.write_open.ensures.front _ all.0.observed)
 
 pub returns-clause-failures : goal.returns-clause-failures
 returns-clause-failures g c =
-    let plays = c.in_ok-play_all.ensures.whole refl run_at_start c.in_ok-course.ensures.follows in
-    let whole = ap g.W.Sink.failures (c.output-1.given.1 (sym plays.hears.0)) ∙ plays.hears.3.whole in
+    let plays = c.in_ok-play_all.ensures.whole refl run_at_start c.in_ok-scenario_run.ensures.follows in
+    let whole = ap g.W.Sink.failures (c.output-1.given.1 (sym plays.observes.0)) ∙ plays.observes.3.whole in
     omega (arith, whole, c.in_ok-write_header.ensures.failures, c.write_open.ensures.failures)

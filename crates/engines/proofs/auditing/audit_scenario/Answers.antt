@@ -10,15 +10,15 @@ use Rattle.engines.proofs.auditing.audit_scenario.Goals as goal
 pub returns-in_err-write_line-clause-front : goal.returns-in_err-write_line-clause-front
 returns-in_err-write_line-clause-front g c =
     let text = audited (script c.args.scenario.now) in
-    let told = c.in_ok-audited.ensures in
-    let is : verdict_line law_text c.in_ok-audited.audited.entries c.in_ok-audited.audited.verdict ≡ text = λ i. verdict_line law_text (told.entries i) (told.good i) in
+    let reported = c.in_ok-audited.ensures in
+    let is : verdict_line law_text c.in_ok-audited.audited.entries c.in_ok-audited.audited.verdict ≡ text = λ i. verdict_line law_text (reported.entries i) (reported.good i) in
     line_front string_bytes (g.W.Sink.taken c.args.output.now) (g.W.Sink.taken c.write_line.new.output) c.verdict_line.result text (ok_along string_bytes c.verdict_line.result _ text c.verdict_line.ensures is) c.in_err-write_line.ensures.front c.in_err-write_line.ensures.none
 
 pub returns-clause-ok : goal.returns-clause-ok
 returns-clause-ok g c =
     let text = audited (script c.args.scenario.now) in
-    let told = c.in_ok-audited.ensures in
-    let is : verdict_line law_text c.in_ok-audited.audited.entries c.in_ok-audited.audited.verdict ≡ text = λ i. verdict_line law_text (told.entries i) (told.good i) in
+    let reported = c.in_ok-audited.ensures in
+    let is : verdict_line law_text c.in_ok-audited.audited.entries c.in_ok-audited.audited.verdict ≡ text = λ i. verdict_line law_text (reported.entries i) (reported.good i) in
     line_whole string_bytes (g.W.Sink.taken c.args.output.now) (g.W.Sink.taken c.write_line.new.output) c.verdict_line.result text (ok_along string_bytes c.verdict_line.result _ text c.verdict_line.ensures is) c.in_ok-write_line.ensures.made c.in_ok-write_line.ensures.ok
 
 pub returns-clause-front : goal.returns-clause-front

@@ -12,7 +12,7 @@ loop-line-init c =
     let setup = c.args.scenario.now.setup in
     let lines = c.args.scenario.now.lines.items in
     record {
-      told = ap (λ (r : Run). string_bytes c.args.text.now ++ text_from setup r lines) c.requires;
+      reported = ap (λ (r : Run). string_bytes c.args.text.now ++ text_from setup r lines) c.requires;
       known = ap (λ (r : Run). length r.counts) c.requires ∙ length-replicate {A = ℕ} setup.processes 0;
       few = omega (arith, ap (λ (r : Run). r.place) c.requires);
     }
@@ -27,12 +27,12 @@ pub loop-line-preserved : goal.loop-line-preserved
 loop-line-preserved c =
     let setup = c.args.scenario.now.setup in
     let lines = c.args.scenario.now.lines.items in
-    let told : string_bytes c.push_str.new.self ≡ string_bytes c.loop-line.text ++ line_text c.args.scenario.now.setup c.loop-line.run c.line-item.result = search rules in
+    let reported : string_bytes c.push_str.new.self ≡ string_bytes c.loop-line.text ++ line_text c.args.scenario.now.setup c.loop-line.run c.line-item.result = search rules in
     let run : c.line.new.self ≡ run_after c.args.scenario.now.setup c.loop-line.run c.line-item.result = search rules in
     record {
-      told = ap (λ bytes. bytes ++ text_from setup c.line.new.self (drop (c.loop-line.line-index + 1) lines)) told
+      reported = ap (λ bytes. bytes ++ text_from setup c.line.new.self (drop (c.loop-line.line-index + 1) lines)) reported
           ∙ ap (λ (r : Run). (string_bytes c.loop-line.text ++ line_text setup c.loop-line.run c.line-item.result) ++ text_from setup r (drop (c.loop-line.line-index + 1) lines)) run
-          ∙ text_more _ setup c.loop-line.run lines c.loop-line.line-index c.line-item.result (omega arith) (rw c.deref-line-items.ensures.value at c.line-item.is) ∙ c.loop-line.invariant.told;
+          ∙ text_more _ setup c.loop-line.run lines c.loop-line.line-index c.line-item.result (omega arith) (rw c.deref-line-items.ensures.value at c.line-item.is) ∙ c.loop-line.invariant.reported;
       known = ap (λ (r : Run). length r.counts) run ∙ counts_kept setup c.loop-line.run c.line-item.result ∙ c.loop-line.invariant.known;
       few = omega (arith, ap (λ (r : Run). r.place) run, place_next setup c.loop-line.run c.line-item.result, c.loop-line.invariant.few);
     }
@@ -43,4 +43,4 @@ returns c =
     let setup = c.args.scenario.now.setup in
     let lines = c.args.scenario.now.lines.items in
     let text = string_bytes c.loop-line.text in
-    sym (append-nil text) ∙ ap (λ (rest : List Line). text ++ text_from setup c.loop-line.run rest) (sym (drop_all c.loop-line.line-index lines (omega arith))) ∙ c.loop-line.invariant.told
+    sym (append-nil text) ∙ ap (λ (rest : List Line). text ++ text_from setup c.loop-line.run rest) (sym (drop_all c.loop-line.line-index lines (omega arith))) ∙ c.loop-line.invariant.reported

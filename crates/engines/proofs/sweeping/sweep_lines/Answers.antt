@@ -10,14 +10,14 @@ use Rattle.engines.proofs.sweeping.sweep_lines.Goals.{After-found}
 use Rattle.engines.proofs.sweeping.sweep_lines.Goals as goal
 
 -- the sweeper has gone along the whole run
-gone : (g : Over) (c : After-found g) → SweepsRun c.args.scenario.now.setup (accepted_calls (script c.args.scenario.now)) (happenings (script c.args.scenario.now)) c.play_all.new.listener.calls.now c.play_all.new.listener.sweeper
+gone : (g : Over) (c : After-found g) → SweepsRun c.args.scenario.now.setup (accepted_calls (script c.args.scenario.now)) (happenings (script c.args.scenario.now)) c.play_all.new.observer.calls.now c.play_all.new.observer.sweeper
 gone g c =
     let along = c.args.along.now in
-    let then = c.play_all.new.listener in
+    let then = c.play_all.new.observer in
     let calls = accepted_calls (script c.args.scenario.now) in
     let s : Setup = c.args.scenario.now.setup in
     let on = subst (λ (s : Setup). SweepsRun s calls [] along.calls.now along.sweeper → SweepsRun s calls (runs s c.args.scenario.now.lines.items run_at_start).happened then.calls.now then.sweeper) c.requires.setup
-    ((c.in-Ok.ensures.whole refl run_at_start c.requires.follows).hears calls) in
+    ((c.in-Ok.ensures.whole refl run_at_start c.requires.follows).observes calls) in
     on (record { given_are = c.requires.calls; swept = c.requires.swept calls })
 
 pub returns-clause-swept : goal.returns-clause-swept

@@ -1,9 +1,9 @@
 use Rattle.std.proofs.Common.{◌≡◌, ℕ, List, [], not, ap, arith, refl, subst, sym, ◌∙◌}
 use Rattle.std.specs.Io.KnownBytes.{Consumes}
 use Rattle.std.specs.List.{list_all}
-use Rattle.files.specs.{TakesLine, Told, coming, is_inner}
+use Rattle.files.specs.{TakesLine, Reported, coming, is_inner}
 use Rattle.files.specs.declared.faults.Fault.TheVariants.{Memory}
-use Rattle.files.proofs.CallEnds.{counts_fault, no_value, tells_fault}
+use Rattle.files.proofs.CallEnds.{counts_fault, no_value, reports_fault}
 use Rattle.files.proofs.FirstLines.{all_inner, cut_long, ended, fed, fed_all, fed_long, none_came, none_taken}
 use Rattle.files.proofs.source_lines.take_line.Goals as goal
 
@@ -61,12 +61,12 @@ returns-then-branch g c =
     let inv = c.parts.invariant in
     let all = coming c.args.ahead.now.given (g.R.Source.to_come c.args.input.now) in
     let mid = coming c.parts.ahead.given (g.R.Source.to_come c.parts.input) in
-    let left = g.R.Source.to_come c.fill.new.input in
-    let told = subst (λ (l : List ℕ). Told all (coming c.move_to.new.self.given left) (λ text rest. TakesLine text l rest)) (sym {A = List ℕ} c.drop_return.ensures)
-    (fed all mid c.fill.new.self.given c.move_to.new.self.given left c.parts.line.items c.move_to.new.line.items inv.inner inv.front (c.in_ok-fill.ensures.stays c.if-not-branch.false) (c.in_ok-move_to.ensures.ended c.if-branch.true) c.in_ok-move_to.ensures.source) in
+    let remaining = g.R.Source.to_come c.fill.new.input in
+    let reported = subst (λ (l : List ℕ). Reported all (coming c.move_to.new.self.given remaining) (λ text rest. TakesLine text l rest)) (sym {A = List ℕ} c.drop_return.ensures)
+    (fed all mid c.fill.new.self.given c.move_to.new.self.given remaining c.parts.line.items c.move_to.new.line.items inv.inner inv.front (c.in_ok-fill.ensures.stays c.if-not-branch.false) (c.in_ok-move_to.ensures.ended c.if-branch.true) c.in_ok-move_to.ensures.source) in
     record {
-      line = λ some short. told;
-      long = λ some long. fed_long all (coming c.move_to.new.self.given left) c.drop_return.new.line.items told long;
+      line = λ some short. reported;
+      long = λ some long. fed_long all (coming c.move_to.new.self.given remaining) c.drop_return.new.line.items reported long;
       end = λ e. absurd (cc);
       ended = λ e. absurd (cc);
       holds = λ h e. c.in_ok-fill.ensures.holds (inv.holds h) (sym c.in_ok-move_to.ensures.source ∙ e);
@@ -83,7 +83,7 @@ returns g c =
     let all = coming c.args.ahead.now.given (g.R.Source.to_come c.args.input.now) in
     let mid = coming c.parts.ahead.given (g.R.Source.to_come c.parts.input) in
     record {
-      line = λ some short. absurd {A = Told all mid (λ text left. TakesLine text c.parts.line.items left)} (omega (arith, c.parts-test.false));
+      line = λ some short. absurd {A = Reported all mid (λ text remaining. TakesLine text c.parts.line.items remaining)} (omega (arith, c.parts-test.false));
       long = λ some long. cut_long all mid c.parts.line.items inv.inner inv.front (omega (arith, c.parts-test.false));
       end = λ e. absurd (cc);
       ended = λ e. absurd (cc);
@@ -110,7 +110,7 @@ returns-in_err-fill g c =
       holds = λ h. c.in_err-fill.ensures.holds (inv.holds h);
       stays_ended = λ e. c.in_err-fill.ensures.stays_ended (inv.stays_ended e);
       left_alone = λ e. c.in_err-fill.ensures.left_alone (inv.stays_ended e) ∙ inv.left_alone e;
-      fault = tells_fault r fault is c.in_err-fill.ensures.fault;
+      fault = reports_fault r fault is c.in_err-fill.ensures.fault;
       failures = counts_fault r fault (failures c.args.input.now) (failures c.parts.input) (failures c.fill.new.input) is inv.whole c.in_err-fill.ensures.failures;
     }
 
@@ -128,6 +128,6 @@ returns-in_err-move_to g c =
       holds = λ h e. c.in_ok-fill.ensures.holds (inv.holds h) (sym c.in_err-move_to.ensures.source ∙ e);
       stays_ended = λ e. c.in_err-move_to.ensures.source ∙ c.in_ok-fill.ensures.stays_ended (inv.stays_ended e);
       left_alone = λ e. c.in_ok-fill.ensures.left_alone (inv.stays_ended e) ∙ inv.left_alone e;
-      fault = tells_fault r Memory is tt;
+      fault = reports_fault r Memory is tt;
       failures = counts_fault r Memory (failures c.args.input.now) (failures c.parts.input) (failures c.fill.new.input) is inv.whole c.in_ok-fill.ensures.failures;
     }

@@ -1,6 +1,6 @@
 use Rattle.std.proofs.Common.{ℕ, List, [], ◌∷◌, ◌++◌, Bor, not, ap, sym, ◌∙◌}
 use Rattle.files.specs.{texts, words_of}
-use Rattle.files.proofs.FoundWords.{fewer_left, none_more, one_more}
+use Rattle.files.proofs.FoundWords.{fewer_remaining, none_more, one_more}
 use Rattle.files.proofs.words.add_words.Goals as goal
 
 -- one word more
@@ -21,7 +21,7 @@ words-preserved c =
 
 -- fewer bytes remain
 pub words-smaller-in_ok-push : goal.words-smaller-in_ok-push
-words-smaller-in_ok-push c = fewer_left c.words.rest.now c.cut_at_blank.result.1.now c.words-test.ensures c.cut_at_blank.ensures.behind
+words-smaller-in_ok-push c = fewer_remaining c.words.rest.now c.cut_at_blank.result.1.now c.words-test.ensures c.cut_at_blank.ensures.behind
 
 pub words-smaller : goal.words-smaller
-words-smaller c = fewer_left c.words.rest.now c.cut_at_blank.result.1.now c.words-test.ensures c.cut_at_blank.ensures.behind
+words-smaller c = fewer_remaining c.words.rest.now c.cut_at_blank.result.1.now c.words-test.ensures c.cut_at_blank.ensures.behind

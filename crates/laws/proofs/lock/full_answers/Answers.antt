@@ -7,6 +7,6 @@ pub returns : goal.returns
 returns x = record {
   all_read = λ s h events event e is ends. all_read s (is_good s h) events event e is ends;
   ticket = λ s h events event e is waits. waiters_read_none s (is_good s h) events event e is waits;
-  full = λ s h events event e is j told. full_names_the_lowest s (is_good s h) events event e is j told;
+  full = λ s h events event e is j reported. full_names_the_lowest s (is_good s h) events event e is j reported;
   exactly = λ s h events event e is ends j. full_exactly s (is_good s h) events event e is ends j;
 }

@@ -3,7 +3,7 @@ use Rattle.markup.specs.{Mark, drawings, reading, with_mark}
 use Rattle.picture_layout.specs.{text_of}
 use Rattle.picture.specs.{mark_said, queue_text}
 use Rattle.picture.proofs.Sheetings.{adds_other}
-use Rattle.picture.proofs.Tellings.{then_same}
+use Rattle.picture.proofs.Reportings.{then_same}
 use Rattle.picture.proofs.marks.begin_mark.Goals as goal
 
 pub returns-clause-draws : goal.returns-clause-draws

@@ -1,6 +1,6 @@
 use Rattle.std.proofs.Common.{◌∙◌, ap}
 use Rattle.markup.specs.{group, with_ended}
-use Rattle.picture.proofs.Tellings.{group_ended, then_same}
+use Rattle.picture.proofs.Reportings.{group_ended, then_same}
 use Rattle.picture.proofs.reads.draw_read.Goals as goal
 
 pub returns-clause-read : goal.returns-clause-read

@@ -1,6 +1,6 @@
 use Rattle.std.proofs.Common.{◌∙◌}
 use Rattle.picture.proofs.Sheetings.{adds_last, adds_on}
-use Rattle.picture.proofs.Tellings.{then_same}
+use Rattle.picture.proofs.Reportings.{then_same}
 use Rattle.picture.proofs.sheets.add_styles.Goals as goal
 
 pub returns-clause-draws : goal.returns-clause-draws

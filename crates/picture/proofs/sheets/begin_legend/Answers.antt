@@ -1,7 +1,7 @@
 use Rattle.std.proofs.Common.{◌∙◌, ap, codes}
 use Rattle.markup.specs.{with_begun}
 use Rattle.picture.proofs.Sheetings.{adds_last, adds_on}
-use Rattle.picture.proofs.Tellings.{then_same}
+use Rattle.picture.proofs.Reportings.{then_same}
 use Rattle.picture.proofs.sheets.begin_legend.Goals as goal
 
 pub returns-clause-draws : goal.returns-clause-draws

@@ -1,7 +1,7 @@
 use Rattle.std.proofs.Common.{ap, ◌∙◌}
 use Rattle.markup.specs.{reading, with_mark}
 use Rattle.picture.specs.{seen_line, title_of}
-use Rattle.picture.proofs.Tellings.{then_ends}
+use Rattle.picture.proofs.Reportings.{then_ends}
 use Rattle.picture.proofs.verdict_box.draw_line.Goals as goal
 
 pub returns-clause-read : goal.returns-clause-read

@@ -3,7 +3,7 @@ use Rattle.markup.specs.{drawings, reading}
 use Rattle.picture.specs.{VerdictLine, lines_from, lines_height, seen_line, verdict_line}
 use Rattle.picture.proofs.Drawn.{drawn_on}
 use Rattle.picture.proofs.VerdictLines.{box_next, title_more}
-use Rattle.picture.proofs.Tellings.{none_more}
+use Rattle.picture.proofs.Reportings.{none_more}
 use Rattle.picture.proofs.verdict_box.draw_lines.Goals as goal
 
 pub loop-place-init : goal.loop-place-init

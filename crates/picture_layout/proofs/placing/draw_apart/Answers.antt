@@ -1,11 +1,11 @@
 use Rattle.std.proofs.Common.{◌∙◌, arith, map, refl}
 use Rattle.picture_layout.specs.{drawn_apart, seen}
-use Rattle.picture_layout.proofs.Lists.{drawn_more, first_mapped_done, mapped_length, set_told}
+use Rattle.picture_layout.proofs.Lists.{drawn_more, first_mapped_done, mapped_length, set_reported}
 use Rattle.picture_layout.proofs.placing.draw_apart.Goals as goal
 
 pub loop-column-preserved : goal.loop-column-preserved
 loop-column-preserved c = (
-  set_told c.loop-column.columns c.loop-column.column-index _ c.column-item.result refl ∙ c.loop-column.invariant.0,
+  set_reported c.loop-column.columns c.loop-column.column-index _ c.column-item.result refl ∙ c.loop-column.invariant.0,
   drawn_more c.args.old c.args.new c.loop-column.columns (map seen c.args.columns.now) c.loop-column.column-index c.column-item.result c.stretched-column.result (omega arith) c.loop-column.invariant.1 c.stretched-column.ensures,
 )
 

@@ -1,6 +1,6 @@
 use Rattle.std.proofs.Common.{◌++◌, ◌+◌, ap, ◌∙◌, sym, drop, flat_map, arith}
 use Rattle.plain_store.specs.{next_pair}
-use Rattle.plain_store.proofs.StoreLines.{all_told, first_pair, no_pairs, pairs_more}
+use Rattle.plain_store.proofs.StoreLines.{all_reported, first_pair, no_pairs, pairs_more}
 use Rattle.plain_store.proofs.store_line.store_words.Goals as goal
 
 -- the first pair
@@ -19,4 +19,4 @@ loop-place-preserved g c =
 
 -- no pair remains
 pub returns : goal.returns
-returns g c = sym (all_told _ _ c.loop-place.place (omega arith)) ∙ c.loop-place.invariant
+returns g c = sym (all_reported _ _ c.loop-place.place (omega arith)) ∙ c.loop-place.invariant

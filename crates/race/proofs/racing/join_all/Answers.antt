@@ -4,7 +4,7 @@ use Rattle.std.specs.Vec.Iter.{into_iter_items}
 use Rattle.board.specs.{PortState}
 use Rattle.race.specs.{HasMade}
 use Rattle.race.proofs.Lists.{drop_more}
-use Rattle.race.proofs.Threads.{left_more, made_one_more, told_more}
+use Rattle.race.proofs.Threads.{left_more, made_one_more, reported_more}
 use Rattle.race.proofs.racing.join_all.Goals as goal
 
 pub loop-thread-preserved-in-Ok : goal.loop-thread-preserved-in-Ok
@@ -22,8 +22,8 @@ loop-thread-preserved-in-Ok g c =
       room = (let room = i.room in omega (arith, len, less, capacity, room));
       all = λ none. let all = i.all none in omega (arith, len, less, all);
       rest = λ none. sym (ap (λ n. drop n threads) len ∙ drop_more threads (length before.items) c.in-Some.thread rest (sym (i.rest none) ∙ step.0));
-      left = left_more threads (into_iter_items c.loop-thread.thread-iterator) c.in-Some.thread rest i.left step.0;
-      told = i.told;
+      remaining = left_more threads (into_iter_items c.loop-thread.thread-iterator) c.in-Some.thread rest i.remaining step.0;
+      reported = i.reported;
       each = λ none k t p t_at p_at.
           made_one_more (λ (u : _) (q : PortState). HasMade u.promise.board.value u.promise.number u.promise.plan.value.items q) threads before.items c.in-Some.thread rest c.in-Ok.port (sym (i.rest none) ∙ step.0) c.in-Ok.ensures.0 (i.each none) k t p t_at
           (subst (λ xs. slice_get xs k ≡ Some p) pushed.items p_at);
@@ -41,8 +41,8 @@ loop-thread-preserved g c =
       room = (let room = i.room in omega (arith, less, room));
       all = λ none. let no : ⊥ = cc in absurd no;
       rest = λ none. let no : ⊥ = cc in absurd no;
-      left = left_more threads (into_iter_items before) c.in-Some.thread rest i.left step.0;
-      told = told_more threads (λ (u : _). u.promise.number) (into_iter_items before) c.in-Some.thread rest c.in-Err.found c.or_lower.result c.loop-thread.fault i.left step.0 c.in-Err.ensures.1 i.told c.or_lower.ensures.one;
+      remaining = left_more threads (into_iter_items before) c.in-Some.thread rest i.remaining step.0;
+      reported = reported_more threads (λ (u : _). u.promise.number) (into_iter_items before) c.in-Some.thread rest c.in-Err.found c.or_lower.result c.loop-thread.fault i.remaining step.0 c.in-Err.ensures.1 i.reported c.or_lower.ensures.one;
       each = λ none k t p t_at p_at. let no : ⊥ = cc in absurd no;
     }
 

@@ -45,8 +45,8 @@ loop-number-preserved g c =
     let pushed = c.push_reserved.ensures in
     let count = c.loop-number.number-iterator.count in
     let thread = c.in-Some-start.thread in
-    let left : drop count c.args.ports.items ≡ c.in-Some.port ∷ c.next.new.self.iter.rest.items = sym i.rest ∙ step.0.0 in
-    let at : slice_get c.args.ports.items count ≡ Some c.in-Some.port = at_drop c.args.ports.items count c.in-Some.port c.next.new.self.iter.rest.items left in
+    let remaining : drop count c.args.ports.items ≡ c.in-Some.port ∷ c.next.new.self.iter.rest.items = sym i.rest ∙ step.0.0 in
+    let at : slice_get c.args.ports.items count ≡ Some c.in-Some.port = at_drop c.args.ports.items count c.in-Some.port c.next.new.self.iter.rest.items remaining in
     let within = slice_get_within c.args.ports.items count c.in-Some.port at in
     let len : length c.push_reserved.new.self.items ≡ length c.loop-number.threads.items + 1 = sym c.push_reserved.new.self.ok.0 ∙ pushed.len ∙ ap (λ (n : ℕ). n + 1) c.loop-number.threads.ok.0 in
     let next : c.next.new.self.count ≡ suc count = (let n = step.2 in omega (arith, n)) in
@@ -59,7 +59,7 @@ loop-number-preserved g c =
     record {
       count = step.2 ∙ ap (λ n. n + 1) i.count ∙ sym len;
       few = omega (arith, len, within, counted);
-      rest = sym (ap (λ n. drop n c.args.ports.items) next ∙ drop_more c.args.ports.items count c.in-Some.port c.next.new.self.iter.rest.items left);
+      rest = sym (ap (λ n. drop n c.args.ports.items) next ∙ drop_more c.args.ports.items count c.in-Some.port c.next.new.self.iter.rest.items remaining);
       room = subst (λ (n : ℕ). length c.args.ports.items ≤ n) (sym pushed.capacity) i.room;
       each = λ k t e.
           all_push (λ n (u : _). IsFor c.args.board.now (plans_of c.args.plans.now) n u.promise.board.value u.promise.number u.promise.plan.value.items) c.loop-number.threads.items thread i.each

@@ -9,7 +9,7 @@ loop-call-preserved c =
     let text = call_text c.args.process in
     let call = c.call-item.result in
     pushed c.call_line.result (string_bytes c.loop-call.text) (string_bytes c.push_text.new.text) (text call) c.in_ok-push_text.ensures c.call_line.ensures
-    ∙ ap (λ told. told ++ text call) c.loop-call.invariant ∙ sym (items_more text c.args.calls.now c.loop-call.call-index call c.loop-call-test.true c.call-item.is)
+    ∙ ap (λ reported. reported ++ text call) c.loop-call.invariant ∙ sym (items_more text c.args.calls.now c.loop-call.call-index call c.loop-call-test.true c.call-item.is)
 
 pub returns : goal.returns
 returns c = c.loop-call.invariant ∙ items_all (call_text c.args.process) c.args.calls.now c.loop-call.call-index c.loop-call-test.false

@@ -1,6 +1,6 @@
 use Rattle.std.proofs.Common.{◌≡◌, Bool, ◌++◌, OnOk, sym, subst}
 use Rattle.record_file.specs.scenario.{bit_word}
-use Rattle.record_accesses.proofs.Watches.{ok_items}
+use Rattle.record_accesses.proofs.Monitors.{ok_items}
 use Rattle.record_accesses.proofs.words.push_digit.Goals as goal
 
 pub returns-in-true : goal.returns-in-true

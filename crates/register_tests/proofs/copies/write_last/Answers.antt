@@ -9,8 +9,8 @@ abbrev going : ℕ → Writing
 going made = record { value = true; made = made; ended = false }
 
 -- what one access makes of the row
-stepped : (row row' at : List (List Cell)) (made told : Made) → row' ≡ row_after row 64 made → row ≡ at → made ≡ told → row' ≡ row_after at 64 told
-stepped row row' at made told after here is = after ∙ λ i. row_after (here i) 64 (is i)
+stepped : (row row' at : List (List Cell)) (made reported : Made) → row' ≡ row_after row 64 made → row ≡ at → made ≡ reported → row' ≡ row_after at 64 reported
+stepped row row' at made reported after here is = after ∙ λ i. row_after (here i) 64 (is i)
 
 -- and of the write
 gone_on : (row at : List (List Cell)) (run run' begun : Writing) → run' ≡ write_after (length row) run → row ≡ at → run ≡ begun → run' ≡ write_after (length at) begun

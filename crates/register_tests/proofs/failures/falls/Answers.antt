@@ -49,13 +49,13 @@ settle-made-requires c =
     let can : CanFall c.args.value n = can-fall c.args.value n c.requires.steps in
     let w = c.run_door-doorway in
     let start = begun 0 c.args.first.now c.start.new.self c.requires.first c.start.ensures.door in
-    let left = fallen-locks n c.start.new.self w.new.door c.args.locks.now w.new.locks c.fail-torn.new.locks start c.requires.locks w.ensures.door w.ensures.locks c.fail-torn.ensures.locks in
+    let remaining = fallen-locks n c.start.new.self w.new.door c.args.locks.now w.new.locks c.fail-torn.new.locks start c.requires.locks w.ensures.door w.ensures.locks c.fail-torn.ensures.locks in
     let unit = unit-is n c.args.setup.now c.start.new.self w.new.door c.args.locks.now c.fail-torn.result c.start-unit.result c.requires.setup start c.requires.locks w.ensures.door c.fail-torn.ensures.torn c.start-unit.ensures.unit in
     record {
-      locks = omega (arith, can.there, ap length left);
+      locks = omega (arith, can.there, ap length remaining);
       row = omega (arith, ap (λ (r : DataRow). length r.parts) c.requires.row);
       going = c.start-unit.ensures.going;
-      goes = (λ i. unit_goes 100 (settlement_of c.args.value (unit i) 0 (left i) (c.requires.row i))) ∙ can.settles_on;
+      goes = (λ i. unit_goes 100 (settlement_of c.args.value (unit i) 0 (remaining i) (c.requires.row i))) ∙ can.settles_on;
     }
 
 pub read_lock-lock-requires : goal.read_lock-lock-requires
@@ -64,9 +64,9 @@ read_lock-lock-requires c =
     let can : CanFall c.args.value n = can-fall c.args.value n c.requires.steps in
     let w = c.run_door-doorway in
     let start = begun 0 c.args.first.now c.start.new.self c.requires.first c.start.ensures.door in
-    let left = fallen-locks n c.start.new.self w.new.door c.args.locks.now w.new.locks c.fail-torn.new.locks start c.requires.locks w.ensures.door w.ensures.locks c.fail-torn.ensures.locks in
+    let remaining = fallen-locks n c.start.new.self w.new.door c.args.locks.now w.new.locks c.fail-torn.new.locks start c.requires.locks w.ensures.door w.ensures.locks c.fail-torn.ensures.locks in
     let unit = unit-is n c.args.setup.now c.start.new.self w.new.door c.args.locks.now c.fail-torn.result c.start-unit.result c.requires.setup start c.requires.locks w.ensures.door c.fail-torn.ensures.torn c.start-unit.ensures.unit in
-    let all = down-locks n c.args.value c.start-unit.result c.fail-torn.new.locks c.settle-made.new.locks c.args.row.now unit left c.requires.row c.settle-made.ensures.locks in
+    let all = down-locks n c.args.value c.start-unit.result c.fail-torn.new.locks c.settle-made.new.locks c.args.row.now unit remaining c.requires.row c.settle-made.ensures.locks in
     ap (λ (x : List LockRows). lock_reads x 0 1 true) all ∙ can.reads
 
 pub run_door-enters-requires-clause-goes : goal.run_door-enters-requires-clause-goes
@@ -76,8 +76,8 @@ run_door-enters-requires-clause-goes c =
     let w = c.run_door-doorway in
     let start = begun 0 c.args.first.now c.start.new.self c.requires.first c.start.ensures.door in
     let next = begun 1 c.args.second.now c.start-2.new.self c.requires.second c.start-2.ensures.door in
-    let left = fallen-locks n c.start.new.self w.new.door c.args.locks.now w.new.locks c.fail-torn.new.locks start c.requires.locks w.ensures.door w.ensures.locks c.fail-torn.ensures.locks in
+    let remaining = fallen-locks n c.start.new.self w.new.door c.args.locks.now w.new.locks c.fail-torn.new.locks start c.requires.locks w.ensures.door w.ensures.locks c.fail-torn.ensures.locks in
     let unit = unit-is n c.args.setup.now c.start.new.self w.new.door c.args.locks.now c.fail-torn.result c.start-unit.result c.requires.setup start c.requires.locks w.ensures.door c.fail-torn.ensures.torn c.start-unit.ensures.unit in
-    let all = down-locks n c.args.value c.start-unit.result c.fail-torn.new.locks c.settle-made.new.locks c.args.row.now unit left c.requires.row c.settle-made.ensures.locks in
+    let all = down-locks n c.args.value c.start-unit.result c.fail-torn.new.locks c.settle-made.new.locks c.args.row.now unit remaining c.requires.row c.settle-made.ensures.locks in
     let read = c.read_lock-lock.ensures ∙ ap (λ (x : List LockRows). after_lock_read x 0 1 true) all in
     (λ i. door_goes 100 true (next i, read i)) ∙ can.enters

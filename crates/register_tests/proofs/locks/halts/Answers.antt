@@ -25,8 +25,8 @@ Halts locks v s = MayDrop (stepped (started s) true v) locks
 halts : (locks : List LockRows) (v : Bool) → Halts locks v (record { version = 1; processes = 2; ticket_bits = 2; stamp_bits = 2; slots = 1; opening = [] })
 halts locks v = tt
 
-pub step-told-requires-clause-turn : goal.step-told-requires-clause-turn
-step-told-requires-clause-turn c =
+pub step-reported-requires-clause-turn : goal.step-reported-requires-clause-turn
+step-reported-requires-clause-turn c =
     let starts = c.start.ensures.door ∙ ap (λ (d : ProcessState). called d Ask 0) c.in_ok-door.ensures.door in
     subst (λ (d : ProcessState). IsInTurn d c.in_ok-locks.locks true) (sym starts)
     (subst (λ (locks : List LockRows). IsInTurn (started c.one-setup.result) locks true) (sym c.in_ok-locks.ensures) (subst Opens (sym c.one-setup.ensures) opens))
@@ -34,13 +34,13 @@ step-told-requires-clause-turn c =
 pub fail-requires-clause-there : goal.fail-requires-clause-there
 fail-requires-clause-there c =
     let starts = c.start.ensures.door ∙ ap (λ (d : ProcessState). called d Ask 0) c.in_ok-door.ensures.door in
-    let locks = c.step-told.new.locks in
-    let value = value_of c.step-told.result.0.how in
-    subst (λ (d : ProcessState). MayDrop d locks) (sym (c.step-told.ensures.door ∙ ap (λ (d : ProcessState). stepped d true value) starts))
+    let locks = c.step-reported.new.locks in
+    let value = value_of c.step-reported.result.0.how in
+    subst (λ (d : ProcessState). MayDrop d locks) (sym (c.step-reported.ensures.door ∙ ap (λ (d : ProcessState). stepped d true value) starts))
     (subst (Halts locks value) (sym c.one-setup.ensures) (halts locks value))
 
 pub next-requires : goal.next-requires
 next-requires c =
     let starts = c.start.ensures.door ∙ ap (λ (d : ProcessState). called d Ask 0) c.in_ok-door.ensures.door in
-    let value = value_of c.step-told.result.0.how in
-    omega (arith, c.in-Some.ensures.known.1, ap (λ (d : ProcessState). d.setup.processes) (c.step-told.ensures.door ∙ ap (λ (d : ProcessState). stepped d true value) starts), ap (λ (s : Setup). s.processes) c.one-setup.ensures)
+    let value = value_of c.step-reported.result.0.how in
+    omega (arith, c.in-Some.ensures.known.1, ap (λ (d : ProcessState). d.setup.processes) (c.step-reported.ensures.door ∙ ap (λ (d : ProcessState). stepped d true value) starts), ap (λ (s : Setup). s.processes) c.one-setup.ensures)

@@ -5,7 +5,7 @@ use Rattle.bakery.specs.Doors.{MayDrop, is_going, is_waiting}
 use Rattle.bakery.specs.Locks.{LockRows, lock_of}
 use Rattle.register_tests.specs.Doors.{door_goes, leaves, leaving_goes, lock_reads}
 use Rattle.register_tests.specs.Waits.{both_wait, first_waits, second_waits, two}
-use Rattle.register_tests.proofs.GivesUp.{second_can, CanGiveUp, cleared, cleared-locks, cleared_read, given_up, left-locks, read-locks, waited, waited-door, waited-locks}
+use Rattle.register_tests.proofs.GivesUp.{second_can, CanGiveUp, cleared, cleared-locks, cleared_read, given_up, remaining-locks, read-locks, waited, waited-door, waited-locks}
 use Rattle.register_tests.proofs.waits.second_withdraws.Goals as goal
 
 pub run_door-waits-requires-clause-goes : goal.run_door-waits-requires-clause-goes
@@ -29,12 +29,12 @@ clear_ticket-cleared-requires c =
     let can : CanGiveUp second_waits first_waits 1 c.args.steps = second_can c.args.steps c.requires.steps in
     let t = c.take_tickets-tickets in
     let w = c.run_door-waits in
-    let left = left-locks second_waits t.new.second w.new.door c.args.steps t.new.locks w.new.locks c.withdraw.new.locks t.ensures.second t.ensures.locks w.ensures.door w.ensures.locks c.withdraw.ensures.locks in
+    let remaining = remaining-locks second_waits t.new.second w.new.door c.args.steps t.new.locks w.new.locks c.withdraw.new.locks t.ensures.second t.ensures.locks w.ensures.door w.ensures.locks c.withdraw.ensures.locks in
     record {
       setup = ap checked c.requires.setup;
       process = omega (arith, ap (λ (s : Setup). s.processes) c.requires.setup);
-      there = omega (arith, can.there, ap length left);
-      goes = (λ i. leaving_goes 100 (leaves (c.requires.setup i) 1, lock_of (left i) 1)) ∙ can.clears;
+      there = omega (arith, can.there, ap length remaining);
+      goes = (λ i. leaving_goes 100 (leaves (c.requires.setup i) 1, lock_of (remaining i) 1)) ∙ can.clears;
     }
 
 pub read_lock-lock-requires : goal.read_lock-lock-requires
@@ -42,16 +42,16 @@ read_lock-lock-requires c =
     let can : CanGiveUp second_waits first_waits 1 c.args.steps = second_can c.args.steps c.requires.steps in
     let t = c.take_tickets-tickets in
     let w = c.run_door-waits in
-    let left = left-locks second_waits t.new.second w.new.door c.args.steps t.new.locks w.new.locks c.withdraw.new.locks t.ensures.second t.ensures.locks w.ensures.door w.ensures.locks c.withdraw.ensures.locks in
-    ap (λ (x : List LockRows). lock_reads x 1 1 true) (cleared-locks second_waits 1 c.args.steps c.args.setup.now c.withdraw.new.locks c.clear_ticket-cleared.new.locks c.requires.setup left c.clear_ticket-cleared.ensures) ∙ can.reads
+    let remaining = remaining-locks second_waits t.new.second w.new.door c.args.steps t.new.locks w.new.locks c.withdraw.new.locks t.ensures.second t.ensures.locks w.ensures.door w.ensures.locks c.withdraw.ensures.locks in
+    ap (λ (x : List LockRows). lock_reads x 1 1 true) (cleared-locks second_waits 1 c.args.steps c.args.setup.now c.withdraw.new.locks c.clear_ticket-cleared.new.locks c.requires.setup remaining c.clear_ticket-cleared.ensures) ∙ can.reads
 
 pub run_door-enters-requires : goal.run_door-enters-requires
 run_door-enters-requires c =
     let can : CanGiveUp second_waits first_waits 1 c.args.steps = second_can c.args.steps c.requires.steps in
     let t = c.take_tickets-tickets in
     let w = c.run_door-waits in
-    let left = left-locks second_waits t.new.second w.new.door c.args.steps t.new.locks w.new.locks c.withdraw.new.locks t.ensures.second t.ensures.locks w.ensures.door w.ensures.locks c.withdraw.ensures.locks in
-    let read = read-locks second_waits 1 c.args.steps c.args.setup.now c.withdraw.new.locks c.clear_ticket-cleared.new.locks c.read_lock-lock.new.locks c.requires.setup left c.clear_ticket-cleared.ensures c.read_lock-lock.ensures in
+    let remaining = remaining-locks second_waits t.new.second w.new.door c.args.steps t.new.locks w.new.locks c.withdraw.new.locks t.ensures.second t.ensures.locks w.ensures.door w.ensures.locks c.withdraw.ensures.locks in
+    let read = read-locks second_waits 1 c.args.steps c.args.setup.now c.withdraw.new.locks c.clear_ticket-cleared.new.locks c.read_lock-lock.new.locks c.requires.setup remaining c.clear_ticket-cleared.ensures c.read_lock-lock.ensures in
     record {
       going = ap is_going t.ensures.first;
       goes = (λ i. door_goes 100 true (t.ensures.first i, read i)) ∙ can.enters;

@@ -1,5 +1,5 @@
 use Rattle.std.proofs.Common.{◌≡◌, ◌∙◌, ap, length, refl}
-use Rattle.calls.proofs.scenario_proofs.CutTexts.{scenario_tells_at_limit}
+use Rattle.calls.proofs.scenario_proofs.CutTexts.{scenario_reports_at_limit}
 use Rattle.calls.proofs.scenario_proofs.files.EngineEnds.{kept, ran_to_end, ran_to_line}
 use Rattle.calls.specs.scenario.{line_numbers, scenario_of, script}
 use Rattle.run_state.specs.{state_text, stated, stated_in}
@@ -10,7 +10,7 @@ pub returns-in_err-scenario-clause-ran : goal.returns-in_err-scenario-clause-ran
 returns-in_err-scenario-clause-ran g c =
     let bytes = c.in_ok-file.file.items in
     ran_whole (stated_in c.args.events) c.from_residual-in_err-scenario.result bytes _ _ c.in_ok-file.ensures.ok
-    (ran_to_line scenario_of (stated_in c.args.events bytes) scenario_tells_at_limit c.from_residual-in_err-scenario.result c.in_err-scenario.field-0.0 bytes _ _
+    (ran_to_line scenario_of (stated_in c.args.events bytes) scenario_reports_at_limit c.from_residual-in_err-scenario.result c.in_err-scenario.field-0.0 bytes _ _
     c.from_residual-in_err-scenario.ensures.1 c.in_ok-file.ensures.ok (rw c.as_slice.ensures.value at c.in_err-scenario.ensures.said) (kept _))
 
 pub returns-in_err-text-clause-ran : goal.returns-in_err-text-clause-ran
@@ -23,5 +23,5 @@ returns-clause-ran g c =
     let numbers : c.in_ok-scenario.scenario.numbers.items ≡ line_numbers bytes (length said.lines) = rw c.as_slice.ensures.value at c.in_ok-scenario.ensures.numbers in
     let text : c.as_slice-2.result.now ≡ stated_in c.args.events bytes said = c.as_slice-2.ensures.value ∙ c.in_ok-text.ensures ∙ ap (λ ns. stated c.args.events ns said) numbers in
     ran_whole (stated_in c.args.events) c.write_all.result bytes _ _ c.in_ok-file.ensures.ok
-    (ran_to_end scenario_of (stated_in c.args.events bytes) scenario_tells_at_limit c.write_all.result bytes said _ _
+    (ran_to_end scenario_of (stated_in c.args.events bytes) scenario_reports_at_limit c.write_all.result bytes said _ _
     c.in_ok-file.ensures.ok (rw c.as_slice.ensures.value at c.in_ok-scenario.ensures.said) (rw text at c.write_all.ensures.ok) (rw text at c.write_all.ensures.front) c.write_all.ensures.fault c.write_all.ensures.failures)

@@ -7,6 +7,6 @@ use Rattle.scenario.proofs.printing.print_lines.Given as goal
 -- the text so far and the lines to come are the whole text
 abbrev pub invariant-loop-line : goal.invariant-loop-line
 invariant-loop-line l = record {
-  told : string_bytes l.text ++ flat_map printed_line (map line_words (drop l.line-index l.lines)) ≡ string_bytes l.fn.text ++ flat_map printed_line (map line_words l.lines);
+  reported : string_bytes l.text ++ flat_map printed_line (map line_words (drop l.line-index l.lines)) ≡ string_bytes l.fn.text ++ flat_map printed_line (map line_words l.lines);
   sound : list_all is_line (take l.line-index l.lines) ≡ true;
 }

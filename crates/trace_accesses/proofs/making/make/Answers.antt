@@ -14,8 +14,8 @@ returns-clause-rows c = λ past made is.
     let counting = c.counts.ensures ∙ ap (λ (k : CellState). counts_from c.args.limit.from c.args.number a.how k.writing) (c.cell-before.ensures past made) in
     c.take-2.ensures ∙ (λ j. rows_taken (counting j) a.cell c.args.rows.now)
 
-pub returns-clause-watched : goal.returns-clause-watched
-returns-clause-watched c = λ marks past made is has.
+pub returns-clause-monitored : goal.returns-clause-monitored
+returns-clause-monitored c = λ marks past made is has.
     let a = c.args.access.now in
     let e : TraceEntry = trace_entry c.args.process (Some a) marks in
     let before = c.cell-before.ensures past made in

@@ -5,6 +5,6 @@ use Rattle.trace_draw.proofs.engines.end_page.Goals as goal
 pub returns-clause-ok : goal.returns-clause-ok
 returns-clause-ok g c =
     ok_then c.write_markup.result
-    (λ written options s shown told first ends. page_whole options s shown told c.args.drawn.now first (g.W.Sink.taken c.args.output.now) (g.W.Sink.taken c.write_markup.new.output) c.in_ok-end.end ends
+    (λ written options s shown reported first ends. page_whole options s shown reported c.args.drawn.now first (g.W.Sink.taken c.args.output.now) (g.W.Sink.taken c.write_markup.new.output) c.in_ok-end.end ends
     c.in_ok-end.ensures.draws c.in_ok-end.ensures.lines c.in_ok-end.ensures.elements written)
     c.write_markup.ensures.written

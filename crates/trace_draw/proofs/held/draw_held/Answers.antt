@@ -5,7 +5,7 @@ use Rattle.trace.specs.{TraceEntry, TracePast}
 use Rattle.trace_draw.specs.{IsDrawn, limit_of}
 use Rattle.trace_draw.proofs.Drawn.{drawn_entry}
 use Rattle.trace_draw.proofs.Holding.{one_more}
-use Rattle.trace_draw.proofs.Watching.{drawn_as_many}
+use Rattle.trace_draw.proofs.Monitoring.{drawn_as_many}
 use Rattle.trace_draw.proofs.held.draw_held.Goals as goal
 
 pub loop-entry-init : goal.loop-entry-init

@@ -1,17 +1,17 @@
 use Rattle.std.proofs.Common.{◌≡◌, [], subst}
 use Rattle.world.specs.{with_history}
-use Rattle.auditor.specs.{AuditorState, HearsSteps}
-use Rattle.auditor.proofs.Stretches.{heard-steps, walks-setup}
+use Rattle.auditor.specs.{AuditorState, ObservesSteps}
+use Rattle.auditor.proofs.Stretches.{observed-steps, walks-setup}
 use Rattle.auditor.proofs.auditor.Auditor.advance.Goals as goal
 
-pub returns-clause-heard : goal.returns-clause-heard
-returns-clause-heard c =
+pub returns-clause-observed : goal.returns-clause-observed
+returns-clause-observed c =
     let old : AuditorState = record { core = c.self.inside.core; taken = c.self.inside.taken } in
     let new : AuditorState = record { core = c.run-made.new.self; taken = c.self.inside.taken } in
     let run = c.run-made in
-    subst (λ (a : AuditorState). HearsSteps a c.args.flicks.now c.args.process c.args.steps new) c.self.view_is
-    (subst (λ f. HearsSteps old f c.args.process c.args.steps new) c.twin.ensures
-    (λ events h. heard-steps old run.new.self c.twin.result run.new.flicks c.args.process c.args.steps run.result.newest run.result.overlapped run.ensures.runs events h))
+    subst (λ (a : AuditorState). ObservesSteps a c.args.flicks.now c.args.process c.args.steps new) c.self.view_is
+    (subst (λ f. ObservesSteps old f c.args.process c.args.steps new) c.twin.ensures
+    (λ events h. observed-steps old run.new.self c.twin.result run.new.flicks c.args.process c.args.steps run.result.newest run.result.overlapped run.ensures.runs events h))
 
 pub returns-clause-setup : goal.returns-clause-setup
 returns-clause-setup c =

@@ -1,6 +1,6 @@
 use Rattle.std.proofs.Common.{◌≡◌, ◌+◌, ℕ, suc, List, ◌∷◌, Some, sym, ap, ◌∙◌, subst, arith}
 use Rattle.std.specs.Prelude.{slice_get}
-use Rattle.board.specs.{AreQuiet, IsOf, IsStill, Leaves, PortState, StandsInRecord, done_calls}
+use Rattle.board.specs.{AreQuiet, IsOf, IsStill, Leaves, PortState, AreInRecord, done_calls}
 use Rattle.plain_store.specs.{Setup}
 use Rattle.board.specs.Calls.{Calls}
 use Rattle.board.proofs.PortLists.{first_and_rest, item_at, rest_of}
@@ -43,7 +43,7 @@ shut-requires-clause-calls c =
     let some = c.requires.some in
     let each = c.requires.ports.each 0 c.remove.result (item_at c.args.ports.items 0 c.remove.result some c.remove.ensures.value) in
     let calls = c.into_parts-first.result.1.items in
-    subst (λ (p : ℕ). StandsInRecord c.args.self.setup p calls) each.1 (subst (λ (s : Setup). StandsInRecord s c.remove.result.view.own.process calls) each.0.1 c.into_parts-first.ensures.stands)
+    subst (λ (p : ℕ). AreInRecord c.args.self.setup p calls) each.1 (subst (λ (s : Setup). AreInRecord s c.remove.result.view.own.process calls) each.0.1 c.into_parts-first.ensures.stands)
 
 pub returns-clause-leaves : goal.returns-clause-leaves
 returns-clause-leaves c =

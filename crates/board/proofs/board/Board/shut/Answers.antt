@@ -1,7 +1,7 @@
 use Rattle.std.proofs.Common.{◌≡◌, ◌+◌, ◌++◌, List, [], ◌∷◌, length, vec_len, sym, ap, ◌∙◌, subst, arith}
 use Rattle.std.specs.Global.{Vec}
 use Rattle.plain_store.specs.{Setup}
-use Rattle.board.specs.{Agree, BoardState, EachStandsInRecord, IsStill, Leaves, OwnView}
+use Rattle.board.specs.{Agree, BoardState, EachIsInRecord, IsStill, Leaves, OwnView}
 use Rattle.model.specs.{Placed, lists_of}
 use Rattle.board.proofs.Closings.{closes}
 use Rattle.board.proofs.board.Board.shut.Goals as goal
@@ -33,4 +33,4 @@ returns-clause-leaves c =
     (subst (λ (o : OwnView). Leaves s o.calls first.seen c.image_shown-image.result) j.own (subst (λ seen. Leaves s v.own.calls seen c.image_shown-image.result) j.seen left))
 
 pub returns-clause-stand : goal.returns-clause-stand
-returns-clause-stand c = subst (λ (s : Setup). EachStandsInRecord s (lists_of c.join_all.new.answers.items)) (c.self.invariant.keyed ∙ ap (λ (b : BoardState). b.setup) c.self.view_is) c.join_all.ensures.stand
+returns-clause-stand c = subst (λ (s : Setup). EachIsInRecord s (lists_of c.join_all.new.answers.items)) (c.self.invariant.keyed ∙ ap (λ (b : BoardState). b.setup) c.self.view_is) c.join_all.ensures.stand

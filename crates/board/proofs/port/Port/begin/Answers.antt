@@ -5,7 +5,7 @@ use Rattle.model.specs.declared.Event.TheVariants.{Call}
 use Rattle.model.specs.declared.Mark.TheVariants.{Called}
 use Rattle.process.specs.{ProcessState}
 use Rattle.board.specs.Calls.{Calls, calls_after}
-use Rattle.board.specs.{KnowsPlace, PortState, StandsInSeen, ViewState, answer_to, at_events, with_pending}
+use Rattle.board.specs.{KnowsPlace, PortState, AreInSeen, ViewState, answer_to, at_events, with_pending}
 use Rattle.board.specs.declared.pending.Pending.{Pending}
 use Rattle.board.proofs.Listings.{place_called}
 use Rattle.board.proofs.Pendings.{accepted, happens, joins_call, refused}
@@ -56,7 +56,7 @@ invariant_of-self-2 c =
       tied = joins.0;
       calls = begun ∙ ap (λ (k : Calls). calls_after 0 k (Called command)) c.self.invariant.calls ∙ ap (λ (w : ViewState). w.own.calls) (sym then);
       place = subst (KnowsPlace f.stamp) (sym then) (place_called s b b.own.process command f.stamp);
-      stands = subst (λ (q : Setup). StandsInSeen q (with_pending c.call.new.self.setup pending v)) (sym (ap (λ (q : ProcessState). q.setup) c.call.ensures)) (subst (StandsInSeen s) (sym then) (stands_called s b b.own.process command c.self.invariant.stands));
+      stands = subst (λ (q : Setup). AreInSeen q (with_pending c.call.new.self.setup pending v)) (sym (ap (λ (q : ProcessState). q.setup) c.call.ensures)) (subst (AreInSeen s) (sym then) (stands_called s b b.own.process command c.self.invariant.stands));
       none = c.self.invariant.none;
     }
 

@@ -33,14 +33,14 @@ pub returns-in-Answers : goal.returns-in-Answers
 returns-in-Answers c = let now = c.loop-made.self in let new = c.turn.new.self in let i = c.loop-made.invariant.driven in record {
   same = same_on c.args.self.now now new i.same c.turn.ensures.same;
   drives = drives_to_answer c.args.self.now now new c.args.flicks.now c.loop-made.flicks c.flick-flick.new.self c.loop-made.made c.args.turns c.flick-flick.result c.in-Answers.answer i c.loop-made-test.true c.flick-flick.ensures.flick c.flick-flick.ensures.after
-      c.turn.ensures.step (subst (λ told. LeadsTo now.setup told now.view.own new.view.own) c.in-Answers.is c.turn.ensures.leads);
+      c.turn.ensures.step (subst (λ reported. LeadsTo now.setup reported now.view.own new.view.own) c.in-Answers.is c.turn.ensures.leads);
 }
 
 pub returns-in-Lies : goal.returns-in-Lies
 returns-in-Lies c = let now = c.loop-made.self in let new = c.turn.new.self in let i = c.loop-made.invariant.driven in record {
   same = same_on c.args.self.now now new i.same c.turn.ensures.same;
   drives = drives_down c.args.self.now now new c.args.flicks.now c.loop-made.flicks c.flick-flick.new.self c.loop-made.made c.args.turns c.flick-flick.result i c.loop-made-test.true c.flick-flick.ensures.flick c.flick-flick.ensures.after
-      c.turn.ensures.step (subst (λ told. LeadsTo now.setup told now.view.own new.view.own) c.in-Lies.is c.turn.ensures.leads);
+      c.turn.ensures.step (subst (λ reported. LeadsTo now.setup reported now.view.own new.view.own) c.in-Lies.is c.turn.ensures.leads);
 }
 
 pub loop-made-preserved : goal.loop-made-preserved

@@ -2,7 +2,7 @@ use Rattle.std.proofs.Common.{◌≡◌, true, [], ◌∷◌, refl, ap, subst, s
 use Rattle.plain_store.specs.{Setup}
 use Rattle.model.specs.declared.Event.TheVariants.{Fail}
 use Rattle.process.specs.{ProcessState, changes_pending}
-use Rattle.board.specs.{KnowsPlace, StandsInSeen, ViewState, at_events, with_pending}
+use Rattle.board.specs.{KnowsPlace, AreInSeen, ViewState, at_events, with_pending}
 use Rattle.board.proofs.Listings.{place_failed}
 use Rattle.board.proofs.Pendings.{accepted, happens, joins_failure, refused}
 use Rattle.board.specs.declared.pending.Pending.{Pending}
@@ -24,7 +24,7 @@ invariant_of-self c =
       tied = joins.0;
       calls = c.self.invariant.calls ∙ ap (λ (w : ViewState). w.own.calls) (sym then);
       place = subst (KnowsPlace c.changes_pending-self-inside.result) (sym then) (place_failed s b b.own.process f.stamp c.changes_pending-self-inside.result c.self.invariant.place stamp);
-      stands = subst (λ (q : Setup). StandsInSeen q (with_pending c.cut.new.self.setup pending v)) (sym (ap (λ (q : ProcessState). q.setup) cut)) (subst (StandsInSeen s) (sym then) c.self.invariant.stands);
+      stands = subst (λ (q : Setup). AreInSeen q (with_pending c.cut.new.self.setup pending v)) (sym (ap (λ (q : ProcessState). q.setup) cut)) (subst (AreInSeen s) (sym then) c.self.invariant.stands);
       none = c.self.invariant.none;
     }
 

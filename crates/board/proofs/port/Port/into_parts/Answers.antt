@@ -1,6 +1,6 @@
 use Rattle.std.proofs.Common.{sym, ap, ◌∙◌, subst}
 use Rattle.board.specs.Calls.{Calls}
-use Rattle.board.specs.{IsStill, PortState, StandsInRecord, ViewState, events_of, with_pending}
+use Rattle.board.specs.{IsStill, PortState, AreInRecord, ViewState, events_of, with_pending}
 use Rattle.board.proofs.SeenStands.{in_record}
 use Rattle.board.proofs.Happenings.{same_process_all}
 use Rattle.board.proofs.StillSeats.{still_seat}
@@ -25,5 +25,5 @@ returns-clause-stands c =
     let f = c.self.inside in
     let s = f.process.setup in
     let b : ViewState = with_pending s f.pending f.seat.me.0 in
-    subst (λ (p : PortState). StandsInRecord p.setup p.view.own.process c.into_done.result.items) c.self.view_is
-    (subst (StandsInRecord s b.own.process) (sym (c.into_done.ensures ∙ ap (λ (k : Calls). k.done) c.self.invariant.calls)) (in_record s b c.self.invariant.stands))
+    subst (λ (p : PortState). AreInRecord p.setup p.view.own.process c.into_done.result.items) c.self.view_is
+    (subst (AreInRecord s b.own.process) (sym (c.into_done.ensures ∙ ap (λ (k : Calls). k.done) c.self.invariant.calls)) (in_record s b c.self.invariant.stands))

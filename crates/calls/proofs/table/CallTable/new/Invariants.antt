@@ -5,4 +5,4 @@ use Rattle.calls.proofs.table.CallTable.new.Given as goal
 
 -- each process so far is at rest
 abbrev pub invariant-loop-process : goal.invariant-loop-process
-invariant-loop-process l = l.standings.items ≡ map at_rest (range_with_len 0 l.process)
+invariant-loop-process l = l.call_states.items ≡ map at_rest (range_with_len 0 l.process)

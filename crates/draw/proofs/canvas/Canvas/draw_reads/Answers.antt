@@ -2,7 +2,7 @@ use Rattle.std.proofs.Common.{◌∙◌, false, List, [], ◌∷◌, get_or, map
 use Rattle.std.proofs.lemmas.List.{take_all}
 use Rattle.model.specs.declared.access.Field.TheVariants.{Choosing}
 use Rattle.picture.specs.picture_layout.{OverlappedRead}
-use Rattle.draw.specs.{DrawsOn, GivesRead, Overhears, kept}
+use Rattle.draw.specs.{DrawsOn, GivesRead, ObservesAll, kept}
 use Rattle.draw.proofs.Drawn.{draws_on_both, draws_on_none}
 use Rattle.draw.proofs.Giving.{map_next}
 use Rattle.draw.proofs.Written.{failed_same}
@@ -33,5 +33,5 @@ pub returns-clause-ok : goal.returns-clause-ok
 returns-clause-ok g c = λ mode s past reads waits. (
   subst (λ l. DrawsOn (kept c.args.self.now) (kept c.loop-read.self) (g.W.Sink.taken c.args.output.now) (g.W.Sink.taken c.loop-read.output) (map GivesRead l))
       (take_all c.loop-read.read-index c.deref-read-items.result.now (omega arith) ∙ c.deref-read-items.ensures.value ∙ c.take_ended-ended.ensures.reads mode s past reads waits) c.loop-read.invariant.drawn,
-  subst (Overhears mode s past []) (sym c.loop-read.invariant.overlaps) (c.take_ended-ended.ensures.none mode s past reads waits),
+  subst (ObservesAll mode s past []) (sym c.loop-read.invariant.overlaps) (c.take_ended-ended.ensures.none mode s past reads waits),
 )

@@ -8,7 +8,7 @@ use Rattle.draw.proofs.canvas.Canvas.end.Goals as goal
 pub returns-clause-ok : goal.returns-clause-ok
 returns-clause-ok g c =
     let line = c.args.line in
-    let last = says_of line.saying in
+    let last = says_of line.line_content in
     let mid = c.draw_up_to_verdict.new.self in
     let a = g.W.Sink.taken c.args.output.now in
     let b = g.W.Sink.taken c.draw_up_to_verdict.new.output in
@@ -16,5 +16,5 @@ returns-clause-ok g c =
     let bands = c.in_ok-full.ensures in
     let verdict = c.in_ok-verdict.verdict in
     let rest = draws_rest line.at verdict (kept mid) (seen_windowed c.end.new.self) c.in_ok-full.full c.in_ok-full.last b z bands.lines bands.page (c.in_ok-write_last.ensures.ok bands.full bands.last) in
-    subst (DrawsLast c.args.self.now a z line.source line.at c.args.told.now last) (sym c.height.ensures)
-    (last_drawn c.args.self.now mid a b z line.source line.at c.args.told.now last verdict c.end.new.self.page.height c.in_ok-verdict.ensures.drawn rest)
+    subst (DrawsLast c.args.self.now a z line.source line.at c.args.reported.now last) (sym c.height.ensures)
+    (last_drawn c.args.self.now mid a b z line.source line.at c.args.reported.now last verdict c.end.new.self.page.height c.in_ok-verdict.ensures.drawn rest)

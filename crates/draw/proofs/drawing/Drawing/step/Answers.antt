@@ -8,7 +8,7 @@ use Rattle.draw.proofs.StoresBefore.{before_on}
 use Rattle.draw.proofs.drawing.Drawing.step.Goals as goal
 
 pub returns-clause-drawn : goal.returns-clause-drawn
-returns-clause-drawn g c = λ view s parts tells recalls.
+returns-clause-drawn g c = λ view s parts reports recalls.
     let d = c.args.self.now in
     let p = c.args.process in
     let access : Option Access = Some c.args.access in
@@ -16,9 +16,9 @@ returns-clause-drawn g c = λ view s parts tells recalls.
     let shown = c.in_ok-draw_access.ensures in
     let past = entries_among parts in
     let b = g.W.Sink.taken c.draw_access.new.output in
-    entry_drawn view s parts (entry_by p access []) d mid (record mid { entries = mid.entries + 1 }) c.hear.new.self (g.W.Sink.taken c.args.output.now) b b
-    p access [] refl refl refl c.hear.ensures.kept recalls
-    (c.in_ok-hear.ensures.hears view.reads s past (reads_since s parts) (entry_by p access []) refl recalls.waits recalls.entries tells)
+    entry_drawn view s parts (entry_by p access []) d mid (record mid { entries = mid.entries + 1 }) c.observe.new.self (g.W.Sink.taken c.args.output.now) b b
+    p access [] refl refl refl c.observe.ensures.kept recalls
+    (c.in_ok-observe.ensures.observes view.reads s past (reads_since s parts) (entry_by p access []) refl recalls.waits recalls.entries reports)
     (shown.drawn view s past [] recalls.entries refl recalls.accesses)
     shown.overlaps shown.store shown.source
     (draws_no_marks mid.canvas mid.store b mid.source d.entries p) refl (ap (λ (n : ℕ). n + 1) shown.entries)

@@ -9,7 +9,7 @@ use Rattle.model.specs.{Past}
 use Rattle.judge.specs.record_file.{Progress, line_read}
 use Rattle.draw.specs.{failed_write}
 use Rattle.draw.specs.{DrawnEntry, DrawsAllBands, EndsAsked, IsDrawFault, Stands}
-use Rattle.judge.proofs.Ends.{if_err, none_told}
+use Rattle.judge.proofs.Ends.{if_err, none_reported}
 use Rattle.draw.proofs.RecordEnds.{drawing_read, next_wrote, no_value, onwards_drawn, onwards_fault, onwards_few, onwards_none, onwards_on, onwards_start, onwards_stop, reading_same, read_some}
 use Rattle.draw.proofs.Written.{failed_same}
 use Rattle.draw.proofs.records.engines.draw_lines.Goals as goal
@@ -32,7 +32,7 @@ pub lines-init : goal.lines-init
 lines-init g c =
     record {
       onwards = onwards_start (g.R.Source.to_come c.args.input.now) c.args.lines.now.ahead c.args.lines.now.taken c.args.sheet.now (g.W.Sink.taken c.args.output.now) c.requires.ahead c.requires.ended c.requires.taken (c.requires.stands (g.W.Sink.taken c.args.output.now));
-      holds = none_told c.args.lines.now.ahead (g.R.Source.to_come c.args.input.now) c.requires.ended;
+      holds = none_reported c.args.lines.now.ahead (g.R.Source.to_come c.args.input.now) c.requires.ended;
       form = refl;
       options = refl;
       whole = refl;

@@ -9,6 +9,6 @@ returns-clause-ok g c =
     let a = g.W.Sink.taken c.args.output.now in
     let b = g.W.Sink.taken c.write_page_end.new.output in
     ok_then c.write_page_end.result
-    (λ ends options said told first bands. page_drawn options said told c.args.drawn.now first a b bands
+    (λ ends options said reported first bands. page_drawn options said reported c.args.drawn.now first a b bands
     (subst (λ (words : List ℕ). EndsPage words a b) c.as_slice.ensures.value ends))
     c.write_page_end.ensures.ends

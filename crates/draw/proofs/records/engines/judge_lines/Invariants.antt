@@ -6,7 +6,7 @@ use Rattle.draw.proofs.records.engines.judge_lines.Given as goal
 -- each entry so far was heard, and drawn as far as it is shown; a source that has told its end is at it, and no call has failed
 abbrev pub invariant-lines : goal.invariant-lines
 invariant-lines g l = record {
-  judged : Judged g.H.Hearer.HasHeard g.H.Judging.Keeps g.H.Judging.finds_good (g.R.Source.to_come l.fn.input) (coming l.lines.ahead (g.R.Source.to_come l.input)) l.lines.taken l.trial.reader l.trial.hearer l.shows l.sheet (g.W.Sink.taken l.fn.output) (g.W.Sink.taken l.output);
+  judged : Judged g.H.EntryObserver.HasObserved g.H.Judging.Keeps g.H.Judging.finds_good (g.R.Source.to_come l.fn.input) (coming l.lines.ahead (g.R.Source.to_come l.input)) l.lines.taken l.trial.reader l.trial.observer l.shows l.sheet (g.W.Sink.taken l.fn.output) (g.W.Sink.taken l.output);
   holds : EndHolds l.lines.ahead (g.R.Source.to_come l.input);
   form : l.sheet.form ≡ l.fn.sheet.form;
   options : l.sheet.options ≡ l.fn.sheet.options;

@@ -31,7 +31,7 @@ returns g c =
     let r = c.end_judged.result in
     let read = c.in_ok-judge_lines.ensures in
     let ends = c.end_judged.ensures in
-    let drawn = λ (m : PictureOptions) (f : Form) (answer : DrawnEntry × ℕ). IfSome all (IsOfRecord (IsJudged g.H.Judging.Keeps g.H.Hearer.Tells answer.1 (DrawsBandsOf m f answer.0 first (g.W.Sink.taken c.end_judged.new.output)))) in
+    let drawn = λ (m : PictureOptions) (f : Form) (answer : DrawnEntry × ℕ). IfSome all (IsOfRecord (IsJudged g.H.Judging.Keeps g.H.EntryObserver.Reports answer.1 (DrawsBandsOf m f answer.0 first (g.W.Sink.taken c.end_judged.new.output)))) in
     record {
       drawn = if_ok_then r (λ (answer : DrawnEntry × ℕ) is. subst (λ (m : PictureOptions). drawn m c.args.sheet.now.form answer) read.options (subst (λ (f : Form). drawn c.judge_lines.new.sheet.options f answer) read.form (is all first read.read))) ends.drawn;
       good = ends.good;

@@ -29,7 +29,7 @@ loop-line-init g c =
     let run : RunDrawing = c.args.run.now in
     let s : Setup = c.args.scenario.now.setup in
     record {
-      drawn = λ (plan : WindowPlan) (view : AccessView) first recalls. drawn_start plan view s c.args.scenario.now.lines.items c.args.course.now run (g.W.Sink.taken c.args.output.now)
+      drawn = λ (plan : WindowPlan) (view : AccessView) first recalls. drawn_start plan view s c.args.scenario.now.lines.items c.args.scenario_run.now run (g.W.Sink.taken c.args.output.now)
           c.requires.setup c.requires.follows c.requires.tally first (number_of_first s run.drawing.source c.requires.source) recalls;
       source = omega (arith, c.requires.source);
       whole = refl;
@@ -49,8 +49,8 @@ loop-line-preserved g c =
     let b = g.W.Sink.taken c.loop-line.output in
     record {
       drawn = λ (plan : WindowPlan) (view : AccessView) first recalls.
-          drawn_on plan view s lines (drop (k + 1) lines) here c.loop-line.course c.draw_line.new.course mid c.draw_line.new.run a b (g.W.Sink.taken c.draw_line.new.output)
-          (subst (λ (rest : List Line). Drawn plan view s lines rest c.loop-line.course mid a b) next (c.loop-line.invariant.drawn plan view first recalls))
+          drawn_on plan view s lines (drop (k + 1) lines) here c.loop-line.scenario_run c.draw_line.new.scenario_run mid c.draw_line.new.run a b (g.W.Sink.taken c.draw_line.new.output)
+          (subst (λ (rest : List Line). Drawn plan view s lines rest c.loop-line.scenario_run mid a b) next (c.loop-line.invariant.drawn plan view first recalls))
           c.in_ok-draw_line.ensures.ok c.in_ok-draw_line.ensures.source;
       source = omega (arith, c.in_ok-draw_line.ensures.source, c.loop-line.invariant.source);
       whole = omega (arith, c.in_ok-draw_line.ensures.failures, c.loop-line.invariant.whole);
@@ -75,8 +75,8 @@ returns-clause-ok g c =
     let b = g.W.Sink.taken c.loop-line.output in
     if_ok_both c.end.result
     (λ answer ends is plan view first recalls.
-    let d : Drawn plan view s lines [] c.loop-line.course mid a b = whole_drawn c.loop-line.line-index lines (λ rest. Drawn plan view s lines rest c.loop-line.course mid a b) (omega arith) (c.loop-line.invariant.drawn plan view first recalls) in
-    drawn_end plan view s lines c.loop-line.course mid answer.summary a b (g.W.Sink.taken c.end.new.output) answer.height d (is ∙ onward_numbers s lines c.loop-line.course (tally mid) c.taken.result None None d.onward c.taken.ensures) ends)
+    let d : Drawn plan view s lines [] c.loop-line.scenario_run mid a b = whole_drawn c.loop-line.line-index lines (λ rest. Drawn plan view s lines rest c.loop-line.scenario_run mid a b) (omega arith) (c.loop-line.invariant.drawn plan view first recalls) in
+    drawn_end plan view s lines c.loop-line.scenario_run mid answer.summary a b (g.W.Sink.taken c.end.new.output) answer.height d (is ∙ onward_numbers s lines c.loop-line.scenario_run (tally mid) c.taken.result None None d.onward c.taken.ensures) ends)
     c.end.ensures.drawn c.end.ensures.summary
 
 pub returns-clause-summary : goal.returns-clause-summary
@@ -88,8 +88,8 @@ returns-clause-summary g c =
     let b = g.W.Sink.taken c.loop-line.output in
     if_ok_then c.end.result
     (λ answer is plan view first recalls.
-    let d : Drawn plan view s lines [] c.loop-line.course mid a b = whole_drawn c.loop-line.line-index lines (λ rest. Drawn plan view s lines rest c.loop-line.course mid a b) (omega arith) (c.loop-line.invariant.drawn plan view first recalls) in
-    is ∙ onward_numbers s lines c.loop-line.course (tally mid) c.taken.result None None d.onward c.taken.ensures)
+    let d : Drawn plan view s lines [] c.loop-line.scenario_run mid a b = whole_drawn c.loop-line.line-index lines (λ rest. Drawn plan view s lines rest c.loop-line.scenario_run mid a b) (omega arith) (c.loop-line.invariant.drawn plan view first recalls) in
+    is ∙ onward_numbers s lines c.loop-line.scenario_run (tally mid) c.taken.result None None d.onward c.taken.ensures)
     c.end.ensures.summary
 
 pub returns-clause-opening : goal.returns-clause-opening
@@ -101,8 +101,8 @@ returns-clause-opening g c =
     let b = g.W.Sink.taken c.loop-line.output in
     if_ok_then c.end.result
     (λ answer opens plan view first recalls.
-    let d : Drawn plan view s lines [] c.loop-line.course mid a b = whole_drawn c.loop-line.line-index lines (λ rest. Drawn plan view s lines rest c.loop-line.course mid a b) (omega arith) (c.loop-line.invariant.drawn plan view first recalls) in
-    drawn_opening plan view s lines c.loop-line.course mid answer.opening.items a b d opens)
+    let d : Drawn plan view s lines [] c.loop-line.scenario_run mid a b = whole_drawn c.loop-line.line-index lines (λ rest. Drawn plan view s lines rest c.loop-line.scenario_run mid a b) (omega arith) (c.loop-line.invariant.drawn plan view first recalls) in
+    drawn_opening plan view s lines c.loop-line.scenario_run mid answer.opening.items a b d opens)
     c.end.ensures.opening
 
 pub returns-clause-failures : goal.returns-clause-failures

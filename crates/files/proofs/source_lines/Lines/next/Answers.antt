@@ -1,7 +1,7 @@
 use Rattle.std.proofs.Common.{◌+◌, ◌<◌, ℕ, ◌≡◌, Bool, true, false, List, length, Err, refl, subst, sym}
 use Rattle.files.specs.{Fault, failed_reading}
 use Rattle.files.proofs.CallEnds.{counts_fault, no_value}
-use Rattle.files.proofs.FirstLines.{stops, tells_long}
+use Rattle.files.proofs.FirstLines.{stops, reports_long}
 use Rattle.files.proofs.source_lines.Lines.next.Goals as goal
 
 -- a call fails, or memory runs out
@@ -26,7 +26,7 @@ returns-then-line-gt-MOST_BYTES g c =
     let to_come = g.R.Source.to_come in
     let long = subst (λ (l : List ℕ). 128 < length l) c.line.ensures c.if-line-gt-MOST_BYTES.true in
     record {
-      next = tells_long c.behind.result c.args.self.now c.take.new.self (to_come c.args.input.now) (to_come c.take.new.input) c.behind.ensures c.in_ok-take.ensures.taken (c.in_ok-take.ensures.long c.if-not-branch.false long);
+      next = reports_long c.behind.result c.args.self.now c.take.new.self (to_come c.args.input.now) (to_come c.take.new.input) c.behind.ensures c.in_ok-take.ensures.taken (c.in_ok-take.ensures.long c.if-not-branch.false long);
       ended = tt;
       holds = c.in_ok-take.ensures.holds;
       stays_ended = c.in_ok-take.ensures.stays_ended;

@@ -4,22 +4,22 @@ use Rattle.plain_store.specs.{Setup}
 use Rattle.files.specs.{words_of, words_read}
 use Rattle.model.specs.{Entry}
 use Rattle.record_file.specs.{Progress, cleared, entry_in, record_grammar}
-use Rattle.judge.specs.Trials.{Hears}
+use Rattle.judge.specs.Trials.{Observes}
 use Rattle.judge.proofs.Lines.{quiet_is_cleared}
-use Rattle.judge.proofs.Trials.{ends_heard, ends_quiet}
+use Rattle.judge.proofs.Trials.{ends_observed, ends_quiet}
 use Rattle.judge.proofs.trial.Trial.any_line.Goals as goal
 
-pub returns-in_ok-hear : goal.returns-in_ok-hear
-returns-in_ok-hear g c =
+pub returns-in_ok-observe : goal.returns-in_ok-observe
+returns-in_ok-observe g c =
     let old = c.args.self.now in
-    let heard = g.H.Hearer.HasHeard in
+    let observed = g.H.EntryObserver.HasObserved in
     let now : Progress = c.in-Some.reader in
     let e : Entry = c.in-Some-last_entry.entry.now in
-    let left : Some c.forget_entry.new.self ≡ cleared (Some now) = ap (λ (p : Progress). Some p) c.forget_entry.ensures in
+    let remaining : Some c.forget_entry.new.self ≡ cleared (Some now) = ap (λ (p : Progress). Some p) c.forget_entry.ensures in
     let says : now.entry ≡ Some e = c.in-Some-last_entry.ensures in
     let read : words_read record_grammar (words_of c.args.line.now) old.reader ≡ Ok (Some now) = c.in_ok-read_any_line.ensures ∙ ap (λ (o : Option Progress). Ok o) c.in-Some.is in
-    let hears = subst (λ (s : Setup). (entries : List Entry) (numbers : List ℕ) → Hears heard old.hearer s entries numbers → Hears heard c.hear.new.hearer s (entries ++ e ∷ []) (numbers ++ c.args.number ∷ [])) c.setup.ensures.value c.in_ok-hear.ensures.heard in
-    λ before entries numbers stands. ends_heard heard c.args.number c.args.line.now old.reader (Some c.forget_entry.new.self) now e old.hearer c.hear.new.hearer before entries numbers c.requires.short stands read says left c.in_ok-hear.ensures.some hears
+    let observes = subst (λ (s : Setup). (entries : List Entry) (numbers : List ℕ) → Observes observed old.observer s entries numbers → Observes observed c.observe.new.observer s (entries ++ e ∷ []) (numbers ++ c.args.number ∷ [])) c.setup.ensures.value c.in_ok-observe.ensures.observed in
+    λ before entries numbers view_of. ends_observed observed c.args.number c.args.line.now old.reader (Some c.forget_entry.new.self) now e old.observer c.observe.new.observer before entries numbers c.requires.short view_of read says remaining c.in_ok-observe.ensures.some observes
 
 pub returns-in_default-last_entry : goal.returns-in_default-last_entry
 returns-in_default-last_entry g c =
@@ -28,4 +28,4 @@ returns-in_default-last_entry g c =
     let says : now.entry ≡ None = c.in_default-last_entry.ensures in
     let none : entry_in (Some now) ≡ [] = ap option_to_list says in
     let read : words_read record_grammar (words_of c.args.line.now) old.reader ≡ Ok (Some now) = c.in_ok-read_any_line.ensures ∙ ap (λ (o : Option Progress). Ok o) c.in-Some.is in
-    λ before entries numbers stands. ends_quiet g.H.Hearer.HasHeard c.args.number c.args.line.now old.reader (Some now) (Some now) old.hearer before entries numbers c.requires.short stands read (quiet_is_cleared now says) none
+    λ before entries numbers view_of. ends_quiet g.H.EntryObserver.HasObserved c.args.number c.args.line.now old.reader (Some now) (Some now) old.observer before entries numbers c.requires.short view_of read (quiet_is_cleared now says) none

@@ -1,9 +1,9 @@
 use Rattle.std.proofs.Common.{ℕ, List, ◌++◌, ◌∙◌, ap, flat_map}
 use Rattle.markup.specs.{Shape, with_lines}
 use Rattle.picture.specs.{SeenBand, axis, begun, chain_shapes, column_shapes, first_inside, for_each, guide, lane_accesses, lane_shapes, lane_words, links, seen_band, shades, ties, waves_from}
-use Rattle.picture_layout.specs.{SeenAccesses, seen_accesses, told_in}
+use Rattle.picture_layout.specs.{SeenAccesses, seen_accesses, reported_in}
 use Rattle.picture.proofs.Drawn.{ends_drawn, then_drawn}
-use Rattle.picture.proofs.Tellings.{then_same}
+use Rattle.picture.proofs.Reportings.{then_same}
 use Rattle.picture.proofs.bands.Band.draw.Goals as goal
 
 pub returns-clause-draws : goal.returns-clause-draws
@@ -41,5 +41,5 @@ returns-clause-draws c =
 pub returns-clause-read : goal.returns-clause-read
 returns-clause-read c =
     then_same c.draw_columns.result _ _ _ c.draw_columns.ensures.read
-    (ap (with_lines (flat_map told_in c.args.self.now.columns.items))
+    (ap (with_lines (flat_map reported_in c.args.self.now.columns.items))
     (c.in_ok-draw_all_words.ensures.read ∙ c.in_ok-draw_waves.ensures.read ∙ c.in_ok-draw_begun.ensures.read ∙ c.in_ok-draw_ties.ensures.read ∙ c.in_ok-draw_all_accesses.ensures.read ∙ c.in_ok-draw_all_links.ensures.read ∙ c.in_ok-draw_chain.ensures.read ∙ c.in_ok-draw_lanes.ensures.read ∙ c.in_ok-draw_axis.ensures.read ∙ c.in_ok-draw_guides.ensures.read ∙ c.in_ok-draw_shades.ensures.read))

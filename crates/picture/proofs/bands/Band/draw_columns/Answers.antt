@@ -4,7 +4,7 @@ use Rattle.picture_layout.specs.{Column, Seen, seen}
 use Rattle.picture.specs.{column_shapes, seen_band}
 use Rattle.picture.proofs.Drawn.{drawn_on}
 use Rattle.picture.proofs.Steps.{each_next}
-use Rattle.picture.proofs.Tellings.{column_more, none_more}
+use Rattle.picture.proofs.Reportings.{column_more, none_more}
 use Rattle.picture.proofs.bands.Band.draw_columns.Goals as goal
 
 pub loop-column-init : goal.loop-column-init

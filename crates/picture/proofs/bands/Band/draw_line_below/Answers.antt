@@ -1,7 +1,7 @@
 use Rattle.std.proofs.Common.{◌∙◌}
 use Rattle.markup.specs.{reading}
 use Rattle.picture_layout.specs.{text_of}
-use Rattle.picture.proofs.Tellings.{then_ends}
+use Rattle.picture.proofs.Reportings.{then_ends}
 use Rattle.picture.proofs.bands.Band.draw_line_below.Goals as goal
 
 pub returns-clause-read : goal.returns-clause-read

@@ -4,7 +4,7 @@ use Rattle.picture_layout.specs.{RunLine, seen}
 use Rattle.picture.specs.{SeenBand, line_shapes, lines_shapes, seen_band}
 use Rattle.picture.proofs.Drawn.{drawn_on}
 use Rattle.picture.proofs.Steps.{lines_next}
-use Rattle.picture.proofs.Tellings.{line_more, none_more}
+use Rattle.picture.proofs.Reportings.{line_more, none_more}
 use Rattle.picture.proofs.bands.Band.draw_lines.Goals as goal
 
 pub loop-place-init : goal.loop-place-init

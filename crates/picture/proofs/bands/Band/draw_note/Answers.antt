@@ -4,7 +4,7 @@ use Rattle.picture_layout.specs.{RunLine, seen}
 use Rattle.picture.specs.{note_shapes, seen_band}
 use Rattle.picture.proofs.Drawn.{drawn_on}
 use Rattle.picture.proofs.Steps.{notes_next}
-use Rattle.picture.proofs.Tellings.{line_more, none_more}
+use Rattle.picture.proofs.Reportings.{line_more, none_more}
 use Rattle.picture.proofs.bands.Band.draw_note.Goals as goal
 
 pub loop-line-init : goal.loop-line-init

@@ -4,7 +4,7 @@ use Rattle.picture_layout.specs.{SeenAccesses, seen_accesses}
 use Rattle.picture.specs.{SeenBand, SeenVerdict, bad_column, bad_place, box_at, lines_from, outline_of, seen_band, seen_verdict, verdict_by, verdict_titles}
 use Rattle.picture.proofs.Drawn.{ends_drawn, then_drawn}
 use Rattle.picture.proofs.Sheetings.{adds_other}
-use Rattle.picture.proofs.Tellings.{then_same}
+use Rattle.picture.proofs.Reportings.{then_same}
 use Rattle.picture.proofs.bands.Band.draw_verdict.Goals as goal
 
 pub returns-clause-draws : goal.returns-clause-draws

@@ -1,6 +1,6 @@
 use Rattle.std.proofs.Common.{◌≡◌, ℕ, ◌+◌, ◌&&◌, ◌||◌, not, List, ◌++◌, arith, drop, map, ap, sym, ◌∙◌}
 use Rattle.markup.specs.{drawings}
-use Rattle.picture_layout.specs.{Column, bar_of, lane_in, seen, stands_in}
+use Rattle.picture_layout.specs.{Column, bar_of, lane_in, seen, lies_in}
 use Rattle.picture.specs.{Stretch, free_left, is_word, says_word, stretch_at, stretch_word, words_from}
 use Rattle.picture.proofs.Drawn.{drawn_on}
 use Rattle.picture.proofs.Steps.{words_end, words_stay}
@@ -22,7 +22,7 @@ loop-column-preserved c =
       draws = drawn_on c.loop-column.markup c.draw.new.markup _ (words_from p middle end stretch (map seen (drop k columns))) (stretch_word (c.bar-middle.result + 3) c.in_ok-free.free column.x stretch)
           (words_from p middle end c.behind-stretch.result (map seen (drop (k + 1) columns)))
           (words_end columns k column (omega arith) (rw c.deref-column-items.ensures.value at c.column-item.is) p middle (c.bar-middle.result + 3) end c.in_ok-free.free stretch c.behind-stretch.result
-          (sym (c.ends.ensures ∙ ap (λ (s : Stretch). stands_in p column.lane || not (is_word s.word stretch.word)) begins) ∙ c.if-not-ends.false)
+          (sym (c.ends.ensures ∙ ap (λ (s : Stretch). lies_in p column.lane || not (is_word s.word stretch.word)) begins) ∙ c.if-not-ends.false)
           (ap (λ n. n + 3) (c.bar-middle.ensures.exact ∙ ap bar_of c.lane.ensures)) c.in_ok-free.ensures
           (c.behind-stretch.ensures ∙ (λ i. record (begins i) { is_said = is_word (begins i).word stretch.word && said i })))
           c.loop-column.invariant.draws c.in_ok-is_said.ensures.draws;
@@ -39,6 +39,6 @@ loop-column-preserved-then-not-ends c =
       read = c.loop-column.invariant.read;
       draws = ap (λ shapes. c.loop-column.markup ++ drawings shapes)
           (sym (words_stay columns k column (omega arith) (rw c.deref-column-items.ensures.value at c.column-item.is) p (bar_of (lane_in c.args.self.now.layout p) + 3) c.args.self.now.layout.end stretch
-          (sym (c.ends.ensures ∙ ap (λ (s : Stretch). stands_in p column.lane || not (is_word s.word stretch.word)) c.in_ok-next.ensures) ∙ c.if-not-ends.true)))
+          (sym (c.ends.ensures ∙ ap (λ (s : Stretch). lies_in p column.lane || not (is_word s.word stretch.word)) c.in_ok-next.ensures) ∙ c.if-not-ends.true)))
           ∙ c.loop-column.invariant.draws;
     }

@@ -12,4 +12,4 @@ returns-clause-page c = record {
 }
 
 pub returns-clause-lines : goal.returns-clause-lines
-returns-clause-lines c = alone_pending c.place_pending.new.self.columns.items _ (held_back c.args.self.now) c.in_ok-new.field-0 (text_of c.args.line) c.in_ok-full.ensures.lines c.in_ok-new.ensures.told
+returns-clause-lines c = alone_pending c.place_pending.new.self.columns.items _ (held_back c.args.self.now) c.in_ok-new.field-0 (text_of c.args.line) c.in_ok-full.ensures.lines c.in_ok-new.ensures.reported

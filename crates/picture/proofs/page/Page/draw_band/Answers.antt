@@ -3,7 +3,7 @@ use Rattle.std.specs.declared.alloc.Global.{Global}
 use Rattle.std.specs.declared.vec.Vec.{Vec}
 use Rattle.markup.specs.{drawings}
 use Rattle.picture.specs.{behind_columns, framed, height_with, held_in_64, judged_shapes, seen_page, titles_if}
-use Rattle.picture_layout.specs.{Column, accesses_after, accesses_at, layout_of, seen, seen_accesses, stretched_all, told_in}
+use Rattle.picture_layout.specs.{Column, accesses_after, accesses_at, layout_of, seen, seen_accesses, stretched_all, reported_in}
 use Rattle.picture.proofs.Pagings.{draws_parts, stretched_within}
 use Rattle.picture.proofs.page.Page.draw_band.Goals as goal
 
@@ -41,5 +41,5 @@ returns-clause-page c =
     within = stretched_within c.replace-columns.result.len c.replace-columns.result.items c.stretch.new.columns (ap length (sym c.as_mut_slice.ensures.value) ∙ c.as_mut_slice.ensures.len) apart
 
 pub returns-clause-lines : goal.returns-clause-lines
-returns-clause-lines c = c.in_ok-markup.ensures.lines ∙ ap (λ l. l ++ titles_if c.args.verdict) (ap (flat_map told_in) (stretched_within c.replace-columns.result.len c.replace-columns.result.items c.stretch.new.columns (ap length (sym c.as_mut_slice.ensures.value) ∙ c.as_mut_slice.ensures.len) (c.in_ok-stretch.ensures.apart ∙ ap (λ (l : List Column). stretched_all (map seen l)) c.as_mut_slice.ensures.value))
-    ∙ c.in_ok-stretch.ensures.told ∙ ap (flat_map told_in) (c.as_mut_slice.ensures.value ∙ ap (λ (v : Vec Column Global). v.items) c.replace-columns.ensures.value))
+returns-clause-lines c = c.in_ok-markup.ensures.lines ∙ ap (λ l. l ++ titles_if c.args.verdict) (ap (flat_map reported_in) (stretched_within c.replace-columns.result.len c.replace-columns.result.items c.stretch.new.columns (ap length (sym c.as_mut_slice.ensures.value) ∙ c.as_mut_slice.ensures.len) (c.in_ok-stretch.ensures.apart ∙ ap (λ (l : List Column). stretched_all (map seen l)) c.as_mut_slice.ensures.value))
+    ∙ c.in_ok-stretch.ensures.reported ∙ ap (flat_map reported_in) (c.as_mut_slice.ensures.value ∙ ap (λ (v : Vec Column Global). v.items) c.replace-columns.ensures.value))

@@ -1,17 +1,17 @@
 use Rattle.std.proofs.Common.{◌++◌, ◌∙◌, ap, codes, flat_map, refl}
 use Rattle.markup.specs.{reading}
-use Rattle.picture_layout.specs.{told_in}
+use Rattle.picture_layout.specs.{reported_in}
 use Rattle.picture.specs.{titles_if}
 use Rattle.picture.specs.Bandings.{band_tag}
 use Rattle.picture.proofs.Sheetings.{adds, adds_same}
-use Rattle.picture.proofs.Tellings.{framed_ends, framed_lines}
+use Rattle.picture.proofs.Reportings.{framed_ends, framed_lines}
 use Rattle.picture.proofs.page.Page.picture_of.Goals as goal
 
 pub returns-clause-lines : goal.returns-clause-lines
-returns-clause-lines c = framed_lines (codes "svg") (reading c.frame.new.self) (reading c.draw_judged.new.markup) (reading c.constant.new.self) c.new-markup.result (flat_map told_in c.args.band.now.columns.items ++ titles_if c.args.band.now.verdict) c.in_ok-frame.ensures.read c.in_ok-draw_judged.ensures.read (c.in_ok-constant.ensures.read ∙ c.in_ok-enter_band.ensures.read) c.new-markup.ensures
+returns-clause-lines c = framed_lines (codes "svg") (reading c.frame.new.self) (reading c.draw_judged.new.markup) (reading c.constant.new.self) c.new-markup.result (flat_map reported_in c.args.band.now.columns.items ++ titles_if c.args.band.now.verdict) c.in_ok-frame.ensures.read c.in_ok-draw_judged.ensures.read (c.in_ok-constant.ensures.read ∙ c.in_ok-enter_band.ensures.read) c.new-markup.ensures
 
 pub returns-clause-ended : goal.returns-clause-ended
-returns-clause-ended c = framed_ends (codes "svg") (reading c.frame.new.self) (reading c.draw_judged.new.markup) (reading c.constant.new.self) c.new-markup.result (flat_map told_in c.args.band.now.columns.items ++ titles_if c.args.band.now.verdict) c.in_ok-frame.ensures.read c.in_ok-draw_judged.ensures.read (c.in_ok-constant.ensures.read ∙ c.in_ok-enter_band.ensures.read) c.new-markup.ensures refl
+returns-clause-ended c = framed_ends (codes "svg") (reading c.frame.new.self) (reading c.draw_judged.new.markup) (reading c.constant.new.self) c.new-markup.result (flat_map reported_in c.args.band.now.columns.items ++ titles_if c.args.band.now.verdict) c.in_ok-frame.ensures.read c.in_ok-draw_judged.ensures.read (c.in_ok-constant.ensures.read ∙ c.in_ok-enter_band.ensures.read) c.new-markup.ensures refl
 
 pub returns-clause-draws : goal.returns-clause-draws
 returns-clause-draws c =

@@ -57,7 +57,7 @@ returns-then-has_room_for-clause-page c =
 
 pub returns-then-has_room_for-clause-lines : goal.returns-then-has_room_for-clause-lines
 returns-then-has_room_for-clause-lines c =
-    joins_pending c.args.self.now.columns.items c.args.self.now.pending (Some c.join.new.self) c.in-Some.column c.join.new.self (text_of c.args.line) c.in-Some.is refl c.in_ok-join.ensures.told
+    joins_pending c.args.self.now.columns.items c.args.self.now.pending (Some c.join.new.self) c.in-Some.column c.join.new.self (text_of c.args.line) c.in-Some.is refl c.in_ok-join.ensures.reported
 
 pub returns-then-has_room_for-clause-stages : goal.returns-then-has_room_for-clause-stages
 returns-then-has_room_for-clause-stages c = c.in_ok-frees.ensures.stages

@@ -3,8 +3,8 @@ use Rattle.std.proofs.lemmas.List.{map-append}
 use Rattle.picture_layout.specs.{rows_of_lines, seen, text_of, texts}
 use Rattle.picture_layout.proofs.picture_layout.Column.join.Goals as goal
 
-pub returns-clause-told : goal.returns-clause-told
-returns-clause-told c = ap texts c.in_ok-push.ensures.items ∙ map-append text_of c.args.self.now.lines.items (c.args.line ∷ [])
+pub returns-clause-reported : goal.returns-clause-reported
+returns-clause-reported c = ap texts c.in_ok-push.ensures.items ∙ map-append text_of c.args.self.now.lines.items (c.args.line ∷ [])
 
 pub returns-clause-whole : goal.returns-clause-whole
 returns-clause-whole c = λ i. record (seen c.args.self.now) {

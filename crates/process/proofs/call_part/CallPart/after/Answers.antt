@@ -10,7 +10,7 @@ returns-clause-marks c = λ bits out.
     let call = call_of i.call in
     let old : Part = part_at call i.seen i.part in
     let given = subst (λ (s : PartState). IsOutcome s.call s.part bits c.args.number) (sym c.self.view_is) out in
-    c.told_to.ensures.marks call i.seen c.part_after-self-inside.new.seen
+    c.outcome_before.ensures.marks call i.seen c.part_after-self-inside.new.seen
     ∙ ap (marks_to old) (c.part_after-self-inside.ensures.part bits given)
     ∙ sym (marks-to call old bits)
     ∙ ap (λ (s : PartState). last_marks s.call s.part bits) c.self.view_is

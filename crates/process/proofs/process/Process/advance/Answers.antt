@@ -1,5 +1,5 @@
 use Rattle.std.proofs.Common.{ap, ◌∙◌}
-use Rattle.process.specs.{HasMoved, ProcessState, changes_told, may_step}
+use Rattle.process.specs.{HasMoved, ProcessState, changes_reported, may_step}
 use Rattle.process.proofs.NextAt.{has-moved, then-changes, then-marks, then-stepped}
 use Rattle.process.proofs.Serves.{stands}
 use Rattle.process.proofs.process.Process.advance.Goals as goal
@@ -26,5 +26,5 @@ returns c =
     record {
       process = then-stepped h c.self.view_is c.go_on.ensures.doing;
       marks = then-marks h c.self.view_is c.go_on.ensures.marks;
-      changes = then-changes c.self.inside.called c.self.inside.work c.self.inside.cursor c.args.self.now (changes_told c.go_on.result) c.self.view_is c.go_on.ensures.changes;
+      changes = then-changes c.self.inside.called c.self.inside.work c.self.inside.cursor c.args.self.now (changes_reported c.go_on.result) c.self.view_is c.go_on.ensures.changes;
     }

@@ -3,7 +3,7 @@ use Rattle.std.specs.Prelude.{IfSome}
 use Rattle.plain_store.specs.{Setup}
 use Rattle.model.specs.{IsTornOf, TornBit}
 use Rattle.registers.specs.{settling_from}
-use Rattle.process.specs.declared.work.ProcessWork.TheVariants as work
+use Rattle.process.specs.declared.activity.Activity.TheVariants as work
 use Rattle.process.specs.{KeepsPlace, ProcessState, doing_at, settling_with, state_at}
 use Rattle.process.proofs.UnitBegins.{unit-keeps, unit-settles}
 use Rattle.process.proofs.process.Process.begin_unit.Goals as goal

@@ -1,5 +1,5 @@
 use Rattle.std.proofs.Common.{true, sym, ap, ◌∙◌, subst}
-use Rattle.process.specs.declared.work.ProcessWork.TheVariants as work
+use Rattle.process.specs.declared.activity.Activity.TheVariants as work
 use Rattle.process.specs.{KeepsPlace, state_at, withdrawn}
 use Rattle.process.proofs.ClosingsOn.{clears-ticket}
 use Rattle.process.proofs.process.Process.clear_ticket.Goals as goal

@@ -1,6 +1,6 @@
 use Rattle.std.proofs.Common.{sym, ap, ◌∙◌, subst}
 use Rattle.laws.specs.{is_inside}
-use Rattle.process.specs.declared.work.ProcessWork.TheVariants as work
+use Rattle.process.specs.declared.activity.Activity.TheVariants as work
 use Rattle.process.specs.{KeepsPlace, ProcessState, failed, state_at}
 use Rattle.process.proofs.CutsAt.{cut-keeps, cut-torn}
 use Rattle.process.proofs.process.Process.cut.Goals as goal

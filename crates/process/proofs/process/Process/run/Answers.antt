@@ -2,14 +2,14 @@ use Rattle.std.proofs.Common.{List, sym, ap, subst, ◌∙◌, arith, ◌<◌}
 use Rattle.registers.specs.safe_bit.Cell.{Cell}
 use Rattle.choices.specs.{FlickState}
 use Rattle.registers.specs.{CursorState}
-use Rattle.process.specs.{KeepsPlace, ProcessState, left_at, state_at}
-use Rattle.process.proofs.Shown.{RunsShown, left-goes, shown-fits, shown-run}
+use Rattle.process.specs.{KeepsPlace, ProcessState, remaining_at, state_at}
+use Rattle.process.proofs.Shown.{RunsShown, remaining-goes, shown-fits, shown-run}
 use Rattle.process.proofs.process.Process.run.Goals as goal
 use Rattle.process.proofs.process.Process.run.Goals.{After-run-arg-3-1}
 
 -- by its cursor
 shown : (c : After-run-arg-3-1) → RunsShown c.args.steps c.self.inside.called c.self.inside.work c.self.inside.cursor c.args.self.now c.args.memory.now c.args.flicks.now
-shown c = shown-run c.args.steps c.self.inside.called c.self.inside.work c.self.inside.cursor c.args.self.now c.args.memory.now c.args.flicks.now c.self.invariant c.self.view_is c.requires.some c.requires.left
+shown c = shown-run c.args.steps c.self.inside.called c.self.inside.work c.self.inside.cursor c.args.self.now c.args.memory.now c.args.flicks.now c.self.invariant c.self.view_is c.requires.some c.requires.remaining
 
 pub run-requires-clause-kind : goal.run-requires-clause-kind
 run-requires-clause-kind c = (shown c).kind
@@ -19,8 +19,8 @@ run-requires-clause-within c = (shown c).within
 
 pub run-requires-clause-fits : goal.run-requires-clause-fits
 run-requires-clause-fits c =
-    let more : 0 < left_at c.args.self.now = omega (arith, c.requires.some, c.requires.left) in
-    shown-fits c.self.inside.called c.self.inside.work c.self.inside.cursor c.args.self.now c.args.memory.now c.self.invariant c.self.view_is (left-goes c.args.self.now more) c.requires.memory
+    let more : 0 < remaining_at c.args.self.now = omega (arith, c.requires.some, c.requires.remaining) in
+    shown-fits c.self.inside.called c.self.inside.work c.self.inside.cursor c.args.self.now c.args.memory.now c.self.invariant c.self.view_is (remaining-goes c.args.self.now more) c.requires.memory
 
 pub invariant_of-self : goal.invariant_of-self
 invariant_of-self c =

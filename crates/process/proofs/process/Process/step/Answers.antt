@@ -1,7 +1,7 @@
 use Rattle.std.proofs.Common.{◌≡◌, ap, ◌∙◌, arith}
 use Rattle.model.specs.{value_of}
 use Rattle.registers.specs.{applied, ends_overlapped, next_answered}
-use Rattle.process.specs.{HasMoved, ProcessState, changes_told, may_step}
+use Rattle.process.specs.{HasMoved, ProcessState, changes_reported, may_step}
 use Rattle.process.proofs.NextAt.{then-changes, then-marks, then-stepped}
 use Rattle.process.proofs.Serves.{stands, step-moved}
 use Rattle.process.proofs.Shown.{shown-answered, shown-copies, shown-fits}
@@ -38,6 +38,6 @@ returns c =
       overlapped = c.step-made.ensures.overlapped ∙ ap (λ n. ends_overlapped n c.args.memory.now c.step-made.result.access) copies;
       process = then-stepped h c.self.view_is c.go_on.ensures.doing;
       marks = then-marks h c.self.view_is c.go_on.ensures.marks;
-      changes = then-changes c.self.inside.called c.self.inside.work c.self.inside.cursor c.args.self.now (changes_told c.go_on.result) c.self.view_is c.go_on.ensures.changes;
+      changes = then-changes c.self.inside.called c.self.inside.work c.self.inside.cursor c.args.self.now (changes_reported c.go_on.result) c.self.view_is c.go_on.ensures.changes;
       memory = c.step-made.ensures.memory ∙ ap (λ n. applied n c.args.memory.now c.step-made.result.access) copies;
     }

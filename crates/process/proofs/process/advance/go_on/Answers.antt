@@ -1,12 +1,12 @@
 use Rattle.std.proofs.Common.{◌≡◌, Bool, List, subst, sym}
 use Rattle.model.specs.{Mark}
 use Rattle.registers.specs.{CursorState}
-use Rattle.process.specs.{AreMarksOn, IsStepped, PartState, ProcessState, ProcessWork}
+use Rattle.process.specs.{AreMarksOn, IsStepped, PartState, ProcessState, Activity}
 use Rattle.process.proofs.NextAt.{idle-goes}
 use Rattle.process.proofs.process.advance.go_on.Goals as goal
 
 -- the clauses hold of work that is equal to this
-module _ {k : PartState} {was w : ProcessWork} {cur : CursorState} {fresh : Bool} (same : was ≡ w) where
+module _ {k : PartState} {was w : Activity} {cur : CursorState} {fresh : Bool} (same : was ≡ w) where
   steps : {next : ProcessState} → IsStepped k w cur fresh next → IsStepped k was cur fresh next
   steps {next} on = subst (λ w. IsStepped k w cur fresh next) (sym same) on
 

@@ -1,6 +1,6 @@
 use Rattle.std.proofs.Common.{◌≡◌, Bool, [], cond, false, get_or, unwrap_or, refl, sym, ap, ◌∙◌, subst}
 use Rattle.model.specs.{settled_marks}
-use Rattle.process.specs.declared.work.ProcessWork.TheVariants as work
+use Rattle.process.specs.declared.activity.Activity.TheVariants as work
 use Rattle.process.specs.{KeepsPlace, reply_taken, state_at}
 use Rattle.process.proofs.ClosingsOn.{clears-ticket}
 use Rattle.process.proofs.SettlesOn.{settles-marks, settles-over, settles-within, still-settles, value-settled}
@@ -46,9 +46,9 @@ returns c =
           let begun : Bool = get_or before.bits before.bit false in
           let v : Bool = unwrap_or at.value flick in
           let is : c.value_settled-value.result ≡ v = c.value_settled-value.ensures at.cut v (value-settled k inside flick value taken before cur fresh h) in
-          c.told_settled.ensures.marks begun at.written
+          c.outcome_of_settling.ensures.marks begun at.written
           ∙ ap (settled_marks begun (reply_taken taken)) is
           ∙ sym (settles-marks k inside flick value taken before cur fresh h ∙ ap (λ b. cond b (settled_marks begun (reply_taken taken) v) []) over);
-      changes = c.told_settled.ensures.changes;
+      changes = c.outcome_of_settling.ensures.changes;
       keeps = subst (KeepsPlace k (work.Frees inside)) (sym c.clear.ensures) (clears-ticket k inside c.requires.moved.1.3.keeps.call);
     }

@@ -2,7 +2,7 @@ use Rattle.std.proofs.Common.{◌≤◌, ℕ, List, Bool, false, set, arith, ◌
 use Rattle.std.proofs.lemmas.List.{get_or-set_same}
 use Rattle.safe_number.specs.{bits_of_number}
 use Rattle.registers.specs.{CursorState}
-use Rattle.registers.specs.declared.cursor.NumberRun.TheVariants.{Writes}
+use Rattle.registers.specs.declared.cursor.RegisterAccessKind.TheVariants.{Writes}
 use Rattle.registers.proofs.Numbers.{word-number}
 use Rattle.registers.proofs.cursor.Cursor.begin_write.Goals as goal
 

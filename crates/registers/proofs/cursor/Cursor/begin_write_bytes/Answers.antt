@@ -1,7 +1,7 @@
 use Rattle.std.proofs.Common.{ℕ, List, Bool, false, arith, ◌∙◌, ap}
 use Rattle.safe_number.specs.{bits_in}
 use Rattle.registers.specs.{CursorState}
-use Rattle.registers.specs.declared.cursor.NumberRun.TheVariants.{Writes}
+use Rattle.registers.specs.declared.cursor.RegisterAccessKind.TheVariants.{Writes}
 use Rattle.registers.proofs.WordBytes.{bits-as-bytes}
 use Rattle.registers.proofs.cursor.Cursor.begin_write_bytes.Goals as goal
 

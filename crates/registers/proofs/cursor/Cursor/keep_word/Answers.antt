@@ -1,7 +1,7 @@
 use Rattle.std.proofs.Common.{◌≡◌, ◌<◌, ◌≤◌, ◌+◌, ◌/◌, ◌%◌, ℕ, List, Bool, set, arith, ◌∙◌, length, ap, sym}
 use Rattle.registers.specs.{CursorState, bits_kept, more_bits}
 use Rattle.reader_copies.specs.{bits_of_words, flag_in}
-use Rattle.registers.specs.declared.cursor.NumberRun.TheVariants.{Reads}
+use Rattle.registers.specs.declared.cursor.RegisterAccessKind.TheVariants.{Reads}
 use Rattle.registers.proofs.Words.{bits-chosen}
 use Rattle.registers.proofs.cursor.Cursor.keep_word.Goals as goal
 

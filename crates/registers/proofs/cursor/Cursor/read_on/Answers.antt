@@ -2,7 +2,7 @@ use Rattle.std.proofs.Common.{◌≡◌, ◌<◌, ◌+◌, ◌/◌, ◌%◌, ◌
 use mir.Val.{bool_byte}
 use Rattle.registers.specs.{CursorState, bits_kept, read_after}
 use Rattle.reader_copies.specs.{SetsFlag, flag_in}
-use Rattle.registers.specs.declared.cursor.NumberRun.TheVariants.{Reads}
+use Rattle.registers.specs.declared.cursor.RegisterAccessKind.TheVariants.{Reads}
 use Rattle.reader_copies.proofs.Flags.{flag-both}
 use Rattle.registers.proofs.Words.{bits-gone, next-bit}
 use Rattle.registers.proofs.cursor.Cursor.read_on.Goals as goal

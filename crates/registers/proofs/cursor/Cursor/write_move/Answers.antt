@@ -2,7 +2,7 @@ use Rattle.std.proofs.Common.{◌≡◌, ◌<◌, ◌%◌, false, cond, get_or, 
 use Rattle.safe_bit.specs.declared.moves.Move.TheVariants.{BeginWrite, EndWrite}
 use Rattle.registers.specs.{CursorState, bits_kept, write_move}
 use Rattle.reader_copies.specs.{flag_in}
-use Rattle.registers.specs.declared.cursor.NumberRun.TheVariants.{Writes}
+use Rattle.registers.specs.declared.cursor.RegisterAccessKind.TheVariants.{Writes}
 use Rattle.reader_copies.proofs.Words.{bit-found}
 use Rattle.registers.proofs.cursor.Cursor.write_move.Goals as goal
 

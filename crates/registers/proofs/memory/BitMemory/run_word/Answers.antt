@@ -3,7 +3,7 @@ use Rattle.std.proofs.lemmas.List.{get_or_default}
 use Rattle.safe_bit.specs.Cell.{Cell}
 use Rattle.reader_copies.specs.{after_write, flag_in, over}
 use Rattle.registers.specs.{CursorState, HasLanes, LeadsTo, bits_kept, first_lane, lane_of}
-use Rattle.registers.specs.declared.cursor.NumberRun.TheVariants.{Writes}
+use Rattle.registers.specs.declared.cursor.RegisterAccessKind.TheVariants.{Writes}
 use Rattle.registers.proofs.AtOnce.{lanes-written, read-at_once, write-at_once}
 use Rattle.registers.proofs.Words.{word-written}
 use Rattle.registers.proofs.Held.{lane-found}

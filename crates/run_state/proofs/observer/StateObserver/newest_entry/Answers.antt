@@ -15,7 +15,7 @@ returns c = λ taken events shows seen.
     let all = c.entries.ensures in
     let apart = c.if-self-entries.false in
     let most = seen.reported in
-    let fewer : c.args.self.now.reported < c.args.self.now.snapshot.entries = omega (arith, all, apart, most) in
+    let fewer : c.args.self.now.reported < c.args.self.now.observed_run.entries = omega (arith, all, apart, most) in
     let u : IsNewestWithin s p past = seen.passed fewer in
     let access : c.last_access-access.result ≡ Some u.access = c.last_access-access.ensures taken events shows u.access u.before u.is u.within in
     ap Some (c.unmarked_entry.ensures ∙ ap (unmarked_entry p) access) ∙ ap newest (sym u.is)

@@ -8,5 +8,5 @@ pub returns : goal.returns
 returns c = ok_then c.print_entry.result (λ newest taken events shows seen.
     let past : Past = past_of c.args.core.now.setup events in
     newest taken events shows seen
-    ∙ ap (λ l. l ++ newest_line past) (c.in_ok-print_count.ensures ∙ ap (λ n. c.args.text.now.items ++ count_line n) seen.heard.entries)
+    ∙ ap (λ l. l ++ newest_line past) (c.in_ok-print_count.ensures ∙ ap (λ n. c.args.text.now.items ++ count_line n) seen.observed.entries)
     ∙ append_assoc c.args.text.now.items (count_line (length past)) (newest_line past)) c.print_entry.ensures

@@ -8,9 +8,9 @@ use Rattle.safe_number.proofs.reading.ReadRun.advance.Goals.{Joined-self}
 use Rattle.safe_number.proofs.reading.ReadRun.advance.Goals as goal
 
 -- a read that does not go on had begun
-ended : (begun : Bool) (told : Progress) → told ≡ progress_of begun → (told ≡ Going → ⊥) → begun ≡ true
-ended true told is over = refl
-ended false told is over = absurd (over is)
+ended : (begun : Bool) (reported : Progress) → reported ≡ progress_of begun → (reported ≡ Going → ⊥) → begun ≡ true
+ended true reported is over = refl
+ended false reported is over = absurd (over is)
 
 below : (c : Joined-self) → c.self.inside.bit < c.self.inside.width
 below c = omega (arith, c.requires, length_bits c.self.inside.bytes.items c.self.inside.bit, ap (λ (r : NumberRead). length r.bits) c.self.view_is, ap (λ (r : NumberRead). r.width) c.self.view_is)

@@ -1,8 +1,8 @@
 use Rattle.std.proofs.Common.{◌∙◌, ap, refl, subst, sym}
 use Rattle.world.proofs.WorldWithin.{walks-one}
 use Rattle.world.specs.choices.{flick_of}
-use Rattle.scenario_run.specs.{HearsStep, StopsBy}
-use Rattle.scenario_run.proofs.Within.{within_heard, within_passed}
+use Rattle.scenario_run.specs.{ObservesStep, StopsBy}
+use Rattle.scenario_run.proofs.Within.{within_observed, within_passed}
 use Rattle.scenario_run.proofs.turns.steps.turn_step.Goals as goal
 
 pub returns-clause-cut : goal.returns-clause-cut
@@ -12,23 +12,23 @@ returns-clause-cut g c =
     let flick = c.flick-flick.ensures.flick ∙ ap flick_of c.twin.ensures in
     let fault = c.in-Err.fault in
     let one = walks-one w r.new.self c.args.flicks.now r.new.flicks c.args.process c.flick-flick.result r.result.newest r.result.overlapped (sym flick) r.ensures.runs in
-    subst (λ b. HearsStep (StopsBy g.L.Listener.Stops fault) w c.args.process b r.new.self c.args.listener.now c.step-heard.new.self) flick
-    (within_heard (StopsBy g.L.Listener.Stops fault) w r.new.self c.args.process c.flick-flick.result r.result.newest _ c.args.listener.now c.step-heard.new.self one.0 c.in-Err.ensures.cut)
+    subst (λ b. ObservesStep (StopsBy g.L.RunObserver.Stops fault) w c.args.process b r.new.self c.args.observer.now c.step-observed.new.self) flick
+    (within_observed (StopsBy g.L.RunObserver.Stops fault) w r.new.self c.args.process c.flick-flick.result r.result.newest _ c.args.observer.now c.step-observed.new.self one.0 c.in-Err.ensures.cut)
 
 pub returns-in_default-clause-ok : goal.returns-in_default-clause-ok
 returns-in_default-clause-ok g c =
     let r = c.run-made in
     let w = c.args.world.now in
     let flick = c.flick-flick.ensures.flick ∙ ap flick_of c.twin.ensures in
-    let Hears = g.L.Listener.Hears in
+    let Observes = g.L.RunObserver.Observes in
     let one = walks-one w r.new.self c.args.flicks.now r.new.flicks c.args.process c.flick-flick.result r.result.newest r.result.overlapped (sym flick) r.ensures.runs in
-    rw c.requires.none (subst (λ b. HearsStep Hears w c.args.process b r.new.self c.args.listener.now c.step-heard.new.self) flick
-    (within_heard Hears w r.new.self c.args.process c.flick-flick.result r.result.newest _ c.args.listener.now c.step-heard.new.self one.0 c.in_default.ensures.ok))
+    rw c.requires.none (subst (λ b. ObservesStep Observes w c.args.process b r.new.self c.args.observer.now c.step-observed.new.self) flick
+    (within_observed Observes w r.new.self c.args.process c.flick-flick.result r.result.newest _ c.args.observer.now c.step-observed.new.self one.0 c.in_default.ensures.ok))
 
-pub returns-then-not-hears_steps-clause-ok : goal.returns-then-not-hears_steps-clause-ok
-returns-then-not-hears_steps-clause-ok g c =
+pub returns-then-not-observes_steps-clause-ok : goal.returns-then-not-observes_steps-clause-ok
+returns-then-not-observes_steps-clause-ok g c =
     let r = c.run-made in
     let w = c.args.world.now in
     let one = walks-one w r.new.self c.args.flicks.now r.new.flicks c.args.process (flick_of c.args.flicks.now) r.result.newest r.result.overlapped refl r.ensures.runs in
-    rw c.requires.none (within_passed g.L.Listener.Hears w r.new.self c.args.process (flick_of c.args.flicks.now) r.result.newest _ c.args.listener.now c.pass.new.self one.0 r.result.overlapped one.1
-    (c.pass.ensures.ok (sym c.hears_steps.ensures ∙ c.if-not-hears_steps.true)))
+    rw c.requires.none (within_passed g.L.RunObserver.Observes w r.new.self c.args.process (flick_of c.args.flicks.now) r.result.newest _ c.args.observer.now c.pass.new.self one.0 r.result.overlapped one.1
+    (c.pass.ensures.ok (sym c.observes_steps.ensures ∙ c.if-not-observes_steps.true)))

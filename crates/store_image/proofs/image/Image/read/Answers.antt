@@ -26,7 +26,7 @@ returns-in_default-clause-faultless c = ((λ bad. cc), λ none. absurd (none Len
 
 -- the length is right if the number of slots is known
 right_length : (callers n slots : ℕ) (count : Option ℕ) → count ≡ (if is_length callers n then Some (slot_count callers n) else None) → count ≡ Some slots → (is_length callers n ≡ true) × (slot_count callers n ≡ slots)
-right_length callers n slots count told some = some_length (is_length callers n) (slot_count callers n) slots (sym told ∙ some)
+right_length callers n slots count reported some = some_length (is_length callers n) (slot_count callers n) slots (sym reported ∙ some)
 
 -- the consequences of a right length
 long : (callers n slots : ℕ) → is_length callers n ≡ true → slot_count callers n ≡ slots → (1 ≤ slots) × (slots ≤ 8) × (n ≡ 23 * slots + 2 * callers)

@@ -1,7 +1,7 @@
 use Rattle.std.proofs.Common.{◌≡◌, ◌+◌, ◌-◌, ◌^◌, ◌∷◌, ◌<◌, ℕ, Some, get_or, slice_get, slice_set, sym, subst, ap, ◌∙◌, arith}
 use Rattle.std.proofs.lemmas.Option.{slice_get-get_or}
 use Rattle.trace.specs.{trace_entry}
-use Rattle.trace_calls.specs.declared.kept.CallKept.{CallKept}
+use Rattle.trace_calls.specs.declared.kept.TraceCallState.{TraceCallState}
 use Rattle.trace_calls.specs.{CallsState, HasListed, ended_call}
 use Rattle.trace_calls.specs.Keeping.{at_rest, ended_between}
 use Rattle.trace_calls.proofs.OneMore.{ended_is, lists_own}
@@ -12,7 +12,7 @@ returns-clause-listed c = λ past listed.
     let i = c.self.inside in
     let t : CallsState = record { opened = i.opened; kept = i.kept; entries = i.entries } in
     let p = c.args.process in
-    let before : CallKept = get_or i.kept c.from.result at_rest in
+    let before : TraceCallState = get_or i.kept c.from.result at_rest in
     let many = c.processes.ensures.count in
     let most = c.processes.ensures.most in
     let exists = c.if-process-processes.false in
@@ -30,7 +30,7 @@ returns-clause-ended c = λ past listed.
     let i = c.self.inside in
     let t : CallsState = record { opened = i.opened; kept = i.kept; entries = i.entries } in
     let p = c.args.process in
-    let before : CallKept = get_or i.kept c.from.result at_rest in
+    let before : TraceCallState = get_or i.kept c.from.result at_rest in
     let many = c.processes.ensures.count in
     let most = c.processes.ensures.most in
     let exists = c.if-process-processes.false in

@@ -18,7 +18,7 @@ returns-clause-drawn g c =
     let marks = c.in_ok-draw_marks.ensures in
     let same = ap (λ m. trace_entry c.entry.inside.process c.entry.inside.access m) c.deref.ensures ∙ c.entry.view_is in
     entry_drawn old mid marked (record marked { entries = marked.entries + 1 }) a b d e
-    (record { drawn = access.drawn; watches = access.watches; overlaps = access.overlaps; rest = access.rest })
+    (record { drawn = access.drawn; monitors = access.monitors; overlaps = access.overlaps; rest = access.rest })
     (subst (λ (e : TraceEntry). DrawsLines mid.canvas marked.canvas b d mid.source mid.entries (says_entry e)) same marks.drawn)
     marks.rest
     (ap (λ (n : ℕ). record marked { entries = n + 1 }) (ap (λ (t : TraceDrawing). t.entries) marks.rest))

@@ -15,7 +15,7 @@ returns-in-Some-clause-drawn g c =
     let b = g.W.Sink.taken c.end.new.output in
     if_ok_both c.end.result
     (λ bands last same past first shown.
-    shown_end view.form view.options s past held c.args.told.now c.in-Some.drawing bands first a b
+    shown_end view.form view.options s past held c.args.reported.now c.in-Some.drawing bands first a b
     (subst (λ (o : Option TraceDrawing). AreShownBy o held view.form view.options s past first a) c.in-Some.is shown) same last)
     c.end.ensures.drawn c.end.ensures.shows
 
@@ -30,6 +30,6 @@ returns-in_ok-drawing-in-None-clause-drawn g c =
     let d = c.in_ok-drawing-in-None.drawing in
     if_ok_both c.end-in-None.result
     (λ bands last same past first shown.
-    held_end view.form view.options s past held c.args.told.now d bands first a mid b
+    held_end view.form view.options s past held c.args.reported.now d bands first a mid b
     (subst (λ (o : Option TraceDrawing). AreShownBy o held view.form view.options s past first a) c.in-None.is shown) (subst (λ (l : List TraceEntry). IsDrawn view.form view.options reads.All s (reverse l) d a mid) c.deref.ensures.value c.in_ok-drawing-in-None.ensures.drawn) same last)
     c.end-in-None.ensures.drawn c.end-in-None.ensures.shows

@@ -4,7 +4,7 @@ use Rattle.picture.specs.declared.reads.Reads.TheVariants as reads
 use Rattle.trace.specs.{TraceEntry}
 use Rattle.trace_draw.specs.{AreShownBy, IsDrawn, TraceDrawing, limit_of}
 use Rattle.trace_draw.proofs.Holding.{held_on, many_drawn}
-use Rattle.trace_draw.proofs.Watching.{drawn_as_many}
+use Rattle.trace_draw.proofs.Monitoring.{drawn_as_many}
 use Rattle.trace_draw.proofs.held.ShownEntries.hold_or_draw.Goals as goal
 
 pub draw_entry-requires-clause-room : goal.draw_entry-requires-clause-room

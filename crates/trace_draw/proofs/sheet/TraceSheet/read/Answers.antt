@@ -19,13 +19,13 @@ returns-in_ok-draw_entry-clause-ok g c =
     let b = g.W.Sink.taken c.draw_entry.new.output in
     let picture = c.draw_entry.new.picture in
     let some = c.in_ok-draw_entry.ensures.some in
-    let left : Some c.forget_entry.new.self ≡ cleared (Some now) = ap (λ (p : TraceProgress). Some p) c.forget_entry.ensures in
+    let remaining : Some c.forget_entry.new.self ≡ cleared (Some now) = ap (λ (p : TraceProgress). Some p) c.forget_entry.ensures in
     let says : now.entry ≡ Some e = c.in-Some-last_entry.ensures in
     let read : words_read trace_grammar (words_of c.args.line.now) old.reader ≡ Ok (Some now) = c.in-Ok.ensures ∙ ap (λ (o : Option TraceProgress). Ok o) c.in-Some.is in
     let draws = subst (λ (s : TraceSetup). (first : Option (List ℕ)) (entries : List TraceEntry) (numbers : List ℕ) → NothingYet old.picture first a → Observes (HasShown old.view first) (with_output a old.picture) s entries numbers →
     Observes (HasShown old.view first) (with_output b picture) s (entries ++ e ∷ []) (numbers ++ c.args.number ∷ [])) c.setup.ensures.value c.in_ok-draw_entry.ensures.drawn in
     λ first before entries numbers stands. record {
-      goes_on = ends_observed (HasShown old.view first) c.args.number c.args.line.now old.reader (Some c.forget_entry.new.self) now e (with_output a old.picture) (with_output b picture) before entries numbers c.requires.short stands.read_up_to read says left
+      goes_on = ends_observed (HasShown old.view first) c.args.number c.args.line.now old.reader (Some c.forget_entry.new.self) now e (with_output a old.picture) (with_output b picture) before entries numbers c.requires.short stands.read_up_to read says remaining
           (some_shown b picture some) (λ entries numbers observed. draws first entries numbers stands.nothing observed);
       nothing = nothing_more picture first b some;
     }

@@ -2,9 +2,9 @@ use Rattle.std.proofs.Common.{◌≡◌, ◌∷◌, length, Some, None, sym, ap,
 use Rattle.std.specs.Vec.{vec_capacity}
 use Rattle.model.specs.declared.events.Event.TheVariants.{Step}
 use Rattle.model.specs.{reply_taken}
-use Rattle.process.specs.declared.told.Effect.TheVariants.{Steps}
-use Rattle.process.specs.{act_of, marks_told}
-use Rattle.world.specs.{Adds, CoreState, GoesOn, IsRefused, KeepOthers, KeepsTheHeadline, KeepsWorld, TellsOverlapped, call_in, with_history, with_taken}
+use Rattle.process.specs.declared.outcomes.EventOutcome.TheVariants.{Steps}
+use Rattle.process.specs.{act_of, marks_reported}
+use Rattle.world.specs.{Adds, CoreState, GoesOn, IsRefused, KeepOthers, KeepsTheHeadline, KeepsWorld, ReportsOverlapped, call_in, with_history, with_taken}
 use Rattle.world.specs.Shows.{Shows, WorldState}
 use Rattle.world.proofs.WorldHeadline.{keeps_headline}
 use Rattle.world.proofs.WorldKeeps.{step_keeps}
@@ -14,11 +14,11 @@ pub invariant_of-self : goal.invariant_of-self
 invariant_of-self c =
     let before = c.self.inside.history.items in
     let last = call_in c.step.new.self.seats c.args.process in
-    step_keeps c.self.inside.core c.step.new.self before c.take.new.history.items c.args.process c.args.flick c.step.new.told _ _ c.self.invariant c.in-Ok.ensures.shows c.in-Ok.ensures.pending
+    step_keeps c.self.inside.core c.step.new.self before c.take.new.history.items c.args.process c.args.flick c.step.new.reported _ _ c.self.invariant c.in-Ok.ensures.shows c.in-Ok.ensures.pending
     (c.take.ensures.items ∙ ap (with_taken before c.args.process last.0 last.1) c.reply.ensures) c.take.ensures.capacity
 
 pub returns-in-Ok-clause-accepted : goal.returns-in-Ok-clause-accepted
-returns-in-Ok-clause-accepted c = subst (λ (w : WorldState). Adds w (Step c.args.process c.args.flick) c.args.process (act_of (length w.history) (record { access = Some c.in-Ok.made.access; effect = Steps c.step.new.told }))) c.self.view_is (c.in-Ok.ensures.accepted c.self.inside.history.items)
+returns-in-Ok-clause-accepted c = subst (λ (w : WorldState). Adds w (Step c.args.process c.args.flick) c.args.process (act_of (length w.history) (record { access = Some c.in-Ok.made.access; effect = Steps c.step.new.reported }))) c.self.view_is (c.in-Ok.ensures.accepted c.self.inside.history.items)
 
 pub returns-in-Ok-clause-shows : goal.returns-in-Ok-clause-shows
 returns-in-Ok-clause-shows c =
@@ -41,8 +41,8 @@ pub returns-in-Ok-clause-headline : goal.returns-in-Ok-clause-headline
 returns-in-Ok-clause-headline c =
     let before = c.self.inside.history.items in
     let last = call_in c.step.new.self.seats c.args.process in
-    subst (λ (w : WorldState). KeepsTheHeadline w c.args.process (act_of (length w.history) (record { access = Some c.in-Ok.made.access; effect = Steps c.step.new.told }))) c.self.view_is
-    (keeps_headline (with_history c.self.inside.core before) (with_history c.step.new.self (with_taken before c.args.process last.0 last.1 (reply_taken (marks_told c.step.new.told)))) (Step c.args.process c.args.flick) c.args.process _
+    subst (λ (w : WorldState). KeepsTheHeadline w c.args.process (act_of (length w.history) (record { access = Some c.in-Ok.made.access; effect = Steps c.step.new.reported }))) c.self.view_is
+    (keeps_headline (with_history c.self.inside.core before) (with_history c.step.new.self (with_taken before c.args.process last.0 last.1 (reply_taken (marks_reported c.step.new.reported)))) (Step c.args.process c.args.flick) c.args.process _
     (c.in-Ok.ensures.accepted before) (c.in-Ok.ensures.shows.goes before) c.in-Ok.ensures.setup)
 
 pub returns-in-Ok-clause-others : goal.returns-in-Ok-clause-others
@@ -52,7 +52,7 @@ pub returns-in-Err-clause-others : goal.returns-in-Err-clause-others
 returns-in-Err-clause-others c = subst (λ (w : WorldState). KeepOthers w.seats c.args.process c.step.new.self.seats) c.self.view_is c.step.ensures.others
 
 pub returns-in-Ok-clause-overlapped : goal.returns-in-Ok-clause-overlapped
-returns-in-Ok-clause-overlapped c = subst (λ (w : WorldState). TellsOverlapped w c.in-Ok.made.access c.in-Ok.made.overlapped) c.self.view_is (c.in-Ok.ensures.overlapped c.self.inside.history.items)
+returns-in-Ok-clause-overlapped c = subst (λ (w : WorldState). ReportsOverlapped w c.in-Ok.made.access c.in-Ok.made.overlapped) c.self.view_is (c.in-Ok.ensures.overlapped c.self.inside.history.items)
 
 pub invariant_of-self-in-Err : goal.invariant_of-self-in-Err
 invariant_of-self-in-Err c =

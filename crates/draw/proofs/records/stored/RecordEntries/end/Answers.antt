@@ -14,7 +14,7 @@ returns-in-Some-clause-drawn g c =
     let b = g.W.Sink.taken c.end_drawn.new.output in
     if_ok_all c.end_drawn.result
     (λ bands last same opens past first shown.
-    shown_end around.asked around.form s past c.args.told.now c.in-Some.drawing bands.shows bands.opening.items bands.height first a b
+    shown_end around.asked around.form s past c.args.reported.now c.in-Some.drawing bands.shows bands.opening.items bands.height first a b
     (subst (λ (o : Option RecordDrawing). AreShownBy o stored around.asked around.form s past first a) c.in-Some.is shown) (same ∙ ap (λ (v : AccessView). v.reads) c.long-view.ensures) opens last)
     c.end_drawn.ensures.drawn c.end_drawn.ensures.shows c.end_drawn.ensures.opening
 
@@ -31,7 +31,7 @@ returns-in_ok-drawing-in-None-clause-drawn g c =
     let drawn = subst (λ (v : AccessView). IsDrawn v around.form s (reverse c.deref.result.now) d a mid) view c.in_ok-drawing-in-None.ensures.drawn in
     if_ok_all c.end_drawn-in-None.result
     (λ bands last same opens past first shown.
-    stored_end around.asked around.form s past stored c.args.told.now d bands.shows bands.opening.items bands.height first a mid b
+    stored_end around.asked around.form s past stored c.args.reported.now d bands.shows bands.opening.items bands.height first a mid b
     (subst (λ (o : Option RecordDrawing). AreShownBy o stored around.asked around.form s past first a) c.in-None.is shown)
     (subst (λ (l : List Entry). IsDrawn (short_view around.asked) around.form s (reverse l) d a mid) c.deref.ensures.value drawn) (same ∙ ap (λ (v : AccessView). v.reads) view) opens last)
     c.end_drawn-in-None.ensures.drawn c.end_drawn-in-None.ensures.shows c.end_drawn-in-None.ensures.opening

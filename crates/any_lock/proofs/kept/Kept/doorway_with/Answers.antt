@@ -1,9 +1,0 @@
-use Rattle.std.proofs.Common.{sym, ap, ◌∙◌}
-use Rattle.any_lock.specs.{doorway_with, of_standing, stands}
-use Rattle.any_lock.proofs.kept.Kept.doorway_with.Goals as goal
-
-pub returns-in-None : goal.returns-in-None
-returns-in-None c = λ past e p a knows. ap (of_standing (doorway_with past e)) (sym c.in-None.is ∙ c.looked_up.ensures past knows ∙ ap (stands c.args.self.now.setup past) (sym p))
-
-pub returns-in-Some : goal.returns-in-Some
-returns-in-Some c = λ past e p a knows. c.doorway_of.ensures past e a knows ∙ ap (of_standing (doorway_with past e)) (sym c.in-Some.is ∙ c.looked_up.ensures past knows ∙ ap (stands c.args.self.now.setup past) (sym p))

@@ -1,5 +1,0 @@
-use Rattle.picture_layout.proofs.Lines.{group_with}
-use Rattle.picture_layout.proofs.groups.Group.with.Goals as goal
-
-pub returns : goal.returns
-returns c = λ some is. group_with some c.args.process c.args.self.now _ _ is c.saturating_add.ensures c.with_at.ensures

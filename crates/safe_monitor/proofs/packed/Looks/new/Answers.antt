@@ -1,6 +1,0 @@
-use Rattle.std.proofs.Common.{arith}
-use Rattle.safe_monitor.proofs.Packs.{looks-zeros}
-use Rattle.safe_monitor.proofs.packed.Looks.new.Goals as goal
-
-pub returns : goal.returns
-returns c = looks-zeros _ c.div_ceil.result c.args.len (c.in_ok-bytes.ensures.items_if_clones_equal (λ y e. e)) (omega (arith, c.div_ceil.ensures))

@@ -1,7 +1,0 @@
-use Rattle.std.proofs.Common.{arith}
-use Rattle.scenario_run.proofs.Fronts.{line_whole}
-use Rattle.scenario_run.proofs.turns.Course.play.Goals as goal
-
-pub returns-clause-ok : goal.returns-clause-ok
-returns-clause-ok g c = λ run follows.
-    line_whole g.L.Listener.Hears c.args.self.now.world.setup c.args.line.now _ run c.play_part.new.self c.args.listener.now c.play_part.new.listener (omega (arith, c.play_part.ensures.few)) (c.in_ok-play_part.ensures.plays run follows)

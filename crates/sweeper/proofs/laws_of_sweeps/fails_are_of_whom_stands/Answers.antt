@@ -1,5 +1,0 @@
-use Rattle.sweeper.proofs.Movers.{fails_of_standing}
-use Rattle.sweeper.proofs.laws_of_sweeps.fails_are_of_whom_stands.Goals as goal
-
-pub returns : goal.returns
-returns x = fails_of_standing
