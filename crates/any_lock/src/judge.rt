@@ -73,7 +73,7 @@ impl AnyLockJudge {
         access: &Option<Access>,
         marks: &[Mark],
     ) -> Verdict<AnyLockLaw>
-        requires few { self.old.kept.entries < self.old.entries }
+        requires bounded { self.old.kept.entries < self.old.entries }
         ensures verdict { self.new.verdict ≡ self.old.verdict }
         ensures entries { self.new.entries ≡ self.old.entries }
         ensures observed { Finds self.old number (entry_by process access.now marks.now) result }

@@ -190,7 +190,7 @@ impl LockRun {
     #[inline]
     pub fn make(&mut self, process: u8, access: Access)
         requires process { process < self.old.setup.processes }
-        requires few { self.old.entries < 2 ^ 64 - 1 }
+        requires bounded { self.old.entries < 2 ^ 64 - 1 }
         ensures setup { self.new.setup ≡ self.old.setup }
         ensures entries { self.new.entries ≡ self.old.entries + 1 }
         ensures knows { OfEntry self.old process (Some access) [] (KnowsOn self.new) }
@@ -203,7 +203,7 @@ impl LockRun {
     /// Adds an entry with these marks, which breaks no law and after which its process is in this state.
     pub fn go_on(&mut self, process: u8, process_view: &ProcessView, marks: &[Mark])
         requires process { process < self.old.setup.processes }
-        requires few { self.old.entries < 2 ^ 64 - 1 }
+        requires bounded { self.old.entries < 2 ^ 64 - 1 }
         ensures setup { self.new.setup ≡ self.old.setup }
         ensures entries { self.new.entries ≡ self.old.entries + 1 }
         ensures knows { KnowsOnAt self.old process marks.now process_view.now self.new }
@@ -217,7 +217,7 @@ impl LockRun {
     fn count(&mut self)
         requires { self.old.entries < 2 ^ 64 - 1 }
         ensures same { self.new ≡ record self.old { entries = self.old.entries + 1 } }
-        ensures few { self.new.taken < self.new.entries }
+        ensures bounded { self.new.taken < self.new.entries }
     {
         self.entries += 1;
     }
@@ -225,7 +225,7 @@ impl LockRun {
     /// Takes the command of a process, if `takes` is true.
     fn take(&mut self, process: u8, takes: bool)
         requires process { process < self.old.setup.processes }
-        requires few { self.old.taken < self.old.entries }
+        requires bounded { self.old.taken < self.old.entries }
         ensures setup { self.new.setup ≡ self.old.setup }
         ensures process_views { self.new.process_views ≡ self.old.process_views }
         ensures entries { self.new.entries ≡ self.old.entries }

@@ -25,7 +25,7 @@ impl LockRun {
         access: &Option<Access>,
         marks: &[Mark],
     ) -> Result<ProcessView, AnyLockLaw>
-        ensures there { IfOk result (λ _. process < self.now.setup.processes) }
+        ensures in_range { IfOk result (λ _. process < self.now.setup.processes) }
         ensures laws { ViewAfter broken_later result self.now process access.now marks.now }
     {
         let _nested: NestedTypes = None;

@@ -63,7 +63,7 @@ impl LockRun {
         marks: &[Mark],
     ) -> Option<Reasons>
         ensures none { law ≡ None → result ≡ None }
-        ensures some { OfEntry self.now process access.now marks.now (AreReasonsIf law result) }
+        ensures reasons { OfEntry self.now process access.now marks.now (AreReasonsIf law result) }
     {
         match law {
             None => None,

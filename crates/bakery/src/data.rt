@@ -136,7 +136,7 @@ impl Data {
 
     /// Returns the bytes of the image that a commit bit chooses; zeros follow them.
     pub(crate) fn image(&self, commit: bool, count: u16) -> [u8; MOST_IMAGE_BYTES]
-        requires few { count ≤ 216 }
+        requires bounded { count ≤ 216 }
         requires image0 { IsReadable self.now.image0 (8 * count) }
         requires image1 { IsReadable self.now.image1 (8 * count) }
         ensures length { length result ≡ 216 }

@@ -89,7 +89,7 @@ impl Door {
     /// a [`Leaving`](crate::Leaving) clears it.
     pub fn withdraw(&mut self, locks: &mut Locks)
         requires waiting { is_waiting self.old ≡ true }
-        requires there { MayDrop self.old locks.old }
+        requires droppable { MayDrop self.old locks.old }
         ensures locks { locks.new ≡ dropped self.old locks.old }
         ensures door { self.new ≡ restarted self.old }
     {
@@ -101,7 +101,7 @@ impl Door {
     /// Returns the bit whose write has begun and has not ended on every copy, if it exists.
     pub fn fail(&mut self, locks: &mut Locks) -> Option<TornBit>
         requires going { is_going self.old ≡ true }
-        requires there { MayDrop self.old locks.old }
+        requires droppable { MayDrop self.old locks.old }
         ensures torn { result ≡ torn_of self.old.setup self.old.process self.old.doing }
         ensures any_torn { CallTears self.old result }
         ensures known { IfSome result (IsTornOf self.old.setup) }

@@ -9,7 +9,7 @@ use store_image::MOST_IMAGE_BYTES;
 
 /// Returns the number of `width` bits of a register, from bit `from` on.
 pub(crate) fn number_held(register: &Register, from: u16, width: u16) -> u32
-    requires few { width ≤ 32 }
+    requires bounded { width ≤ 32 }
     requires inside { from + width ≤ 1728 }
     requires readable { IsReadable register.now (from + width) }
     ensures { result ≡ number_of_bits (take width (drop from (values_of register.now))) }
@@ -23,7 +23,7 @@ pub(crate) fn number_held(register: &Register, from: u16, width: u16) -> u32
 
 /// Returns the first `count` bytes of a register, each with its least significant bit first; zeros follow them.
 pub(crate) fn bytes_held(register: &Register, count: u16) -> [u8; MOST_IMAGE_BYTES]
-    requires few { count ≤ 216 }
+    requires bounded { count ≤ 216 }
     requires readable { IsReadable register.now (8 * count) }
     ensures length { length result ≡ 216 }
     ensures bytes { take count result ≡ bytes_of_bits count (values_of register.now) }

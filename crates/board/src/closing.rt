@@ -52,7 +52,7 @@ impl Board {
     /// Closes the board, given quiet ports in the order of their processes.
     fn close_in_order(self, mut ports: Vec<Port>) -> Closing
         requires ports { AreFirstPortsOf self ports.items }
-        requires some { 0 < length ports.items }
+        requires nonempty { 0 < length ports.items }
         requires all { length ports.items ≡ self.setup.processes }
         requires quiet { AreQuiet ports.items }
         ensures leaves { HeadLeaves self.setup ports.items result.image }

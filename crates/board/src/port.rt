@@ -112,7 +112,7 @@ impl Port {
     #[inline]
     pub(crate) fn turn(&mut self, board: &Board, flick: bool) -> StepOutcome
         requires board { IsOf board.now self.old }
-        requires goes { goes self.old.setup self.old.view.own ≡ true }
+        requires enabled { goes self.old.setup self.old.view.own ≡ true }
         ensures same { SamePort self.old self.new }
         ensures step { WordStep self.old.setup flick self.old.view self.new.view }
         ensures leads { LeadsTo self.old.setup result self.old.view.own self.new.view.own }

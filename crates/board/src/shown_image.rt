@@ -51,7 +51,7 @@ fn number_shown(
 ) -> u32
     requires layout { layout.now ≡ layout_of setup.now }
     requires words { (slots_len words.now.words ≡ words_in setup.now) × IsFull words.now.words }
-    requires few { count ≤ 32 }
+    requires bounded { count ≤ 32 }
     requires inside { from + count ≤ 1728 }
     requires owner { register.owner < setup.now.processes }
     requires bits { from + count ≤ width setup.now register.field }
@@ -76,7 +76,7 @@ fn bytes_of(
 ) -> [u8; MOST_IMAGE_BYTES]
     requires layout { layout.now ≡ layout_of setup.now }
     requires words { (slots_len words.now.words ≡ words_in setup.now) × IsFull words.now.words }
-    requires few { count ≤ 216 }
+    requires bounded { count ≤ 216 }
     requires owner { register.owner < setup.now.processes }
     requires bits { 8 * count ≤ width setup.now register.field }
     ensures length { length result ≡ 216 }

@@ -92,7 +92,7 @@ fn read(
     requires place { (seat.old.table_id ≡ words.now.table_id) × (word < words.now.table_id.words) }
     requires tied { (value : Bool) × IsTied words.now.key pending process.old value seat.old.me.0 }
     requires next { ReadsNext words.now.key process.old flick word }
-    requires goes { may_step process.old.doing ≡ true }
+    requires enabled { may_step process.old.doing ≡ true }
     ensures same { SameSeat seat.old seat.new }
     ensures tied { StaysTied words.now.key pending process.old process.new seat.old seat.new }
     ensures step { SeatSteps words.now.key pending flick seat.old seat.new }
@@ -118,7 +118,7 @@ fn write(
 ) -> StepOutcome
     requires place { (seat.old.table_id ≡ words.now.table_id) × (word < words.now.table_id.words) }
     requires next { WritesNext words.now.key pending process.old seat.old flick word new }
-    requires goes { may_step process.old.doing ≡ true }
+    requires enabled { may_step process.old.doing ≡ true }
     ensures same { SameSeat seat.old seat.new }
     ensures tied { WriteTies words.now.key pending flick process.old process.new seat.old seat.new }
     ensures step { SeatSteps words.now.key pending flick seat.old seat.new }
@@ -165,7 +165,7 @@ pub(crate) fn word_step(
     requires size { words.now.table_id.words ≡ words_in setup.now }
     requires key { words.now.key ≡ setup.now }
     requires tied { IsTied words.now.key pending process.old value.old seat.old.me.0 }
-    requires goes { may_step process.old.doing ≡ true }
+    requires enabled { may_step process.old.doing ≡ true }
     ensures same { SameSeat seat.old seat.new }
     ensures tied { IsTied words.now.key nothing process.new value.new seat.new.me.0 }
     ensures step { SeatSteps words.now.key pending flick seat.old seat.new }

@@ -54,7 +54,7 @@ fn table_scenario<W: Sink, L: ProgressObserver>(
     progress_observer: &mut L,
 ) -> Result<(), Fault>
     requires { W.failures output.old < 2 ^ 64 - 1 }
-    ensures ok { OnOk result (Appends (W.taken output.old) (W.taken output.new) (tabled (script scenario.now))) }
+    ensures written { OnOk result (Appends (W.taken output.old) (W.taken output.new) (tabled (script scenario.now))) }
     ensures front { WritesFront (W.taken output.old) (W.taken output.new) (tabled (script scenario.now)) }
     ensures fault { IfErr result IsWriteFault }
     ensures failures { W.failures output.new ≡ W.failures output.old + failed_write result }
@@ -74,7 +74,7 @@ fn table_scenario<W: Sink, L: ProgressObserver>(
 /// Writes the first line.
 fn write_header<W: Sink>(output: &mut W) -> Result<(), Fault>
     requires { W.failures output.old < 2 ^ 64 - 1 }
-    ensures ok { OnOk result (Appends (W.taken output.old) (W.taken output.new) header) }
+    ensures written { OnOk result (Appends (W.taken output.old) (W.taken output.new) header) }
     ensures front { WritesFront (W.taken output.old) (W.taken output.new) header }
     ensures fault { IfErr result IsWriteFault }
     ensures failures { W.failures output.new ≡ W.failures output.old + failed_write result }
@@ -91,7 +91,7 @@ fn write_open<W: Sink>(
 ) -> Result<(), Fault>
     requires writes { W.failures output.old < 2 ^ 64 - 1 }
     requires setup { table.now.setup ≡ setup.now }
-    ensures ok { OnOk result ((past : Past) → HasObserved table.now past → Appends (W.taken output.old) (W.taken output.new) (open_lines setup.now past)) }
+    ensures written { OnOk result ((past : Past) → HasObserved table.now past → Appends (W.taken output.old) (W.taken output.new) (open_lines setup.now past)) }
     ensures front { (past : Past) → HasObserved table.now past → WritesFront (W.taken output.old) (W.taken output.new) (open_lines setup.now past) }
     ensures fault { IfErr result IsWriteFault }
     ensures failures { W.failures output.new ≡ W.failures output.old + failed_write result }
@@ -111,7 +111,7 @@ fn write_open_call<W: Sink>(
 ) -> Result<(), Fault>
     requires writes { W.failures output.old < 2 ^ 64 - 1 }
     requires process { process < table.now.setup.processes }
-    ensures ok { OnOk result ((past : Past) → HasObserved table.now past → Appends (W.taken output.old) (W.taken output.new) (line_of (length past - 1) (open_call table.now.setup process past))) }
+    ensures written { OnOk result ((past : Past) → HasObserved table.now past → Appends (W.taken output.old) (W.taken output.new) (line_of (length past - 1) (open_call table.now.setup process past))) }
     ensures front { (past : Past) → HasObserved table.now past → WritesFront (W.taken output.old) (W.taken output.new) (line_of (length past - 1) (open_call table.now.setup process past)) }
     ensures fault { IfErr result IsWriteFault }
     ensures failures { W.failures output.new ≡ W.failures output.old + failed_write result }

@@ -95,7 +95,7 @@ fn observe_reported<W: Sink>(
 ) -> Result<(), Fault>
     requires writes { W.failures output.old < 2 ^ 64 - 1 }
     requires entries { table.old.entries < 2 ^ 64 - 1 }
-    ensures ok { OnOk result (Reports reported.now table.old table.new (W.taken output.old) (W.taken output.new)) }
+    ensures observed { OnOk result (Reports reported.now table.old table.new (W.taken output.old) (W.taken output.new)) }
     ensures cut { OnErr result (CutsReported reported.now table.old (W.taken output.old) (W.taken output.new)) }
     ensures setup { table.new.setup ≡ table.old.setup }
     ensures entries { table.new.entries < table.old.entries + 2 }
@@ -140,7 +140,7 @@ fn observe<W: Sink>(
     requires writes { W.failures output.old < 2 ^ 64 - 1 }
     requires entries { table.old.entries < 2 ^ 64 - 1 }
     ensures observed { (past : Past) (e : Noted) → e.process ≡ process → e.access ≡ access.now → e.marks ≡ marks.now → HasObserved table.old past → ComesInTurn table.old.setup past e known.now → HasObserved table.new (e ∷ past) }
-    ensures ok { OnOk result ((past : Past) (e : Noted) → e.process ≡ process → e.access ≡ access.now → e.marks ≡ marks.now → HasObserved table.old past → ComesInTurn table.old.setup past e known.now → Appends (W.taken output.old) (W.taken output.new) (line_of (length past) (ended_call table.old.setup past e))) }
+    ensures written { OnOk result ((past : Past) (e : Noted) → e.process ≡ process → e.access ≡ access.now → e.marks ≡ marks.now → HasObserved table.old past → ComesInTurn table.old.setup past e known.now → Appends (W.taken output.old) (W.taken output.new) (line_of (length past) (ended_call table.old.setup past e))) }
     ensures front { (past : Past) (e : Noted) → e.process ≡ process → e.access ≡ access.now → e.marks ≡ marks.now → HasObserved table.old past → ComesInTurn table.old.setup past e known.now → WritesFront (W.taken output.old) (W.taken output.new) (line_of (length past) (ended_call table.old.setup past e)) }
     ensures setup { table.new.setup ≡ table.old.setup }
     ensures entries { table.new.entries ≡ table.old.entries + 1 }
@@ -160,7 +160,7 @@ pub(crate) fn write_if<W: Sink>(
     output: &mut W,
 ) -> Result<(), Fault>
     requires { W.failures output.old < 2 ^ 64 - 1 }
-    ensures ok { OnOk result (Appends (W.taken output.old) (W.taken output.new) (line_of newest called.now)) }
+    ensures written { OnOk result (Appends (W.taken output.old) (W.taken output.new) (line_of newest called.now)) }
     ensures front { WritesFront (W.taken output.old) (W.taken output.new) (line_of newest called.now) }
     ensures fault { IfErr result IsWriteFault }
     ensures failures { W.failures output.new ≡ W.failures output.old + failed_write result }
@@ -180,7 +180,7 @@ fn write_call<W: Sink>(
     output: &mut W,
 ) -> Result<(), Fault>
     requires { W.failures output.old < 2 ^ 64 - 1 }
-    ensures ok { OnOk result (Appends (W.taken output.old) (W.taken output.new) (call_line newest called.now)) }
+    ensures written { OnOk result (Appends (W.taken output.old) (W.taken output.new) (call_line newest called.now)) }
     ensures front { WritesFront (W.taken output.old) (W.taken output.new) (call_line newest called.now) }
     ensures fault { IfErr result IsWriteFault }
     ensures failures { W.failures output.new ≡ W.failures output.old + failed_write result }

@@ -82,7 +82,7 @@ impl CallTable {
     /// `overlapped` of them end an overlapped read. The process has not failed in its call.
     #[inline(always)]
     pub fn pass(&mut self, process: u8, steps: u32, newest: Move, overlapped: u32)
-        requires some { 0 < steps }
+        requires nonzero { 0 < steps }
         requires room { self.old.entries + steps < 2 ^ 64 }
         ensures setup { self.new.setup ≡ self.old.setup }
         ensures count { self.new.entries ≡ self.old.entries + steps }
@@ -102,7 +102,7 @@ impl CallTable {
         requires { self.old.entries + steps < 2 ^ 64 }
         ensures setup { self.new.setup ≡ self.old.setup }
         ensures count { self.new.entries ≡ self.old.entries + steps }
-        ensures goes { (before : Stood) → slice_get self.old.call_states process ≡ Some before → GoesBy self.old process reads writes overlapped before self.new.call_states }
+        ensures passed { (before : Stood) → slice_get self.old.call_states process ≡ Some before → GoesBy self.old process reads writes overlapped before self.new.call_states }
     {
         let _nested: NestedTypes = None;
         let number = self.entries;
@@ -126,7 +126,7 @@ impl CallTable {
         requires { self.old.entries < 2 ^ 64 - 1 }
         ensures setup { self.new.setup ≡ self.old.setup }
         ensures count { self.new.entries ≡ self.old.entries + 1 }
-        ensures goes { (before : Stood) → slice_get self.old.call_states process ≡ Some before → GoesOn self.old process known.now access.now marks.now before result self.new.call_states }
+        ensures step { (before : Stood) → slice_get self.old.call_states process ≡ Some before → GoesOn self.old process known.now access.now marks.now before result self.new.call_states }
         ensures stray { self.old.setup.processes ≤ process → (result ≡ None) × (self.new.call_states ≡ self.old.call_states) }
     {
         let _nested: NestedTypes = None;

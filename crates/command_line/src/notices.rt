@@ -93,7 +93,7 @@ fn error_as_shown(alloc: Global, words: &[String], kind: ErrorKind) -> Result<Er
 
 /// Returns the error that was made, or the allocation failure of making it.
 pub fn reported(made: Result<Error, AllocError>) -> Error
-    ensures ok { IfOk made (λ e. result ≡ e) }
+    ensures error { IfOk made (λ e. result ≡ e) }
     ensures memory { OnErr made (kind_of result ≡ ErrorKind.OutOfMemory) }
 {
     match made {

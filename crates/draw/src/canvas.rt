@@ -146,7 +146,7 @@ impl Canvas {
         output: &mut W,
     ) -> Result<(), Fault>
         requires { W.failures output.old < 2 ^ 64 - 1 }
-        ensures ok { OnOk result (DrawsMarks self.old self.new store.old store.new
+        ensures drawn { OnOk result (DrawsMarks self.old self.new store.old store.new
             (W.taken output.old) (W.taken output.new) source at process marks.now) }
         ensures fault { IfErr result IsWriteFault }
         ensures failures { W.failures output.new ≡ W.failures output.old + failed_write result }
@@ -168,7 +168,7 @@ impl Canvas {
         output: &mut W,
     ) -> Result<(), Fault>
         requires { W.failures output.old < 2 ^ 64 - 1 }
-        ensures ok { OnOk result (DrawsMarks self.old self.new store.old store.new
+        ensures drawn { OnOk result (DrawsMarks self.old self.new store.old store.new
             (W.taken output.old) (W.taken output.new) source at process (mark.now ∷ [])) }
         ensures fault { IfErr result IsWriteFault }
         ensures failures { W.failures output.new ≡ W.failures output.old + failed_write result }
@@ -186,7 +186,7 @@ impl Canvas {
     /// Draws the overlapped reads that have ended since the last line and then a line, and writes each band that is full.
     pub fn draw<W: Sink>(&mut self, line: RunLine, output: &mut W) -> Result<(), Fault>
         requires { W.failures output.old < 2 ^ 64 - 1 }
-        ensures ok { OnOk result (DrawsLines self.old self.new (W.taken output.old) (W.taken output.new) line.source line.at (says_of line.line_content ∷ [])) }
+        ensures drawn { OnOk result (DrawsLines self.old self.new (W.taken output.old) (W.taken output.new) line.source line.at (says_of line.line_content ∷ [])) }
         ensures fault { IfErr result IsWriteFault }
         ensures failures { W.failures output.new ≡ W.failures output.old + failed_write result }
     {
@@ -198,7 +198,7 @@ impl Canvas {
     /// Draws the overlapped reads that have ended since the last line. A read is not a line.
     fn draw_reads<W: Sink>(&mut self, output: &mut W) -> Result<(), Fault>
         requires { W.failures output.old < 2 ^ 64 - 1 }
-        ensures ok { OnOk result ((mode : Mode) (s : Given) (past : Past) (reads : List Ended) → ObservesAll mode s past reads self.old.overlaps → DrawsOn (kept self.old) (kept self.new) (W.taken output.old) (W.taken output.new) (map GivesRead (shown_of mode reads)) × ObservesAll mode s past [] self.new.overlaps) }
+        ensures drawn { OnOk result ((mode : Mode) (s : Given) (past : Past) (reads : List Ended) → ObservesAll mode s past reads self.old.overlaps → DrawsOn (kept self.old) (kept self.new) (W.taken output.old) (W.taken output.new) (map GivesRead (shown_of mode reads)) × ObservesAll mode s past [] self.new.overlaps) }
         ensures fault { IfErr result IsWriteFault }
         ensures failures { W.failures output.new ≡ W.failures output.old + failed_write result }
     {
@@ -212,7 +212,7 @@ impl Canvas {
     /// Draws a read, and writes the band before it if the band has no room for the read.
     fn draw_read<W: Sink>(&mut self, read: &OverlappedRead, output: &mut W) -> Result<(), Fault>
         requires { W.failures output.old < 2 ^ 64 - 1 }
-        ensures ok { OnOk result (DrawsOn (kept self.old) (kept self.new) (W.taken output.old) (W.taken output.new) (GivesRead read.now ∷ [])) }
+        ensures drawn { OnOk result (DrawsOn (kept self.old) (kept self.new) (W.taken output.old) (W.taken output.new) (GivesRead read.now ∷ [])) }
         ensures overlaps { self.new.overlaps ≡ self.old.overlaps }
         ensures fault { IfErr result IsWriteFault }
         ensures failures { W.failures output.new ≡ W.failures output.old + failed_write result }
@@ -229,7 +229,7 @@ impl Canvas {
     /// Returns [`Fault::Write`] if a call of the sink fails, and [`Fault::Memory`] if memory is lacking.
     pub fn draw_access<W: Sink>(&mut self, access: ShownAccess, output: &mut W) -> Result<(), Fault>
         requires { W.failures output.old < 2 ^ 64 - 1 }
-        ensures ok { OnOk result (DrawsOn (kept self.old) (kept self.new)
+        ensures drawn { OnOk result (DrawsOn (kept self.old) (kept self.new)
             (W.taken output.old) (W.taken output.new) (GivesAccess (given_access access) ∷ [])) }
         ensures overlaps { self.new.overlaps ≡ self.old.overlaps }
         ensures fault { IfErr result IsWriteFault }
@@ -282,7 +282,7 @@ impl Canvas {
     /// Returns [`Fault::Write`] if a call of the sink fails, and [`Fault::Memory`] if memory is lacking.
     pub fn end<W: Sink>(&mut self, line: RunLine, reported: &[u8], output: &mut W) -> Result<u64, Fault>
         requires { W.failures output.old < 2 ^ 64 - 1 }
-        ensures ok { IfOk result (λ height. DrawsLast self.old (W.taken output.old) (W.taken output.new)
+        ensures drawn { IfOk result (λ height. DrawsLast self.old (W.taken output.old) (W.taken output.new)
             line.source line.at reported.now (says_of line.line_content) height) }
         ensures fault { IfErr result IsWriteFault }
         ensures failures { W.failures output.new ≡ W.failures output.old + failed_write result }

@@ -54,7 +54,7 @@ fn audit_scenario<W: Sink, L: ProgressObserver>(
     progress_observer: &mut L,
 ) -> Result<u8, Fault>
     requires { W.failures output.old < 2 ^ 64 - 1 }
-    ensures ok { Wrote W.taken result output.old output.new (audited (script scenario.now)) }
+    ensures written { Wrote W.taken result output.old output.new (audited (script scenario.now)) }
     ensures front { WroteFront W.taken output.old output.new (audited (script scenario.now)) }
     ensures verdict { IfOk result (λ status. ReportsVerdict (script scenario.now) status
         (W.taken output.old) (W.taken output.new)) }

@@ -49,9 +49,9 @@ impl PlainRun {
     /// Carries out a line, and returns the text that is printed.
     fn line(&mut self, alloc: Global, setup: &Setup, line: &Line) -> Result<String, AllocError>
         requires known { length self.old.counts ≡ setup.now.processes }
-        requires few { self.old.place < 2 ^ 16 - 1 }
+        requires bounded { self.old.place < 2 ^ 16 - 1 }
         ensures text { GivesText result (line_text setup.now self.old line.now) }
-        ensures ok { OnOk result (self.new ≡ run_after setup.now self.old line.now) }
+        ensures run { OnOk result (self.new ≡ run_after setup.now self.old line.now) }
     {
         match line {
             Line::Call(process, command) => self.call(alloc, setup, *process, command),
@@ -68,9 +68,9 @@ impl PlainRun {
         command: &Command,
     ) -> Result<String, AllocError>
         requires known { length self.old.counts ≡ setup.now.processes }
-        requires few { self.old.place < 2 ^ 16 - 1 }
+        requires bounded { self.old.place < 2 ^ 16 - 1 }
         ensures text { GivesText result (call_text setup.now self.old process command.now) }
-        ensures ok { OnOk result (self.new ≡ called setup.now self.old process command.now) }
+        ensures run { OnOk result (self.new ≡ called setup.now self.old process command.now) }
     {
         if process < setup.processes {
             self.apply(alloc, setup, process, command)
@@ -87,9 +87,9 @@ impl PlainRun {
         command: &Command,
     ) -> Result<String, AllocError>
         requires known { process < length self.old.counts }
-        requires few { self.old.place < 2 ^ 16 - 1 }
+        requires bounded { self.old.place < 2 ^ 16 - 1 }
         ensures text { GivesText result (applied_text setup.now self.old process command.now) }
-        ensures ok { OnOk result (self.new ≡ applied setup.now self.old process command.now) }
+        ensures run { OnOk result (self.new ≡ applied setup.now self.old process command.now) }
     {
         let caller = self.caller(setup, process);
         let reply = self.store.apply(command, caller)?;
@@ -101,7 +101,7 @@ impl PlainRun {
     /// Returns the caller of the process's next call.
     fn caller(&self, setup: &Setup, process: u8) -> Caller
         requires known { process < length self.now.counts }
-        requires few { self.now.place < 2 ^ 16 - 1 }
+        requires bounded { self.now.place < 2 ^ 16 - 1 }
         ensures { result ≡ caller_of setup.now self.now process }
     {
         let number = if setup.version == 1 {
@@ -114,7 +114,7 @@ impl PlainRun {
 
     fn count(&mut self, process: u8)
         requires known { process < length self.old.counts }
-        requires few { self.old.place < 2 ^ 16 - 1 }
+        requires bounded { self.old.place < 2 ^ 16 - 1 }
         ensures { self.new ≡ counted self.old process }
     {
         self.place += 1;

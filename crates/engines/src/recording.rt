@@ -58,7 +58,7 @@ fn record_scenario<W: Sink, L: ProgressObserver>(
     progress_observer: &mut L,
 ) -> Result<(), Fault>
     requires { W.failures output.old < 2 ^ 64 - 1 }
-    ensures ok { Wrote W.taken result output.old output.new (recorded (script scenario.now)) }
+    ensures written { Wrote W.taken result output.old output.new (recorded (script scenario.now)) }
     ensures front { WroteFront W.taken output.old output.new (recorded (script scenario.now)) }
     ensures fault { IfErr result IsWriteFault }
     ensures failures { W.failures output.new ≡ W.failures output.old + failed_write result }
@@ -145,7 +145,7 @@ impl<'a, W: Sink> RunObserver for RecordWriter<'a, W> {
 #[inline]
 fn write_step<W: Sink>(made: UnmarkedStep, printed: &mut StepLine, output: &mut W) -> Result<(), Fault>
     requires { W.failures output.old < 2 ^ 64 - 1 }
-    ensures ok { Wrote W.taken result output.old output.new (step_line made.process made.access) }
+    ensures written { Wrote W.taken result output.old output.new (step_line made.process made.access) }
     ensures front { WroteFront W.taken output.old output.new (step_line made.process made.access) }
     ensures fault { IfErr result IsWriteFault }
     ensures failures { W.failures output.new ≡ W.failures output.old + failed_write result }
@@ -167,7 +167,7 @@ fn write_entry<W: Sink>(
     output: &mut W,
 ) -> Result<(), Fault>
     requires { W.failures output.old < 2 ^ 64 - 1 }
-    ensures ok { Wrote W.taken result output.old output.new (entry_reported reported.now) }
+    ensures written { Wrote W.taken result output.old output.new (entry_reported reported.now) }
     ensures front { WroteFront W.taken output.old output.new (entry_reported reported.now) }
     ensures fault { IfErr result IsWriteFault }
     ensures failures { W.failures output.new ≡ W.failures output.old + failed_write result }
@@ -190,7 +190,7 @@ fn write_entry_line<W: Sink>(
     output: &mut W,
 ) -> Result<(), Fault>
     requires { W.failures output.old < 2 ^ 64 - 1 }
-    ensures ok { Wrote W.taken result output.old output.new (entry_line entry.now) }
+    ensures written { Wrote W.taken result output.old output.new (entry_line entry.now) }
     ensures front { WroteFront W.taken output.old output.new (entry_line entry.now) }
     ensures fault { IfErr result IsWriteFault }
     ensures failures { W.failures output.new ≡ W.failures output.old + failed_write result }
@@ -203,7 +203,7 @@ fn write_entry_line<W: Sink>(
 /// Writes bytes, unless an allocation failed for them.
 fn write_bytes<W: Sink>(output: &mut W, bytes: Result<Vec<u8>, AllocError>) -> Result<(), Fault>
     requires { W.failures output.old < 2 ^ 64 - 1 }
-    ensures ok { WroteBytes W.taken result output.old output.new bytes }
+    ensures written { WroteBytes W.taken result output.old output.new bytes }
     ensures made { OnOk result (IsOk bytes) }
     ensures front { WroteBytesFront W.taken output.old output.new bytes }
     ensures none { OnErr bytes (W.taken output.new ≡ W.taken output.old) }

@@ -55,7 +55,7 @@ fn replay_scenario<W: Sink, L: ProgressObserver>(
     progress_observer: &mut L,
 ) -> Result<Summary, Fault>
     requires { W.failures output.old < 2 ^ 64 - 1 }
-    ensures ok { Wrote W.taken result output.old output.new (replayed (script scenario.now)) }
+    ensures written { Wrote W.taken result output.old output.new (replayed (script scenario.now)) }
     ensures front { WroteFront W.taken output.old output.new (replayed (script scenario.now)) }
     ensures summary { IfOk result (IsRunSummary (script scenario.now)) }
     ensures headline { OnOk result (RunKeepsHeadline (script scenario.now)) }

@@ -71,7 +71,7 @@ fn sweep_scenario<W: Sink, L: ProgressObserver>(
     progress_observer: &mut L,
 ) -> Result<u8, Fault>
     requires { W.failures output.old < 2 ^ 64 - 1 }
-    ensures ok { Wrote W.taken result output.old output.new (swept (script scenario.now)) }
+    ensures written { Wrote W.taken result output.old output.new (swept (script scenario.now)) }
     ensures front { WroteFront W.taken output.old output.new (swept (script scenario.now)) }
     ensures swept { IfOk result (λ status. ReportsSweep (script scenario.now) status
         (W.taken output.old) (W.taken output.new)) }
@@ -107,7 +107,7 @@ fn sweep_run<L: ProgressObserver>(
 /// Returns the accepted calls of a scenario's run, in their order, and the number of its events.
 fn calls_of(alloc: Global, scenario: &Scenario) -> Result<Calls, AllocError>
     ensures calls { IfOk result (λ observed. observed.calls.items ≡ accepted_calls (script scenario.now)) }
-    ensures few { IfOk result (λ observed. length observed.calls.items ≤ 2 ^ 56) }
+    ensures bounded { IfOk result (λ observed. length observed.calls.items ≤ 2 ^ 56) }
 {
     let mut scenario_run = ScenarioRun::new(alloc, &scenario.setup)?;
     let calls = Vec::new(alloc);

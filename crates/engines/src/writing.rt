@@ -13,7 +13,7 @@ use std::alloc::{AllocError, Global};
 /// Writes the lines of a turn, before which `number` events were accepted.
 fn write_reported<W: Sink>(alloc: Global, number: u64, reported: &TurnReport, output: &mut W) -> Result<(), Fault>
     requires { W.failures output.old < 2 ^ 64 - 1 }
-    ensures ok { Wrote W.taken result output.old output.new (reported_text number reported.now) }
+    ensures written { Wrote W.taken result output.old output.new (reported_text number reported.now) }
     ensures front { WroteFront W.taken output.old output.new (reported_text number reported.now) }
     ensures fault { IfErr result IsWriteFault }
     ensures failures { W.failures output.new ≡ W.failures output.old + failed_write result }
@@ -44,7 +44,7 @@ fn write_marks<W: Sink>(
     output: &mut W,
 ) -> Result<(), Fault>
     requires { W.failures output.old < 2 ^ 64 - 1 }
-    ensures ok { Wrote W.taken result output.old output.new (mark_lines event process marks.now) }
+    ensures written { Wrote W.taken result output.old output.new (mark_lines event process marks.now) }
     ensures front { WroteFront W.taken output.old output.new (mark_lines event process marks.now) }
     ensures fault { IfErr result IsWriteFault }
     ensures failures { W.failures output.new ≡ W.failures output.old + failed_write result }
@@ -64,7 +64,7 @@ fn write_marks<W: Sink>(
 #[tactic(auto, using(scenario_run::proofs::Written::line_whole, scenario_run::proofs::Written::line_front))]
 fn write_run_line<W: Sink>(alloc: Global, line: &ReplayLine, output: &mut W) -> Result<(), Fault>
     requires { W.failures output.old < 2 ^ 64 - 1 }
-    ensures ok { Wrote W.taken result output.old output.new (with_end (line_text line.now)) }
+    ensures written { Wrote W.taken result output.old output.new (with_end (line_text line.now)) }
     ensures front { WroteFront W.taken output.old output.new (with_end (line_text line.now)) }
     ensures fault { IfErr result IsWriteFault }
     ensures failures { W.failures output.new ≡ W.failures output.old + failed_write result }
@@ -85,7 +85,7 @@ pub(crate) fn write_line<W: Sink>(
     line: Result<String, AllocError>,
 ) -> Result<(), Fault>
     requires { W.failures output.old < 2 ^ 64 - 1 }
-    ensures ok { WroteLine W.taken result output.old output.new line }
+    ensures written { WroteLine W.taken result output.old output.new line }
     ensures made { OnOk result (IsOk line) }
     ensures front { WroteLineFront W.taken output.old output.new line }
     ensures none { OnErr line (W.taken output.new ≡ W.taken output.old) }
@@ -103,7 +103,7 @@ pub(crate) fn write_end<W: Sink>(
     output: &mut W,
 ) -> Result<(), Fault>
     requires { W.failures output.old < 2 ^ 64 - 1 }
-    ensures ok { Wrote W.taken result output.old output.new (end_line summary.now) }
+    ensures written { Wrote W.taken result output.old output.new (end_line summary.now) }
     ensures front { WroteFront W.taken output.old output.new (end_line summary.now) }
     ensures fault { IfErr result IsWriteFault }
     ensures failures { W.failures output.new ≡ W.failures output.old + failed_write result }
@@ -126,7 +126,7 @@ pub(crate) fn write_turn<W: Sink>(
     requires writes { W.failures output.old < 2 ^ 64 - 1 }
     requires events { summary.old.events < 2 ^ 64 - 1 }
     requires refused { summary.old.refused < 2 ^ 64 - 1 }
-    ensures ok { Wrote W.taken result output.old output.new (text_next summary.old reported.now) }
+    ensures written { Wrote W.taken result output.old output.new (text_next summary.old reported.now) }
     ensures count { OnOk result (summary.new ≡ counted reported.now summary.old) }
     ensures front { WroteFront W.taken output.old output.new (text_next summary.old reported.now) }
     ensures fault { IfErr result IsWriteFault }

@@ -177,9 +177,9 @@ fn read_statement<T: FromLines>(
 /// lines are then unchanged.
 pub fn keep_line<T: Drop>(lines: &mut Vec<T>, line: T) -> Result<(), FaultKind>
     ensures value { Takes result (one_more lines.old.items line) lines.new.items }
-    ensures ok { OnOk result (lines.new.items ≡ lines.old.items ++ line ∷ []) }
+    ensures lines { OnOk result (lines.new.items ≡ lines.old.items ++ line ∷ []) }
     ensures err { OnErr result (lines.new.items ≡ lines.old.items) }
-    ensures few { length lines.old.items ≤ 4000 → length lines.new.items ≤ 4000 }
+    ensures bounded { length lines.old.items ≤ 4000 → length lines.new.items ≤ 4000 }
 {
     if lines.len() >= MOST_KEPT {
         return Err(FaultKind::TooLong);

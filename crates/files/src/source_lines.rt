@@ -59,7 +59,7 @@ impl Lines {
     /// Returns the number of lines that were taken, which is the number of the last one.
     pub fn taken(&self) -> u64
         ensures taken { result ≡ self.now.taken }
-        ensures few { result < 2 ^ 64 - 1 }
+        ensures bounded { result < 2 ^ 64 - 1 }
     {
         self.taken
     }

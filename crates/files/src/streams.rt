@@ -66,7 +66,7 @@ pub trait Sink {
 /// Returns the result of a call of std: an error of any kind is a failed call.
 fn counted(ended: io::Result<usize>, failures: &mut u64) -> Result<usize, Failed>
     requires { failures.old < 2 ^ 64 - 1 }
-    ensures ok { IfOk ended (λ count. result ≡ Ok count) }
+    ensures count { IfOk ended (λ count. result ≡ Ok count) }
     ensures error { OnErr ended (IsErr result) }
     ensures failures { failures.new ≡ failures.old + failed_read result }
 {
@@ -162,7 +162,7 @@ pub const INPUT_LIMIT: usize = 532_481;
 /// `Memory` if memory ran out. In both cases it has taken at most [`INPUT_LIMIT`] bytes, from the front.
 pub fn read_input<R: Source>(alloc: Global, input: &mut R) -> Result<Vec<u8>, Fault>
     requires { R.failures input.old < 2 ^ 64 - 1 }
-    ensures ok { GivesInput result (R.to_come input.old) (R.to_come input.new) }
+    ensures input { GivesInput result (R.to_come input.old) (R.to_come input.new) }
     ensures front { ReadsFront (R.to_come input.old) (R.to_come input.new) }
     ensures fault { IfErr result IsReadFault }
     ensures failures { R.failures input.new ≡ R.failures input.old + failed_reading result }
@@ -190,7 +190,7 @@ pub fn read_input<R: Source>(alloc: Global, input: &mut R) -> Result<Vec<u8>, Fa
 /// Returns [`Fault::Write`] if a call failed or took none of some bytes. Some bytes from the front were then written.
 pub fn write_all<W: Sink>(output: &mut W, bytes: &[u8]) -> Result<(), Fault>
     requires { W.failures output.old < 2 ^ 64 - 1 }
-    ensures ok { OnOk result (Appends (W.taken output.old) (W.taken output.new) bytes.now) }
+    ensures written { OnOk result (Appends (W.taken output.old) (W.taken output.new) bytes.now) }
     ensures front { WritesFront (W.taken output.old) (W.taken output.new) bytes.now }
     ensures fault { OnErr result (result ≡ Err Fault.Write) }
     ensures failures { W.failures output.new ≡ W.failures output.old + failed_writing result }

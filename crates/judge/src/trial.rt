@@ -40,7 +40,7 @@ impl<H: EntryObserver> Trial<H> {
     /// Returns the fault of the line, or [`FaultKind::Memory`] if memory runs out.
     pub fn line(&mut self, number: u64, line: &[u8]) -> Result<(), FaultKind>
         requires short { length line.now ≤ 128 }
-        requires few { count_in H.count self.old.observer < 2 ^ 64 - 1 }
+        requires bounded { count_in H.count self.old.observer < 2 ^ 64 - 1 }
         ensures { (before : Option Progress) (entries : List Noted) (numbers : List ℕ) → Stands H.HasObserved self.old.reader self.old.observer before entries numbers → LineEnds H.HasObserved result number line.now before self.new.reader self.new.observer entries numbers }
     {
         if self.observes_step(number, line)? {
@@ -59,7 +59,7 @@ impl<H: EntryObserver> Trial<H> {
         line: &[u8],
     ) -> Result<(), FaultKind>
         requires short { length line.now ≤ 128 }
-        requires few { count_in H.count self.old.observer < 2 ^ 64 - 1 }
+        requires bounded { count_in H.count self.old.observer < 2 ^ 64 - 1 }
         ensures { (before : Option Progress) (entries : List Noted) (numbers : List ℕ) →
             Stands (HasObservedFirsts limit H.HasObserved) self.old.reader self.old.observer before entries numbers →
             LineEnds (HasObservedFirsts limit H.HasObserved) result number line.now before self.new.reader self.new.observer entries numbers }
@@ -109,7 +109,7 @@ impl<H: EntryObserver> Trial<H> {
     /// whether it is. Otherwise nothing is changed.
     fn observes_step(&mut self, number: u64, line: &[u8]) -> Result<bool, AllocError>
         requires short { length line.now ≤ 128 }
-        requires few { count_in H.count self.old.observer < 2 ^ 64 - 1 }
+        requires bounded { count_in H.count self.old.observer < 2 ^ 64 - 1 }
         ensures observed { IfOk result (λ observed. observed ≡ true → (before : Option Progress) (entries : List Noted) (numbers : List ℕ) → Stands H.HasObserved self.old.reader self.old.observer before entries numbers → GoesOn H.HasObserved number line.now before self.new.reader self.new.observer entries numbers) }
         ensures same { IfOk result (λ observed. observed ≡ false → self.new ≡ self.old) }
     {
@@ -126,7 +126,7 @@ impl<H: EntryObserver> Trial<H> {
     /// Reads any line, by its words.
     fn any_line(&mut self, number: u64, line: &[u8]) -> Result<(), FaultKind>
         requires short { length line.now ≤ 128 }
-        requires few { count_in H.count self.old.observer < 2 ^ 64 - 1 }
+        requires bounded { count_in H.count self.old.observer < 2 ^ 64 - 1 }
         ensures { (before : Option Progress) (entries : List Noted) (numbers : List ℕ) → Stands H.HasObserved self.old.reader self.old.observer before entries numbers → LineEnds H.HasObserved result number line.now before self.new.reader self.new.observer entries numbers }
     {
         let _nested: NestedTypes = None;
@@ -186,8 +186,8 @@ fn observe<H: EntryObserver>(
     observer: &mut Option<H>,
 ) -> Result<(), AllocError>
     requires good { checked setup.now ≡ Ok tt }
-    requires few { count_in H.count observer.old < 2 ^ 64 - 1 }
-    ensures some { OnOk result (IsSome observer.new) }
+    requires bounded { count_in H.count observer.old < 2 ^ 64 - 1 }
+    ensures present { OnOk result (IsSome observer.new) }
     ensures observed { OnOk result ((entries : List Noted) (numbers : List ℕ) → Observes H.HasObserved observer.old setup.now entries numbers → Observes H.HasObserved observer.new setup.now (entries ++ entry.now ∷ []) (numbers ++ number ∷ [])) }
 {
     if observer.is_none() {
@@ -209,7 +209,7 @@ fn pass_entry<H: EntryObserver>(
 ) -> Result<(), AllocError>
     requires good { checked setup.now ≡ Ok tt }
     requires full { limit ≤ count_in H.count observer.old }
-    ensures some { OnOk result (IsSome observer.new) }
+    ensures present { OnOk result (IsSome observer.new) }
     ensures observed { OnOk result ((e : Noted) (number : ℕ) (entries : List Noted) (numbers : List ℕ) →
         Observes (HasObservedFirsts (Some limit) H.HasObserved) observer.old setup.now entries numbers →
         Observes (HasObservedFirsts (Some limit) H.HasObserved) observer.new setup.now (entries ++ e ∷ []) (numbers ++ number ∷ [])) }
@@ -225,7 +225,7 @@ fn pass_entry<H: EntryObserver>(
 #[inline(never)]
 fn begin<H: EntryObserver>(alloc: Global, setup: &Setup, observer: &mut Option<H>) -> Result<(), AllocError>
     requires good { checked setup.now ≡ Ok tt }
-    ensures some { OnOk result (IsSome observer.new) }
+    ensures present { OnOk result (IsSome observer.new) }
     ensures none { OnOk result (count_in H.count observer.new ≡ 0) }
     ensures observed { OnOk result (Observes H.HasObserved observer.new setup.now [] []) }
 {

@@ -8,7 +8,7 @@ ghost use Rattle.laws.specs.Writes.{WritesFitTheirRegister, WritesLeaveTheirBits
 /// that is about to end is of the value that its bit has: the bit took that value when the write began. (Lamport
 /// 1986a, with this project's failure rule.)
 pub fn registers_serve_every_access()
-    ensures there { AccessesAreThere }
+    ensures in_range { AccessesAreThere }
     ensures turn { AccessesComeInTurn }
     ensures answer { RegistersAnswerTheSafeRule }
     ensures open_reads { OpenReadsAreOfThePlace }

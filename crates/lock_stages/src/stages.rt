@@ -120,7 +120,7 @@ impl LockStages {
     /// Observes the next entry.
     pub fn take(&mut self, process: u8, accesses: bool, marks: &[LockMark])
         requires process { process < 16 }
-        requires few { self.old.entries < 2 ^ 64 - 1 }
+        requires bounded { self.old.entries < 2 ^ 64 - 1 }
         ensures processes { self.new.processes ≡ self.old.processes }
         ensures entries { self.new.entries ≡ self.old.entries + 1 }
         ensures observed { OfObserved self.old (λ past. HasObserved self.new (lock_entry process accesses marks.now ∷ past)) }

@@ -49,7 +49,7 @@ pub fn field_numbered(number: usize) -> Field
 pub fn width_of(field: Field, setup: &Setup) -> u16
     requires { checked setup.now ≡ Ok tt }
     ensures width { result ≡ width setup.now field }
-    ensures some { 1 ≤ result }
+    ensures nonzero { 1 ≤ result }
     ensures most { result ≤ 1728 }
 {
     match field {
@@ -65,7 +65,7 @@ pub fn width_of(field: Field, setup: &Setup) -> u16
 pub fn image_bytes(setup: &Setup) -> u16
     requires { checked setup.now ≡ Ok tt }
     ensures bytes { result ≡ image_bytes setup.now }
-    ensures some { 23 ≤ result }
+    ensures least { 23 ≤ result }
     ensures most { result ≤ 216 }
 {
     23 * u16::from(setup.slots) + 2 * u16::from(setup.callers())

@@ -57,7 +57,7 @@ impl Opening {
     /// Returns the number of pairs: 0 to 8, with names that differ.
     pub fn len(&self) -> usize
         ensures pairs { result ≡ length self.now }
-        ensures few { result ≤ 8 }
+        ensures bounded { result ≤ 8 }
         ensures differ { IsTrue (names_differ self.now) }
     {
         usize::from(self.len)
@@ -81,7 +81,7 @@ impl Opening {
     /// Returns [`OpenFault::Double`] if the name has a pair, and otherwise [`OpenFault::Full`] if there are 8 pairs. The
     /// opening is then unchanged.
     pub fn add(&mut self, name: Name, value: Value) -> Result<(), OpenFault>
-        ensures ok { OnOk result (self.new ≡ self.old ++ (name, value) ∷ []) }
+        ensures pairs { OnOk result (self.new ≡ self.old ++ (name, value) ∷ []) }
         ensures answer { result ≡ answer_to_add self.old name }
         ensures err { OnErr result (self.new ≡ self.old) }
     {

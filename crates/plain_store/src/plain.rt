@@ -54,7 +54,7 @@ impl PlainStore {
     }
 
     fn write(&mut self, name: Option<Name>, written: Option<Value>) -> Result<(), AllocError>
-        ensures ok { OnOk result (self.new ≡ store_written self.old name written) }
+        ensures contents { OnOk result (self.new ≡ store_written self.old name written) }
         ensures err { OnErr result (self.new ≡ self.old) }
     {
         let Some(value) = written else {

@@ -17,7 +17,7 @@ pub trait Store {
     /// unchanged.
     fn apply(&mut self, command: &Command, caller: Caller) -> Result<Reply, AllocError>
         ensures reply { IfOk result (λ r. r ≡ reply_to (contents self.old) command.now caller) }
-        ensures ok { OnOk result
+        ensures contents { OnOk result
             (contents self.new ≡ after (contents self.old) command.now caller) }
         ensures err { OnErr result (contents self.new ≡ contents self.old) };
 

@@ -43,7 +43,7 @@ pub(crate) fn newest_image(call: &ProcessCall, seen: &ValuesRead) -> (u8, Field)
     requires call { IsCall (call_of call.now) }
     requires room { HasRoom seen.now }
     ensures register { read_at (call_of call.now) (AsksImage (versions_seen call.now.setup.processes seen.now)) ≡ result }
-    ensures there { result.0 < call.now.setup.processes }
+    ensures in_range { result.0 < call.now.setup.processes }
 {
     let stamps = &seen.numbers[..usize::from(call.setup.processes)];
     let newest = place_of(greatest(stamps), stamps);

@@ -20,7 +20,7 @@ pub(crate) fn enter(called: &CallPart, cursor: &mut Cursor)
     requires call { IsCall called.now.call }
     requires going { is_over called.now.part ≡ false }
     ensures cursor { cursor.new ≡ entered called.now.call called.now.part }
-    ensures there { cursor.new.register.owner < called.now.call.setup.processes }
+    ensures in_range { cursor.new.register.owner < called.now.call.setup.processes }
 {
     let setup = called.setup();
     let process = called.process();

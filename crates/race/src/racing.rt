@@ -128,7 +128,7 @@ fn start_all<'s, E, R: Threads + Wait + Sync, G: Gate + Sync>(
     requires all { (length ports.items ≡ length plans.now) × (length ports.items ≤ 16) }
     requires new { AreNew board.now ports.items }
     requires room { HasRoom threads (vec_len ports) }
-    ensures few { vec_len result ≤ length plans.now }
+    ensures bounded { vec_len result ≤ length plans.now }
     ensures each { EachAt result.items (λ k thread. MakesFor board.now plans.now k thread.promise) }
 {
     for (number, port) in ports.into_iter().enumerate() {

@@ -54,7 +54,7 @@ impl CopiedBit {
     /// reader's copy was open at some time during the read.
     pub fn read_step(&mut self, reader: u8, run: &mut CopyRead, flick: bool) -> (Made, Progress)
         requires going { run.old.value ≡ None }
-        requires there { HasCell self.old 0 reader }
+        requires cell { HasCell self.old 0 reader }
         requires turn { (cell_at self.old 0 reader).reading ≡ run.old.begun }
         ensures made { result.0 ≡ next_read reader run.old (answer_at self.old 0 reader flick) }
         ensures row { self.new ≡ row_after self.old 0 result.0 }
@@ -79,7 +79,7 @@ impl CopiedBit {
 
     /// Drops a reader's open read, which ends without a value.
     pub fn drop_read(&mut self, reader: u8)
-        requires there { HasCell self.old 0 reader }
+        requires cell { HasCell self.old 0 reader }
         requires open { (cell_at self.old 0 reader).reading ≡ true }
         ensures { self.new ≡ without_read_at self.old 0 reader }
     {

@@ -171,9 +171,9 @@ impl Copies {
     /// Makes begin and end of a read of each of `n` bits of one word, from bit `k` on, and returns the word. If one
     /// of them is being written, it returns `None` and does nothing.
     pub fn read_word(&mut self, k: usize, n: usize) -> Option<u64>
-        requires some { 1 ≤ n }
+        requires nonzero { 1 ≤ n }
         requires word { k % 64 + n ≤ 64 }
-        requires there { k + n ≤ length self.old }
+        requires in_range { k + n ≤ length self.old }
         ensures none { IfNone result (self.new ≡ self.old) }
         ensures quiet { OnSome result ((j : ℕ) → j < n → (cell_in self.old (k + j)).writing ≡ false) }
         ensures word { IfSome result (λ word. (j : ℕ) → j < n → flag_in word ((k + j) % 64) ≡ (cell_in self.old (k + j)).value) }
@@ -191,9 +191,9 @@ impl Copies {
 
     /// Makes begin and end of a write of each of `n` bits of one word, from bit `k` on, with the bits of `word`.
     pub fn write_word(&mut self, k: usize, n: usize, word: u64)
-        requires some { 1 ≤ n }
+        requires nonzero { 1 ≤ n }
         requires word { k % 64 + n ≤ 64 }
-        requires there { k + n ≤ length self.old }
+        requires in_range { k + n ≤ length self.old }
         ensures { self.new ≡ over n (λ i c. after_write (flag_in word (i % 64)) c) k self.old }
     {
         let flags = &mut self.flags[k / 64];
@@ -215,7 +215,7 @@ impl Copies {
     pub fn is_written(&self, k: usize, n: usize) -> bool
         requires nonzero { 1 ≤ n }
         requires word { k % 64 + n ≤ 64 }
-        requires there { k + n ≤ length self.now }
+        requires in_range { k + n ≤ length self.now }
         ensures written { result ≡ true → IsWrittenAmong self.now k n }
         ensures closed { result ≡ false → AreClosedAmong self.now k n }
     {

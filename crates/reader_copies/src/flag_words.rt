@@ -40,7 +40,7 @@ pub fn choose(among: u64, ones: u64, zeros: u64) -> u64
 #[inline(always)]
 pub fn one_flag(k: usize) -> u64
     requires { k < 64 }
-    ensures there { flag_in result k ≡ true }
+    ensures set { flag_in result k ≡ true }
     ensures nowhere_else { (i : ℕ) → i ≢ k → flag_in result i ≡ false }
 {
     1 << k

@@ -97,7 +97,7 @@ impl CopiedRow {
         flick: bool,
     ) -> (Made, Progress)
         requires going { run.old.value ≡ None }
-        requires there { HasCell self.old bit reader }
+        requires cell { HasCell self.old bit reader }
         requires turn { (cell_at self.old bit reader).reading ≡ run.old.begun }
         ensures made { result.0 ≡ next_read reader run.old (answer_at self.old bit reader flick) }
         ensures row { self.new ≡ row_after self.old bit result.0 }
@@ -138,7 +138,7 @@ impl CopiedRow {
 
     /// Drops a reader's open read of a bit, which ends without a value.
     pub fn drop_read(&mut self, bit: u16, reader: u8)
-        requires there { HasCell self.old bit reader }
+        requires cell { HasCell self.old bit reader }
         requires open { (cell_at self.old bit reader).reading ≡ true }
         ensures { self.new ≡ without_read_at self.old bit reader }
     {
@@ -155,7 +155,7 @@ impl CopiedRow {
 
     /// Returns a reader's copy of a bit, while no write of that copy is open.
     pub fn value(&self, bit: u16, reader: u8) -> bool
-        requires there { HasCell self.now bit reader }
+        requires cell { HasCell self.now bit reader }
         requires closed { (cell_at self.now bit reader).writing ≡ false }
         ensures { result ≡ (cell_at self.now bit reader).value }
     {
@@ -164,7 +164,7 @@ impl CopiedRow {
 
     /// Sets all copies of a bit to `value`, while no access to it is open.
     pub fn preset(&mut self, bit: u16, value: bool)
-        requires there { (reader : ℕ) → reader < length self.old → HasCell self.old bit reader }
+        requires cells { (reader : ℕ) → reader < length self.old → HasCell self.old bit reader }
         requires closed { IsClosedBit self.old bit }
         ensures { self.new ≡ preset_row self.old bit value }
     {

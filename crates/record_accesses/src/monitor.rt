@@ -192,7 +192,7 @@ impl RecordAccessMonitor {
         access: &Access,
     ) -> Result<MonitoredBitAccess, AllocError>
         requires process { process < 16 }
-        requires there { IsThere self.old.setup access.now }
+        requires in_range { IsThere self.old.setup access.now }
         ensures setup { self.new.setup ≡ self.old.setup }
         ensures limit { self.new.limit ≡ self.old.limit }
         ensures opened { self.new.opened ≡ self.old.opened }

@@ -50,7 +50,7 @@ impl Openings {
     /// Returns an access of a process, if the process and the bit exist.
     pub fn possible(&self, process: u8, access: &Option<Access>) -> Option<Access>
         ensures access { result ≡ possible_access self.now process access.now }
-        ensures few { self.now.processes ≤ 16 }
+        ensures bounded { self.now.processes ≤ 16 }
     {
         let exists = self.has_process(process);
         match access {
@@ -62,7 +62,7 @@ impl Openings {
     /// Returns whether a process exists.
     pub fn has_process(&self, process: u8) -> bool
         ensures exists { result ≡ nat_lt process self.now.processes }
-        ensures few { self.now.processes ≤ 16 }
+        ensures bounded { self.now.processes ≤ 16 }
     {
         process < self.setup.processes
     }

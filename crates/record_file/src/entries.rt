@@ -107,7 +107,7 @@ fn with_mark(
 ) -> Result<MarkList, FaultKind>
     requires { IfOk before (λ marks. length marks ≤ number) }
     ensures value { result ≡ one_more number before mark }
-    ensures few { IfOk result (λ marks. length marks ≤ number + 1) }
+    ensures bounded { IfOk result (λ marks. length marks ≤ number + 1) }
 {
     let _nested: NestedTypes = None;
     let few = if number < MOST_MARKS {

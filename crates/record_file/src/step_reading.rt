@@ -129,7 +129,7 @@ fn few_digits(a: u8, b: u8, c: u8) -> Option<(u32, usize)>
     ensures written { IfSome result (λ read. decimal read.0 ≡ take read.1 (a ∷ b ∷ c ∷ [])) }
     ensures all { IfSome result (λ read. read.1 ≡ 3 → 100 ≤ read.0) }
     ensures small { IfSome result (λ read. read.0 < 1000) }
-    ensures few { IfSome result (λ read. read.1 ≤ 3) }
+    ensures bounded { IfSome result (λ read. read.1 ≤ 3) }
 {
     let two = goes_on(true, b);
     let three = goes_on(two, c);
@@ -156,7 +156,7 @@ fn goes_on(so_far: bool, byte: u8) -> bool
 #[inline(always)]
 fn begins(byte: u8, more: bool) -> bool
     ensures digit { result ≡ true → (48 ≤ byte) × (byte ≤ 57) }
-    ensures some { result ≡ true → more ≡ true → 48 < byte }
+    ensures nonzero { result ≡ true → more ≡ true → 48 < byte }
 {
     byte.is_ascii_digit() & (!more | (byte != b'0'))
 }
@@ -340,7 +340,7 @@ fn move_in(text: &[u8]) -> Option<Move>
 #[inline(always)]
 fn likely_move(second: u8, last: u8) -> (Move, usize, [u8; 4], [u8; 4])
     ensures words { codes " " ++ spaced (move_words result.0) ≡ result.2 ++ drop (8 - result.1) result.3 }
-    ensures few { (4 ≤ result.1) × (result.1 ≤ 8) }
+    ensures bounded { (4 ≤ result.1) × (result.1 ≤ 8) }
 {
     match (second & 5) | (last & 1) << 1 {
         0 => (Move::BeginWrite(false), 8, *b" wri", *b"te 0"),

@@ -148,7 +148,7 @@ fn field_word(field: Field) -> &'static [u8; WIDTH]
 #[inline(always)]
 fn field_count(field: Field) -> usize
     ensures count { result ≡ length (dotted_field field) }
-    ensures few { result ≤ 10 }
+    ensures bounded { result ≤ 10 }
 {
     match field {
         Field::Choosing => 10,
@@ -192,7 +192,7 @@ fn move_word(how: Move) -> &'static [u8; WIDTH]
 #[inline(always)]
 fn move_count(how: Move) -> usize
     ensures count { result ≡ length (move_text how) }
-    ensures few { result ≤ 10 }
+    ensures bounded { result ≤ 10 }
 {
     match how {
         Move::EndWrite => 4,

@@ -51,7 +51,7 @@ impl SectionSteps {
 /// Makes at most `most` steps of a section, and fewer where it comes to its end.
 fn run_section(section: &mut Section, row: &mut DataRow, most: u32, flick: bool) -> SectionSteps
     requires going { is_going section.old ≡ true }
-    requires goes { section_goes most flick (section.old, row.old) ≡ true }
+    requires runs { section_goes most flick (section.old, row.old) ≡ true }
     ensures section { section.new ≡ (section_after most flick (section.old, row.old)).0 }
     ensures row { row.new ≡ (section_after most flick (section.old, row.old)).1 }
 {

@@ -60,7 +60,7 @@ fn goes_on(progress: DoorProgress) -> bool
 /// Makes at most `most` steps of a door, and fewer where it comes to its end.
 pub fn run_door(door: &mut Door, locks: &mut Locks, most: u32, flick: bool) -> DoorSteps
     requires going { is_going door.old ≡ true }
-    requires goes { door_goes most flick (door.old, locks.old) ≡ true }
+    requires runs { door_goes most flick (door.old, locks.old) ≡ true }
     ensures door { door.new ≡ (door_after most flick (door.old, locks.old)).0 }
     ensures locks { locks.new ≡ (door_after most flick (door.old, locks.old)).1 }
 {
@@ -78,7 +78,7 @@ pub fn run_door(door: &mut Door, locks: &mut Locks, most: u32, flick: bool) -> D
 /// Makes at most `most` steps of the clearing of a ticket. Returns how many it took, or `None` if it is not done.
 pub fn run_leaving(leaving: &mut Leaving, lock: &mut Lock, most: u32) -> Option<u32>
     requires going { may_step leaving.old.doing ≡ true }
-    requires goes { leaving_goes most (leaving.old, lock.old) ≡ true }
+    requires runs { leaving_goes most (leaving.old, lock.old) ≡ true }
     ensures lock { lock.new ≡ (leaving_after most (leaving.old, lock.old)).1 }
 {
     for made in 0..most {
@@ -95,8 +95,8 @@ pub fn run_leaving(leaving: &mut Leaving, lock: &mut Lock, most: u32) -> Option<
 pub fn clear_ticket(locks: &mut Locks, process: u8, setup: &Setup) -> Option<u32>
     requires setup { checked setup.now ≡ Ok tt }
     requires process { process < setup.now.processes }
-    requires there { process < length locks.old }
-    requires goes { leaving_goes 100 (leaves setup.now process, lock_of locks.old process) ≡ true }
+    requires in_range { process < length locks.old }
+    requires runs { leaving_goes 100 (leaves setup.now process, lock_of locks.old process) ≡ true }
     ensures { locks.new ≡ after_clearing setup.now process locks.old }
 {
     let mut leaving = Leaving::new(process, setup);

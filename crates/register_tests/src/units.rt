@@ -83,7 +83,7 @@ pub fn run_unit(
     flick: bool,
 ) -> UnitSteps
     requires going { may_step unit.old.doing ≡ true }
-    requires goes { unit_goes most (settlement flick unit.old lock.old versions.old) ≡ true }
+    requires runs { unit_goes most (settlement flick unit.old lock.old versions.old) ≡ true }
     ensures lock { lock.new ≡ (unit_after most (settlement flick unit.old lock.old versions.old)).lock }
     ensures versions { versions.new ≡ (unit_after most (settlement flick unit.old lock.old versions.old)).versions }
 {
@@ -119,7 +119,7 @@ pub fn settle(
     requires locks { process < length locks.old }
     requires row { process < length row.old.parts }
     requires going { may_step unit.old.doing ≡ true }
-    requires goes { unit_goes 100 (settlement_of flick unit.old process locks.old row.old) ≡ true }
+    requires runs { unit_goes 100 (settlement_of flick unit.old process locks.old row.old) ≡ true }
     ensures locks { locks.new ≡ locks_settled flick unit.old process locks.old row.old }
     ensures row { row.new ≡ row_settled flick unit.old process locks.old row.old }
 {

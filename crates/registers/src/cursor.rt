@@ -171,7 +171,7 @@ impl Cursor {
     /// Continues the settling of a torn bit of this process from its present progress.
     pub fn settle_on(&mut self, setup: &Setup, owner: u8, torn: &TornBit)
         requires good { checked setup.now ≡ Ok tt }
-        requires there { IsTornOf setup.now torn.now }
+        requires torn { IsTornOf setup.now torn.now }
         ensures cursor { self.new ≡ settling_from setup.now owner torn.now }
         ensures value { HasItsValue torn.now.torn.begun torn.now.torn.value }
     {

@@ -5,7 +5,7 @@ ghost use Rattle.registers.specs.Laws.{CursorBegins, CursorEnds, CursorGoesOn, C
 /// reaches the next position. The next part begins with the cursor that is put at its begin.
 pub fn cursors_follow_places()
     ensures next { CursorReportsNext }
-    ensures goes { CursorGoesOn }
+    ensures advance { CursorGoesOn }
     ensures marks { CursorReportsMarks }
     ensures stays { CursorStays }
     ensures ends { CursorEnds }

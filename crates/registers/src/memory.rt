@@ -64,7 +64,7 @@ impl BitMemory {
     #[inline(always)]
     pub fn run(&mut self, cursor: &mut Cursor, flicks: &mut Flicks, steps: u32) -> AccessesMade
         requires kind { is_settling cursor.old.run ≡ false }
-        requires some { 0 < steps }
+        requires nonzero { 0 < steps }
         requires within { steps ≤ rest_of cursor.old }
         requires fits { Fits self.old cursor.old }
         ensures run { (cursor.new, self.new, flicks.new) ≡ run_of steps (cursor.old, self.old, flicks.old) }

@@ -77,7 +77,7 @@ impl SafeMonitor {
     pub fn observe(&mut self, access: &Option<Access>) -> bool
         ensures setup { self.new.setup ≡ self.old.setup }
         ensures observed { OfObserved self.old access.now (λ _ past e. HasObserved self.new (e ∷ past)) }
-        ensures there { OfObserved self.old access.now (IfThere result) }
+        ensures in_range { OfObserved self.old access.now (IfThere result) }
         ensures stray { PassesStray self.old.setup access.now result }
         ensures first { OfObserved self.old access.now (IfAllThere result) }
     {
@@ -93,7 +93,7 @@ impl SafeMonitor {
     /// Returns whether an access that is made now ends a read that a write overlapped. The result is `false` for a bit that is
     /// out of range.
     pub fn overlaps(&self, access: &Access) -> bool
-        ensures there { ReportsEndThere self.now access.now result }
+        ensures in_range { ReportsEndThere self.now access.now result }
         ensures stray { (IsThere self.now.setup access.now → ⊥) → result ≡ false }
     {
         is_there(&self.setup, access) && self.monitored_at(access).overlaps(access.how)

@@ -101,7 +101,7 @@ impl Register {
     #[inline]
     pub fn read_step(&mut self, reader: u8, run: &mut ReadRun, flick: bool) -> (u16, Made, Progress)
         requires going { length run.old.bits < run.old.width }
-        requires there { HasCell self.old (length run.old.bits) reader }
+        requires cell { HasCell self.old (length run.old.bits) reader }
         requires turn { (cell_at self.old (length run.old.bits) reader).reading ≡ run.old.begun }
         ensures bit { result.0 ≡ length run.old.bits }
         ensures made { result.1 ≡ read_made self.old reader run.old flick }
@@ -142,7 +142,7 @@ impl Register {
 
     /// Returns bit `k`, as reader 0 has it, while no write of its copy is open.
     pub fn bit(&self, k: u16) -> bool
-        requires there { HasCell self.now k 0 }
+        requires cell { HasCell self.now k 0 }
         requires closed { (cell_at self.now k 0).writing ≡ false }
         ensures { result ≡ (cell_at self.now k 0).value }
     {

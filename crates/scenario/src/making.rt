@@ -22,7 +22,7 @@ impl Scenario {
     /// Returns `AllocError` if the numbers cannot be allocated.
     pub fn new(alloc: Global, setup: Setup, lines: Vec<Line>) -> Result<Scenario, AllocError>
         requires good { checked setup ≡ Ok tt }
-        requires few { length lines.items ≤ 4000 }
+        requires bounded { length lines.items ≤ 4000 }
         requires allowed { list_all (is_line_of setup.version) lines.items ≡ true }
         ensures said { IfOk result (λ s.
             script s ≡ record { setup = setup; lines = lines.items }) }
@@ -41,7 +41,7 @@ impl Scenario {
 /// Returns `count` numbers, one after the other, from `first` on.
 fn count_from(alloc: Global, first: u16, count: usize) -> Result<Vec<u16>, AllocError>
     requires low { first ≤ 14 }
-    requires few { count ≤ 4000 }
+    requires bounded { count ≤ 4000 }
     ensures items { IfOk result (λ numbers. numbers.items ≡ numbers_from first count) }
     ensures many { IfOk result (λ numbers. length numbers.items ≡ count) }
 {

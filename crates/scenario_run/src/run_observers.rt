@@ -40,7 +40,7 @@ pub trait RunObserver {
     /// Returns the fault by which the listener stops. The relation `Stops` describes what it has then observed.
     fn observe(&mut self, reported: &TurnReport) -> Result<(), Fault>
         requires { HasRoom self.old 1 }
-        ensures ok { OnOk result (ObservesReported Observes reported.now self.old self.new) }
+        ensures observed { OnOk result (ObservesReported Observes reported.now self.old self.new) }
         ensures room { OnOk result (TakesRoom HasRoom self.old 1 self.new) }
         ensures cut { IfErr result (λ fault.
             ObservesReported (StopsBy Stops fault) reported.now self.old self.new) };
@@ -52,7 +52,7 @@ pub trait RunObserver {
     /// Returns the fault by which the listener stops. The relation `Stops` describes what it has then observed.
     fn step(&mut self, made: UnmarkedStep) -> Result<(), Fault>
         requires { HasRoom self.old 1 }
-        ensures ok { OnOk result (ObservesUnmarked Observes made self.old self.new) }
+        ensures observed { OnOk result (ObservesUnmarked Observes made self.old self.new) }
         ensures room { OnOk result (TakesRoom HasRoom self.old 1 self.new) }
         ensures cut { IfErr result (λ fault.
             ObservesUnmarked (StopsBy Stops fault) made self.old self.new) };
@@ -60,9 +60,9 @@ pub trait RunObserver {
     /// Observes `steps` Steps of this process in one call. They are within a register access of its call and have no mark.
     /// The last of them made the move `newest`, and `overlapped` of them ended a read that a write overlapped.
     fn pass(&mut self, process: u8, steps: u32, newest: Move, overlapped: u32)
-        requires some { 0 < steps }
+        requires nonzero { 0 < steps }
         requires room { HasRoom self.old steps }
-        ensures ok { observes_steps self.old ≡ false
+        ensures observed { observes_steps self.old ≡ false
             → ObservesPassing Observes process steps newest overlapped self.old self.new }
         ensures room { TakesRoom HasRoom self.old steps self.new };
 

@@ -95,14 +95,14 @@ impl ScenarioRun {
     /// Begins a line.
     fn begin(&mut self, line: &Line)
         ensures scenario_run { self.new ≡ record self.old { remaining = turns_of line.now } }
-        ensures few { self.new.remaining < 2 ^ 32 }
+        ensures bounded { self.new.remaining < 2 ^ 32 }
     {
         self.remaining = turns_in(line);
     }
 
     /// Makes the turn of a line that makes no Steps, and returns what it reports.
     fn make(&mut self, line: &Line) -> Result<Option<TurnReport>, AllocError>
-        requires few { self.old.remaining ≤ turns_of line.now }
+        requires bounded { self.old.remaining ≤ turns_of line.now }
         requires some_remaining { 0 < self.old.remaining }
         requires still { makes_steps line.now ≡ false }
         ensures remaining { IfOk result (λ reported. room_wanted reported self.new.remaining ≤ self.old.remaining) }

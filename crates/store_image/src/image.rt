@@ -256,7 +256,7 @@ impl Store for Image {
     fn apply(&mut self, command: &Command, caller: Caller) -> Result<Reply, AllocError>
         ensures never_fails { IsOk result }
         ensures reply { IfOk result (λ reply. reply ≡ reply_to self.old command.now caller) }
-        ensures ok { OnOk result (self.new ≡ after self.old command.now caller) }
+        ensures contents { OnOk result (self.new ≡ after self.old command.now caller) }
         ensures err { OnErr result (self.new ≡ self.old) }
     {
         let (place, before) = self.find(command);

@@ -19,8 +19,8 @@ pub fn slot_count(length: usize, callers: u8) -> Option<u8>
 }
 
 fn slot_at(bytes: &[u8], place: usize) -> &[u8]
-    requires few { place < 8 }
-    requires there { 23 * place + 23 ≤ length bytes.now }
+    requires bounded { place < 8 }
+    requires in_range { 23 * place + 23 ≤ length bytes.now }
     ensures slot { result.now ≡ slot_in bytes.now place }
     ensures length { length result.now ≡ SLOT_BYTES }
 {
@@ -30,8 +30,8 @@ fn slot_at(bytes: &[u8], place: usize) -> &[u8]
 
 /// Returns the number of slots before the first unused one.
 pub fn used_slots(bytes: &[u8], slots: usize) -> usize
-    requires few { slots ≤ 8 }
-    requires there { 23 * slots ≤ length bytes.now }
+    requires bounded { slots ≤ 8 }
+    requires in_range { 23 * slots ≤ length bytes.now }
     ensures { result ≡ used_in slots bytes.now }
 {
     for place in 0..slots {
@@ -44,8 +44,8 @@ pub fn used_slots(bytes: &[u8], slots: usize) -> usize
 
 /// Returns whether one of the first slots has the name.
 fn have_name(bytes: &[u8], slots: usize, name: &[u8]) -> bool
-    requires few { slots ≤ 8 }
-    requires there { 23 * slots ≤ length bytes.now }
+    requires bounded { slots ≤ 8 }
+    requires in_range { 23 * slots ≤ length bytes.now }
     ensures { result ≡ have_name (rows 23 slots bytes.now) name.now }
 {
     for place in 0..slots {
@@ -59,8 +59,8 @@ fn have_name(bytes: &[u8], slots: usize, name: &[u8]) -> bool
 /// Returns whether a slot is unused, or that of a pair after used slots with other names.
 #[tactic(auto, using(crate::proofs::SlotSearch::used_less, crate::proofs::SlotSearch::used_full), unfolding(crate::specs::Reading::follows_rules))]
 fn follows_rules(bytes: &[u8], place: usize) -> bool
-    requires few { place < 8 }
-    requires there { 23 * place + 23 ≤ length bytes.now }
+    requires bounded { place < 8 }
+    requires in_range { 23 * place + 23 ≤ length bytes.now }
     ensures { result ≡ follows_rules bytes.now place }
 {
     let slot = slot_at(bytes, place);
@@ -75,8 +75,8 @@ fn follows_rules(bytes: &[u8], place: usize) -> bool
 
 /// Returns the lowest slot that breaks a rule.
 pub fn first_bad(bytes: &[u8], slots: usize) -> Option<usize>
-    requires few { slots ≤ 8 }
-    requires there { 23 * slots ≤ length bytes.now }
+    requires bounded { slots ≤ 8 }
+    requires in_range { 23 * slots ≤ length bytes.now }
     ensures bad { IfSome result (IsFirstBad slots bytes.now) }
     ensures none { IfNone result ((k : ℕ) → k < slots → follows_rules bytes.now k ≡ true) }
 {

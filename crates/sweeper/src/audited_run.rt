@@ -117,7 +117,7 @@ impl AuditedRun {
         ensures follows { RunsOn self.old self.new (λ events. event.now ∷ events) }
         ensures accepted { Accepts self.old event.now result }
         ensures unchanged { result ≡ false → self.new ≡ self.old }
-        ensures few { due self.new ≤ due self.old + cond (is_call event.now) 16 0 }
+        ensures bounded { due self.new ≤ due self.old + cond (is_call event.now) 16 0 }
         ensures setup { self.new.core.setup ≡ self.old.core.setup }
     {
         event.command_is_sound();
@@ -140,7 +140,7 @@ impl AuditedRun {
         ensures follows { RunsOn self.old self.new (λ events. Step process value ∷ events) }
         ensures accepted { Accepts self.old (Step process value) result }
         ensures unchanged { result ≡ false → self.new ≡ self.old }
-        ensures few { due self.new ≤ due self.old }
+        ensures bounded { due self.new ≤ due self.old }
         ensures setup { self.new.core.setup ≡ self.old.core.setup }
     {
         let mut reported = StepOutcome::Nothing;
@@ -176,7 +176,7 @@ impl AuditedRun {
         requires constant { is_constant flicks.now ≡ true }
         ensures follows { RunsBy self.old self.new
             (λ s. steps_of s process (flick_of flicks.now) steps) }
-        ensures few { due self.new ≤ due self.old }
+        ensures bounded { due self.new ≤ due self.old }
         ensures setup { self.new.core.setup ≡ self.old.core.setup }
     {
         let made = self.core.run(process, &mut flicks.twin(), steps);

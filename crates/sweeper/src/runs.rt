@@ -21,7 +21,7 @@ impl AuditedRun {
     fn walk(&mut self, process: u8, value: bool, most: u32)
         requires room { due self.old + 16 < 2 ^ 64 }
         ensures follows { RunsBy self.old self.new (λ s. steps_of s process value most) }
-        ensures few { due self.new ≤ due self.old }
+        ensures bounded { due self.new ≤ due self.old }
         ensures setup { self.new.core.setup ≡ self.old.core.setup }
     {
         let flicks = Flicks::constant(value);
@@ -44,7 +44,7 @@ impl AuditedRun {
     fn cut_off(&mut self, process: u8, value: bool)
         requires room { due self.old + 16 < 2 ^ 64 }
         ensures follows { RunsBy self.old self.new (λ s. cut_off s process value) }
-        ensures few { due self.new ≤ due self.old }
+        ensures bounded { due self.new ≤ due self.old }
         ensures setup { self.new.core.setup ≡ self.old.core.setup }
     {
         self.make(&Event::Fail(process));
@@ -68,7 +68,7 @@ impl AuditedRun {
     fn round(&mut self, value: bool)
         requires room { due self.old + 16 < 2 ^ 64 }
         ensures follows { RunsBy self.old self.new (λ s. round s value) }
-        ensures few { due self.new ≤ due self.old }
+        ensures bounded { due self.new ≤ due self.old }
         ensures setup { self.new.core.setup ≡ self.old.core.setup }
     {
         for process in 0..self.processes() {
@@ -80,7 +80,7 @@ impl AuditedRun {
     fn rounds(&mut self, value: bool, most: u32)
         requires room { due self.old + 16 < 2 ^ 64 }
         ensures follows { RunsBy self.old self.new (λ s. rounds s value most) }
-        ensures few { due self.new ≤ due self.old }
+        ensures bounded { due self.new ≤ due self.old }
         ensures setup { self.new.core.setup ≡ self.old.core.setup }
     {
         let mut remaining = most;
@@ -97,7 +97,7 @@ impl AuditedRun {
     fn call(&mut self, process: u8, command: &Command, value: bool) -> bool
         requires room { due self.old + 32 < 2 ^ 64 }
         ensures run { MakesCall self.old process command.now value result self.new }
-        ensures few { due self.new ≤ due self.old + 16 }
+        ensures bounded { due self.new ≤ due self.old + 16 }
         ensures setup { self.new.core.setup ≡ self.old.core.setup }
     {
         if !self.make(&Event::Call(process, *command)) {

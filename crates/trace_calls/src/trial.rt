@@ -34,7 +34,7 @@ impl TraceListing {
     /// Reads one more line, which has this number and is not too long, and lists its entry.
     pub fn line(&mut self, number: u64, line: &[u8]) -> Result<(), FaultKind>
         requires short { length line.now ≤ 128 }
-        requires few { count_by listed_in self.old.lister < 2 ^ 64 - 1 }
+        requires bounded { count_by listed_in self.old.lister < 2 ^ 64 - 1 }
         ensures { (before : Option TraceProgress) (entries : List Entry) (numbers : List ℕ) →
             IsReadUpTo HasTabled self.old.reader self.old.lister before entries numbers →
             LineEnds HasTabled result number line.now before
@@ -82,8 +82,8 @@ fn list(
     lister: &mut Option<TraceLister>,
 ) -> Result<(), AllocError>
     requires good { is_trace_setup setup.now ≡ true }
-    requires few { count_by listed_in lister.old < 2 ^ 64 - 1 }
-    ensures some { OnOk result (IsSome lister.new) }
+    requires bounded { count_by listed_in lister.old < 2 ^ 64 - 1 }
+    ensures present { OnOk result (IsSome lister.new) }
     ensures listed { OnOk result ((number : ℕ) (entries : List Entry) (numbers : List ℕ) →
         Observes HasTabled lister.old setup.now entries numbers →
         Observes HasTabled lister.new setup.now
@@ -106,7 +106,7 @@ fn begin(
     lister: &mut Option<TraceLister>,
 ) -> Result<(), AllocError>
     requires good { is_trace_setup setup.now ≡ true }
-    ensures some { OnOk result (IsSome lister.new) }
+    ensures present { OnOk result (IsSome lister.new) }
     ensures none { OnOk result (count_by listed_in lister.new ≡ 0) }
     ensures listed { OnOk result (Observes HasTabled lister.new setup.now [] []) }
 {

@@ -45,7 +45,7 @@ impl TracePicture {
         requires writes { W.failures output.old < 2 ^ 64 - 1 }
         ensures shown { IfOk result (λ picture.
             HasShown view (W.taken output.old) (picture, W.taken output.new) setup.now [] []) }
-        ensures few { IfOk result (λ picture. count_of picture ≡ 0) }
+        ensures count { IfOk result (λ picture. count_of picture ≡ 0) }
         ensures fault { IfErr result IsWriteFault }
         ensures failures { W.failures output.new ≡ W.failures output.old + failed_write result }
     {
@@ -69,7 +69,7 @@ impl TracePicture {
         output: &mut W,
     ) -> Result<(), Fault>
         requires good { is_trace_setup setup.now ≡ true }
-        requires few { count_of self.old < 2 ^ 64 - 1 }
+        requires bounded { count_of self.old < 2 ^ 64 - 1 }
         requires writes { W.failures output.old < 2 ^ 64 - 1 }
         ensures shown { OnOk result (
             (first : Option (List ℕ)) (entries : List Entry) (numbers : List ℕ) →

@@ -43,10 +43,10 @@ impl TraceSheet {
     /// [`Fault::Memory`] if memory is lacking.
     pub fn read<W: Sink>(&mut self, number: u64, line: &[u8], output: &mut W) -> Result<(), Fault>
         requires short { length line.now ≤ 128 }
-        requires few { count_by count_of self.old.picture < 2 ^ 64 - 1 }
+        requires bounded { count_by count_of self.old.picture < 2 ^ 64 - 1 }
         requires writes { W.failures output.old < 2 ^ 64 - 1 }
         ensures view { self.new.view ≡ self.old.view }
-        ensures ok { OnOk result (DrawsLine self.old.view
+        ensures drawn { OnOk result (DrawsLine self.old.view
             self.old.reader self.old.picture (W.taken output.old)
             self.new.reader self.new.picture (W.taken output.new) number line.now) }
         ensures fault { IfErr result (λ fault. LineStops fault number (λ kind.
@@ -76,8 +76,8 @@ impl TraceSheet {
     pub fn end<W: Sink>(&mut self, output: &mut W) -> Result<Option<DrawnTrace>, Fault>
         requires { W.failures output.old < 2 ^ 64 - 1 }
         ensures none { IfOk result (λ drawn. drawn ≡ None → self.old.reader ≡ None) }
-        ensures some { IfOk result (λ drawn. IfSome drawn (λ _. IsSome self.old.reader)) }
-        ensures ok { IfOk result (λ drawn. IfSome drawn (λ d. EndsSheet self.old.view d
+        ensures present { IfOk result (λ drawn. IfSome drawn (λ _. IsSome self.old.reader)) }
+        ensures drawn { IfOk result (λ drawn. IfSome drawn (λ d. EndsSheet self.old.view d
             self.old.reader self.old.picture (W.taken output.old) (W.taken output.new))) }
         ensures fault { IfErr result IsWriteFault }
         ensures failures { W.failures output.new ≡ W.failures output.old + failed_write result }
@@ -102,9 +102,9 @@ impl TraceView {
         output: &mut W,
     ) -> Result<(), Fault>
         requires good { is_trace_setup setup.now ≡ true }
-        requires few { count_by count_of picture.old < 2 ^ 64 - 1 }
+        requires bounded { count_by count_of picture.old < 2 ^ 64 - 1 }
         requires writes { W.failures output.old < 2 ^ 64 - 1 }
-        ensures some { OnOk result (IsSome picture.new) }
+        ensures present { OnOk result (IsSome picture.new) }
         ensures drawn { OnOk result (
             (first : Option (List ℕ)) (entries : List Entry) (numbers : List ℕ) →
             NothingYet picture.old first (W.taken output.old) →

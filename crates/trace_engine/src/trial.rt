@@ -41,7 +41,7 @@ impl TraceTrial {
     /// Returns the fault of the line, or [`FaultKind::Memory`] if an allocation fails.
     pub fn line(&mut self, number: u64, line: &[u8]) -> Result<(), FaultKind>
         requires short { length line.now ≤ 128 }
-        requires few { count_in self.old.reporter < 2 ^ 64 - 1 }
+        requires bounded { count_in self.old.reporter < 2 ^ 64 - 1 }
         ensures why { self.new.why ≡ self.old.why }
         ensures ends { (before : Option TraceProgress) (entries : List Entry) (numbers : List ℕ) →
             IsReadUpTo (HasReported self.old.why) self.old.reader self.old.reporter before entries numbers →
@@ -107,8 +107,8 @@ pub fn observe(
     reporter: &mut Option<TraceReporter>,
 ) -> Result<(), AllocError>
     requires good { is_trace_setup setup.now ≡ true }
-    requires few { count_in reporter.old < 2 ^ 64 - 1 }
-    ensures some { OnOk result (IsSome reporter.new) }
+    requires bounded { count_in reporter.old < 2 ^ 64 - 1 }
+    ensures present { OnOk result (IsSome reporter.new) }
     ensures observed { OnOk result ((entries : List Entry) (numbers : List ℕ) →
         Observes (HasReported why) reporter.old setup.now entries numbers →
         Observes (HasReported why) reporter.new setup.now (entries ++ entry.now ∷ []) (numbers ++ number ∷ [])) }
@@ -132,7 +132,7 @@ fn begin(
     reporter: &mut Option<TraceReporter>,
 ) -> Result<(), AllocError>
     requires good { is_trace_setup setup.now ≡ true }
-    ensures some { OnOk result (IsSome reporter.new) }
+    ensures present { OnOk result (IsSome reporter.new) }
     ensures none { OnOk result (count_in reporter.new ≡ 0) }
     ensures observed { OnOk result (Observes (HasReported why) reporter.new setup.now [] []) }
 {

@@ -75,7 +75,7 @@ fn access_in<'l>(
     place: &[u8],
     line: &'l [u8],
 ) -> Option<(CellAccess, &'l [u8])>
-    requires few { length registers.now ≤ 64 }
+    requires bounded { length registers.now ≤ 64 }
     requires unsigned { sign place.now ≡ false }
     ensures { IfSome result (λ read. IsAccess registers.now (place.now ∷ words_of line.now) read.0 read.1.now) }
 {

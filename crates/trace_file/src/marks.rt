@@ -79,7 +79,7 @@ fn with_mark(
 ) -> Result<LockMarks, FaultKind>
     requires { IfOk before (λ marks. length marks ≤ number) }
     ensures value { result ≡ one_more number before mark }
-    ensures few { IfOk result (λ marks. length marks ≤ number + 1) }
+    ensures bounded { IfOk result (λ marks. length marks ≤ number + 1) }
 {
     let few = if number < MOST_MARKS {
         Ok(())

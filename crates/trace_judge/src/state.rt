@@ -89,7 +89,7 @@ impl TraceState {
             result ≡ refusal_of_access self.now.memory.setup past
             (trace_entry process access.now marks)) }
         ensures process { result ≡ None → process < self.now.memory.setup.processes }
-        ensures few { result ≡ None → process < 16 }
+        ensures bounded { result ≡ None → process < 16 }
         ensures cell { result ≡ None → IfSome access.now (λ a. IsTrue (has_cell self.now.memory.setup a.cell)) }
     {
         if process >= self.stages.processes() {
@@ -149,7 +149,7 @@ impl TraceState {
     pub fn take(&mut self, process: u8, access: &Option<CellAccess>, marks: &[LockMark])
         requires process { process < 16 }
         requires cell { IfSome access.now (λ a. IsTrue (has_cell self.old.memory.setup a.cell)) }
-        requires few { self.old.stages.entries < 2 ^ 64 - 1 }
+        requires bounded { self.old.stages.entries < 2 ^ 64 - 1 }
         ensures setup { self.new.memory.setup ≡ self.old.memory.setup }
         ensures entries { self.new.stages.entries ≡ self.old.stages.entries + 1 }
         ensures seen { OfSeen self.old (λ past.

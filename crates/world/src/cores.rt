@@ -155,7 +155,7 @@ impl Core {
         ensures accepted { IfOk result (CoreAdds self.old event.now effect.new) }
         ensures shows { OnOk result (CoreMakes self.old event.now effect.new self.new) }
         ensures pending { OnOk result (PendedUnlessCall event.now self.old effect.new self.new) }
-        ensures few { OnOk result (pending_with effect.new self.new ≤ length self.old.seats) }
+        ensures bounded { OnOk result (pending_with effect.new self.new ≤ length self.old.seats) }
         ensures refused { IfErr result (λ refusal. CoreRefuses self.old event.now (Some refusal)) }
         ensures never { IfErr result WantsNoMemory }
         ensures unchanged { OnErr result (self.new ≡ self.old) }
@@ -225,7 +225,7 @@ impl Core {
     #[inline]
     fn make_step(&mut self, process: u8, flick: bool, reported: &mut StepOutcome) -> AccessMade
         requires { CoreRefuses self.old (Step process flick) None }
-        ensures goes { CoreGoes self.old (Step process flick) (Steps reported.new) (Some result.access) self.new }
+        ensures step { CoreGoes self.old (Step process flick) (Steps reported.new) (Some result.access) self.new }
         ensures overlapped { CoreReportsOverlapped self.old result.access result.overlapped }
         ensures others { KeepOthers self.old.seats process self.new.seats }
     {
@@ -242,7 +242,7 @@ impl Core {
     /// few words of memory, so it is quicker than a step that may have marks.
     #[inline(always)]
     pub fn run(&mut self, process: u8, flicks: &mut Flicks, steps: u32) -> AccessesMade
-        requires some { 0 < steps }
+        requires nonzero { 0 < steps }
         requires within { steps ≤ remaining_in self.old.seats process }
         ensures runs { CoreWalks self.old flicks.old process steps result.newest result.overlapped self.new flicks.new }
         ensures fewer { remaining_in self.old.seats process ≡ remaining_in self.new.seats process + steps }

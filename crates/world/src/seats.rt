@@ -82,7 +82,7 @@ impl Seat {
         flick: bool,
         reported: &mut StepOutcome,
     ) -> AccessMade
-        requires goes { may_step self.old.process.doing ≡ true }
+        requires enabled { may_step self.old.process.doing ≡ true }
         requires registers { AreOf self.old.process.setup registers.old }
         ensures access { result.access ≡ answered_at self.old.process registers.old flick }
         ensures overlapped { result.overlapped ≡

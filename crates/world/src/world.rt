@@ -166,7 +166,7 @@ impl World {
     /// write overlapped; that number costs nothing if the caller does not use it.
     #[inline(always)]
     pub fn run(&mut self, process: u8, flicks: &mut Flicks, steps: u32) -> AccessesMade
-        requires some { 0 < steps }
+        requires nonzero { 0 < steps }
         requires within { steps ≤ remaining_in self.old.seats process }
         ensures runs { Walks self.old flicks.old process steps result.newest result.overlapped self.new flicks.new }
         ensures fewer { remaining_in self.old.seats process ≡ remaining_in self.new.seats process + steps }
@@ -256,7 +256,7 @@ fn reserve(history: &mut Vec<Taken>, core: &Core, event: &Event) -> Result<(), R
 /// Appends the command that a process takes, if it takes one, to the history, which has room for it.
 fn take(history: &mut Vec<Taken>, core: &Core, process: u8, reply: Option<Reply>)
     requires room { HasRoomToTake reply history.old }
-    requires there { process < length core.now.seats }
+    requires in_range { process < length core.now.seats }
     ensures items { history.new.items ≡ history_with history.old.items core.now process reply }
     ensures capacity { vec_capacity history.old ≤ vec_capacity history.new }
 {

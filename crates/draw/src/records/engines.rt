@@ -113,7 +113,7 @@ fn judged_page<H: Judging, R: Source, W: Sink>(
 /// Writes the end of a page.
 fn end_page<W: Sink>(alloc: Global, drawn: &DrawnEntry, output: &mut W) -> Result<(), Fault>
     requires { W.failures output.old < 2 ^ 64 - 1 }
-    ensures ok { OnOk result ((options : Options) (said : Said) (reported : List ℕ) (first : Option (List ℕ)) →
+    ensures drawn { OnOk result ((options : Options) (said : Said) (reported : List ℕ) (first : Option (List ℕ)) →
         DrawsBandsOf options form_variants.Page drawn.now first (W.taken output.old) said reported →
         DrawsAsked options form_variants.Page said reported first (W.taken output.new)) }
     ensures fault { IfErr result IsWriteFault }
@@ -209,7 +209,7 @@ fn write_picture<W: Sink>(
     output: &mut W,
 ) -> Result<(), Fault>
     requires { W.failures output.old < 2 ^ 64 - 1 }
-    ensures ok { OnOk result ((options : Options) (said : Said) (reported : List ℕ) → DrawsBandsOf options (form_variants.Picture 34) drawn.now (Some []) (Some bands.now) said reported → DrawsAsked options (form_variants.Picture 34) said reported (W.taken output.old) (W.taken output.new)) }
+    ensures drawn { OnOk result ((options : Options) (said : Said) (reported : List ℕ) → DrawsBandsOf options (form_variants.Picture 34) drawn.now (Some []) (Some bands.now) said reported → DrawsAsked options (form_variants.Picture 34) said reported (W.taken output.old) (W.taken output.new)) }
     ensures fault { IfErr result IsWriteFault }
     ensures failures { W.failures output.new ≡ W.failures output.old + failed_write result }
 {

@@ -61,11 +61,11 @@ impl RecordPicture {
     #[inline(always)]
     pub fn read<W: Sink>(&mut self, number: u64, line: &[u8], output: &mut W) -> Result<(), Fault>
         requires short { length line.now ≤ 128 }
-        requires few { entries_of self.old.entries < 2 ^ 64 - 1 }
+        requires bounded { entries_of self.old.entries < 2 ^ 64 - 1 }
         requires writes { W.failures output.old < 2 ^ 64 - 1 }
         ensures form { self.new.form ≡ self.old.form }
         ensures options { self.new.options ≡ self.old.options }
-        ensures ok { OnOk result ((before : Option Progress) (past : Past) (first : Option (List ℕ)) → Stands self.old before past first (W.taken output.old) → GoesOn (line_read line.now before) self.new past first (W.taken output.new)) }
+        ensures drawn { OnOk result ((before : Option Progress) (past : Past) (first : Option (List ℕ)) → Stands self.old before past first (W.taken output.old) → GoesOn (line_read line.now before) self.new past first (W.taken output.new)) }
         ensures fault { IfErr result (λ fault. LineStops fault number (λ kind. (before : Option Progress) → self.old.reader ≡ before → line_read line.now before ≡ Err kind)) }
         ensures failures { W.failures output.new ≡ W.failures output.old + failed_write result }
     {
@@ -84,11 +84,11 @@ impl RecordPicture {
     #[inline(never)]
     fn shown_line<W: Sink>(&mut self, number: u64, line: &[u8], output: &mut W) -> Result<(), Fault>
         requires short { length line.now ≤ 128 }
-        requires few { entries_of self.old.entries < 2 ^ 64 - 1 }
+        requires bounded { entries_of self.old.entries < 2 ^ 64 - 1 }
         requires writes { W.failures output.old < 2 ^ 64 - 1 }
         ensures form { self.new.form ≡ self.old.form }
         ensures options { self.new.options ≡ self.old.options }
-        ensures ok { OnOk result ((before : Option Progress) (past : Past) (first : Option (List ℕ)) → Stands self.old before past first (W.taken output.old) → GoesOn (line_read line.now before) self.new past first (W.taken output.new)) }
+        ensures drawn { OnOk result ((before : Option Progress) (past : Past) (first : Option (List ℕ)) → Stands self.old before past first (W.taken output.old) → GoesOn (line_read line.now before) self.new past first (W.taken output.new)) }
         ensures fault { IfErr result (λ fault. LineStops fault number (λ kind. (before : Option Progress) → self.old.reader ≡ before → line_read line.now before ≡ Err kind)) }
         ensures failures { W.failures output.new ≡ W.failures output.old + failed_write result }
     {
@@ -117,7 +117,7 @@ impl RecordPicture {
     #[inline(always)]
     fn observes_step<W: Sink>(&mut self, line: &[u8], output: &mut W) -> Result<bool, Fault>
         requires short { length line.now ≤ 128 }
-        requires few { entries_of self.old.entries < 2 ^ 64 - 1 }
+        requires bounded { entries_of self.old.entries < 2 ^ 64 - 1 }
         requires writes { W.failures output.old < 2 ^ 64 - 1 }
         ensures form { self.new.form ≡ self.old.form }
         ensures options { self.new.options ≡ self.old.options }
@@ -142,11 +142,11 @@ impl RecordPicture {
     #[inline(never)]
     fn any_line<W: Sink>(&mut self, number: u64, line: &[u8], output: &mut W) -> Result<(), Fault>
         requires short { length line.now ≤ 128 }
-        requires few { entries_of self.old.entries < 2 ^ 64 - 1 }
+        requires bounded { entries_of self.old.entries < 2 ^ 64 - 1 }
         requires writes { W.failures output.old < 2 ^ 64 - 1 }
         ensures form { self.new.form ≡ self.old.form }
         ensures options { self.new.options ≡ self.old.options }
-        ensures ok { OnOk result ((before : Option Progress) (past : Past) (first : Option (List ℕ)) → Stands self.old before past first (W.taken output.old) → GoesOn (line_read line.now before) self.new past first (W.taken output.new)) }
+        ensures drawn { OnOk result ((before : Option Progress) (past : Past) (first : Option (List ℕ)) → Stands self.old before past first (W.taken output.old) → GoesOn (line_read line.now before) self.new past first (W.taken output.new)) }
         ensures fault { IfErr result (λ fault. LineStops fault number (λ kind. (before : Option Progress) → self.old.reader ≡ before → line_read line.now before ≡ Err kind)) }
         ensures failures { W.failures output.new ≡ W.failures output.old + failed_write result }
     {
@@ -178,8 +178,8 @@ impl RecordPicture {
     pub fn end<W: Sink>(&mut self, reported: &[u8], output: &mut W) -> Result<Option<DrawnEntry>, Fault>
         requires { W.failures output.old < 2 ^ 64 - 1 }
         ensures none { IfOk result (λ drawn. drawn ≡ None → self.old.reader ≡ None) }
-        ensures ok { IfOk result (λ drawn. IfSome drawn (λ d. (p : Progress) (past : Past) (first : Option (List ℕ)) → self.old.reader ≡ Some p → Stands self.old (Some p) past first (W.taken output.old) → (d.setup ≡ p.head.setup) × EndsAsked self.old.options self.old.form p.head.setup past reported.now d.shows d.opening.items d.height first (W.taken output.new))) }
-        ensures some { IfOk result (λ drawn. IfSome drawn (λ _. IsSome self.old.reader)) }
+        ensures drawn { IfOk result (λ drawn. IfSome drawn (λ d. (p : Progress) (past : Past) (first : Option (List ℕ)) → self.old.reader ≡ Some p → Stands self.old (Some p) past first (W.taken output.old) → (d.setup ≡ p.head.setup) × EndsAsked self.old.options self.old.form p.head.setup past reported.now d.shows d.opening.items d.height first (W.taken output.new))) }
+        ensures present { IfOk result (λ drawn. IfSome drawn (λ _. IsSome self.old.reader)) }
         ensures good { IfOk result (λ drawn. IfSome drawn (λ d. checked d.setup ≡ Ok tt)) }
         ensures fault { IfErr result IsWriteFault }
         ensures failures { W.failures output.new ≡ W.failures output.old + failed_write result }

@@ -63,7 +63,7 @@ impl RecordEntries {
         output: &mut W,
     ) -> Result<(), Fault>
         requires good { checked setup.now ≡ Ok tt }
-        requires few { entries_of self.old < 2 ^ 64 - 1 }
+        requires bounded { entries_of self.old < 2 ^ 64 - 1 }
         requires writes { W.failures output.old < 2 ^ 64 - 1 }
         ensures drawn { OnOk result ((past : Past) (first : Option (List ℕ)) →
             DrawsPast around.asked around.form self.old setup.now past first (W.taken output.old) →

@@ -56,7 +56,7 @@ pub(crate) fn draw_bands<W: Sink, L: ProgressObserver>(
     progress_observer: &mut L,
 ) -> Result<DrawnRun, Fault>
     requires { W.failures output.old < 2 ^ 64 - 1 }
-    ensures ok { IfOk result (λ drawn. DrawsBands (plan_of form options.window scenario.now.setup)
+    ensures drawn { IfOk result (λ drawn. DrawsBands (plan_of form options.window scenario.now.setup)
         (W.taken output.old) (W.taken output.new)
         (run_given (full_view options) (script scenario.now)) drawn.height) }
     ensures summary { IfOk result (λ drawn. drawn.summary
@@ -85,7 +85,7 @@ fn draw_lines<W: Sink, L: ProgressObserver>(
     requires tally { tally run.old ≡ record { events = 0; taken = 0; refused = 0 } }
     requires source { run.old.drawing.source ≡ length scenario.now.setup.opening + 5 }
     requires writes { W.failures output.old < 2 ^ 64 - 1 }
-    ensures ok { IfOk result (λ drawn. (plan : WindowPlan) (view : Seen)
+    ensures drawn { IfOk result (λ drawn. (plan : WindowPlan) (view : Seen)
         → kept run.old.drawing.canvas ≡ kept_at_first plan
         → Recalls view scenario.now.setup [] run.old.drawing
         → DrawsBands plan (W.taken output.old) (W.taken output.new)

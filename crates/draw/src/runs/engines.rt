@@ -60,7 +60,7 @@ fn draw_page<W: Sink, L: ProgressObserver>(
     progress_observer: &mut L,
 ) -> Result<Summary, Fault>
     requires { W.failures output.old < 2 ^ 64 - 1 }
-    ensures ok { OnOk result (DrawsAll options form_variants.Page file.now (script scenario.now) (W.taken output.old) (W.taken output.new)) }
+    ensures drawn { OnOk result (DrawsAll options form_variants.Page file.now (script scenario.now) (W.taken output.old) (W.taken output.new)) }
     ensures summary { IfOk result (λ summary. summary ≡ summary_of scenario.now.setup (happenings (script scenario.now))) }
     ensures fault { IfErr result IsWriteFault }
     ensures failures { W.failures output.new ≡ W.failures output.old + failed_write result }
@@ -80,7 +80,7 @@ fn draw_behind<W: Sink, L: ProgressObserver>(
     progress_observer: &mut L,
 ) -> Result<Summary, Fault>
     requires { W.failures output.old < 2 ^ 64 - 1 }
-    ensures ok { OnOk result (DrawsPage options head.now (script scenario.now)
+    ensures drawn { OnOk result (DrawsPage options head.now (script scenario.now)
         (W.taken output.old) (W.taken output.new)) }
     ensures summary { IfOk result (λ summary. summary ≡ summary_of scenario.now.setup (happenings (script scenario.now))) }
     ensures fault { IfErr result IsWriteFault }
@@ -111,7 +111,7 @@ fn draw_framed<W: Sink, L: ProgressObserver>(
     progress_observer: &mut L,
 ) -> Result<Summary, Fault>
     requires { W.failures output.old < 2 ^ 64 - 1 }
-    ensures ok { OnOk result (DrawsFramed frame.now.options frame.now.form frame.now.head frame.now.end (script scenario.now) (W.taken output.old) (W.taken output.new)) }
+    ensures drawn { OnOk result (DrawsFramed frame.now.options frame.now.form frame.now.head frame.now.end (script scenario.now) (W.taken output.old) (W.taken output.new)) }
     ensures summary { IfOk result (λ summary. summary ≡ summary_of scenario.now.setup (happenings (script scenario.now))) }
     ensures fault { IfErr result IsWriteFault }
     ensures failures { W.failures output.new ≡ W.failures output.old + failed_write result }
@@ -188,7 +188,7 @@ fn draw_scenario<W: Sink, L: ProgressObserver>(
     progress_observer: &mut L,
 ) -> Result<Summary, Fault>
     requires { W.failures output.old < 2 ^ 64 - 1 }
-    ensures ok { OnOk result (DrawsAll options form file.now (script scenario.now) (W.taken output.old) (W.taken output.new)) }
+    ensures drawn { OnOk result (DrawsAll options form file.now (script scenario.now) (W.taken output.old) (W.taken output.new)) }
     ensures summary { IfOk result (λ summary. summary ≡ summary_of scenario.now.setup (happenings (script scenario.now))) }
     ensures fault { IfErr result IsWriteFault }
     ensures failures { W.failures output.new ≡ W.failures output.old + failed_write result }
@@ -210,7 +210,7 @@ fn draw_picture<W: Sink, L: ProgressObserver>(
     progress_observer: &mut L,
 ) -> Result<Summary, Fault>
     requires { W.failures output.old < 2 ^ 64 - 1 }
-    ensures ok { OnOk result (DrawsAll options (form_variants.Picture top) file.now (script scenario.now) (W.taken output.old) (W.taken output.new)) }
+    ensures drawn { OnOk result (DrawsAll options (form_variants.Picture top) file.now (script scenario.now) (W.taken output.old) (W.taken output.new)) }
     ensures summary { IfOk result (λ summary. summary ≡ summary_of scenario.now.setup (happenings (script scenario.now))) }
     ensures fault { IfErr result IsWriteFault }
     ensures failures { W.failures output.new ≡ W.failures output.old + failed_write result }

@@ -64,7 +64,7 @@ impl ReadAhead {
     #[inline(always)]
     pub fn fill<R: Source>(&mut self, input: &mut R) -> Result<bool, Fault>
         requires { R.failures input.old < 2 ^ 64 - 1 }
-        ensures some { IfOk result (λ some. some ≡ true → 0 < length self.new.given.bytes) }
+        ensures nonempty { IfOk result (λ some. some ≡ true → 0 < length self.new.given.bytes) }
         ensures stays { Waits result self.old.given (R.to_come input.old) self.new.given (R.to_come input.new) }
         ensures end { Ends result self.old.given (R.to_come input.old) self.new.given (R.to_come input.new) }
         ensures ended { IfOk result (λ some. some ≡ false → self.new.given.ended ≡ true) }

@@ -22,9 +22,9 @@ impl Process {
     /// Returns the next access of the process or of its memory unit; the end of a read has no value yet.
     #[inline]
     pub fn next(&self, flick: bool) -> Access
-        requires goes { may_step self.now.doing ≡ true }
+        requires enabled { may_step self.now.doing ≡ true }
         ensures access { result ≡ next_at self.now flick }
-        ensures there { IsThere self.now.setup result }
+        ensures in_range { IsThere self.now.setup result }
         ensures register { IsOfRegister self.now.setup self.now.process self.now.doing result }
     {
         self.cursor.next(self.work.given(flick, false))
@@ -33,7 +33,7 @@ impl Process {
     /// Advances by that access, and returns its outcome. The end of a read returns `value`.
     #[inline]
     pub fn advance(&mut self, flick: bool, value: bool) -> StepOutcome
-        requires goes { may_step self.old.doing ≡ true }
+        requires enabled { may_step self.old.doing ≡ true }
         ensures process { self.new ≡ stepped self.old flick value }
         ensures marks { marks_reported result ≡ marks_on self.old flick value }
         ensures changes { IfSome (changes_reported result) (λ changes. changes ≡ changes_read self.old.doing) }

@@ -34,7 +34,7 @@ impl Process {
     /// it ended a read that a write overlapped.
     #[inline]
     pub fn step(&mut self, memory: &mut BitMemory, flick: bool, reported: &mut StepOutcome) -> AccessMade
-        requires goes { may_step self.old.doing ≡ true }
+        requires enabled { may_step self.old.doing ≡ true }
         requires memory { AreOf self.old.setup memory.old }
         ensures access { result.access ≡ answered_at self.old memory.old flick }
         ensures overlapped { result.overlapped ≡ ends_overlapped self.old.setup.processes memory.old result.access }
@@ -52,7 +52,7 @@ impl Process {
     /// Returns the access that its next step would make on the memory by this flick. Nothing changes.
     #[inline]
     pub fn next_access(&self, memory: &BitMemory, flick: bool) -> Access
-        requires goes { may_step self.now.doing ≡ true }
+        requires enabled { may_step self.now.doing ≡ true }
         requires memory { AreOf self.now.setup memory.now }
         ensures { result ≡ answered_at self.now memory.now flick }
     {
@@ -62,7 +62,7 @@ impl Process {
     /// Returns the access that its next step would make on the memory by this flick, and its outcome. Nothing changes, and
     /// it does not allocate.
     pub fn next_step(&self, memory: &BitMemory, flick: bool) -> (Access, StepOutcome)
-        requires goes { may_step self.now.doing ≡ true }
+        requires enabled { may_step self.now.doing ≡ true }
         requires memory { AreOf self.now.setup memory.now }
         ensures access { result.0 ≡ answered_at self.now memory.now flick }
         ensures marks { marks_reported result.1 ≡ marks_on self.now flick (value_of result.0.how) }
@@ -85,7 +85,7 @@ impl Process {
     /// access, and how many of them ended a read that a write overlapped.
     #[inline(always)]
     pub fn run(&mut self, memory: &mut BitMemory, flicks: &mut Flicks, steps: u32) -> AccessesMade
-        requires some { 0 < steps }
+        requires nonzero { 0 < steps }
         requires remaining { steps ≤ remaining_at self.old }
         requires memory { AreOf self.old.setup memory.old }
         ensures steps { (self.new, memory.new, flicks.new) ≡ steps_of steps (self.old, memory.old, flicks.old) }

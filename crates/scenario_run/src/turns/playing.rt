@@ -56,7 +56,7 @@ impl ScenarioRun {
         observer: &mut L,
         progress_observer: &mut O,
     ) -> Result<Option<LineMade>, Fault>
-        requires few { length lines.now ≤ 2 ^ 32 }
+        requires bounded { length lines.now ≤ 2 ^ 32 }
         requires room { L.HasRoom observer.old (length lines.now * 2 ^ 32) }
         ensures whole { until ≡ End → OnOk result
             (PlaysLines L.Observes self.old lines.now self.new observer.old observer.new) }
@@ -89,7 +89,7 @@ impl ScenarioRun {
     /// Returns [`Fault::Memory`] if there is no memory for a turn, which is then not made, and otherwise the listener's fault.
     pub fn play<L: RunObserver>(&mut self, line: &Line, observer: &mut L) -> Result<(), Fault>
         requires { L.HasRoom observer.old (2 ^ 32) }
-        ensures ok { OnOk result
+        ensures observed { OnOk result
             (PlaysLine L.Observes self.old line.now self.new observer.old observer.new) }
         ensures runs { (run : Run) × Follows self.old run }
         ensures room { OnOk result (TakesRoom L.HasRoom observer.old (2 ^ 32) observer.new) }
@@ -116,7 +116,7 @@ impl ScenarioRun {
             events_in self.old.world.setup (part_of_line self.old.world.setup most line.now run)
             ≡ events_in self.old.world.setup run + made)) }
         ensures runs { (run : Run) × Follows self.old run }
-        ensures few { turns_of line.now < 2 ^ 32 }
+        ensures bounded { turns_of line.now < 2 ^ 32 }
         ensures turns { IfOk result (λ made. made ≤ turns_of line.now) }
         ensures room { OnOk result (TakesRoom L.HasRoom observer.old (2 ^ 32) observer.new) }
         ensures cut { IfErr result (StopsLine L.Stops self.old line.now observer.old observer.new) }
@@ -159,12 +159,12 @@ impl ScenarioRun {
         before: &mut u32,
         observer: &mut L,
     ) -> Result<Option<TurnReport>, Fault>
-        requires few { self.old.remaining ≤ turns_of line.now }
+        requires bounded { self.old.remaining ≤ turns_of line.now }
         requires floor { floor < self.old.remaining }
         requires room { L.HasRoom observer.old self.old.remaining }
         ensures remaining { IfOk result (λ reported. room_wanted reported self.new.remaining ≤ before.new) }
         ensures fewer { IfOk result (λ reported. before.new ≤ self.old.remaining) }
-        ensures ok { IfOk result (Comes L.Observes self.old line.now floor before.new
+        ensures observed { IfOk result (Comes L.Observes self.old line.now floor before.new
             self.new observer.old observer.new) }
         ensures room { IfOk result
             (LeavesRoom L.HasRoom observer.old self.old.remaining observer.new self.new.remaining) }

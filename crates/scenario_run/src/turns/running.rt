@@ -35,7 +35,7 @@ impl ScenarioRun {
         ensures fewer { IfOk result (λ reported. before.new ≤ self.old.remaining) }
         ensures ended { IfOk result (λ reported. reported ≡ None → self.new.remaining ≡ floor) }
         ensures floor { IfOk result (λ reported. reported ≡ None → before.new ≡ floor) }
-        ensures ok { IfOk result (RunsAlone L.Observes self.old process floor before.new
+        ensures observed { IfOk result (RunsAlone L.Observes self.old process floor before.new
             self.new observer.old observer.new) }
         ensures room { IfOk result
             (LeavesRoom L.HasRoom observer.old self.old.remaining observer.new self.new.remaining) }
@@ -85,12 +85,12 @@ impl ScenarioRun {
         before: &mut u32,
         observer: &mut L,
     ) -> Result<Option<TurnReport>, Fault>
-        requires few { self.old.remaining ≤ turns_in (GoLine process target) }
+        requires bounded { self.old.remaining ≤ turns_in (GoLine process target) }
         requires floor { floor < self.old.remaining }
         requires room { L.HasRoom observer.old self.old.remaining }
         ensures remaining { IfOk result (λ reported. room_wanted reported self.new.remaining ≤ before.new) }
         ensures fewer { IfOk result (λ reported. before.new ≤ self.old.remaining) }
-        ensures ok { IfOk result (Comes L.Observes self.old (GoLine process target) floor before.new
+        ensures observed { IfOk result (Comes L.Observes self.old (GoLine process target) floor before.new
             self.new observer.old observer.new) }
         ensures room { IfOk result
             (LeavesRoom L.HasRoom observer.old self.old.remaining observer.new self.new.remaining) }
@@ -136,7 +136,7 @@ impl ScenarioRun {
         requires room { L.HasRoom observer.old self.old.remaining }
         ensures remaining { IfOk result (λ reported. room_wanted reported self.new.remaining ≤ before.new) }
         ensures fewer { IfOk result (λ reported. before.new ≤ self.old.remaining) }
-        ensures ok { IfOk result (λ reported. (steps : ℕ) →
+        ensures observed { IfOk result (λ reported. (steps : ℕ) →
             Comes L.Observes self.old (WanderLine steps) floor before.new self.new
             observer.old observer.new reported) }
         ensures room { IfOk result
@@ -194,7 +194,7 @@ impl ScenarioRun {
     fn enabled(&self) -> SmallVec<u8, 16>
         ensures enabled { InItsRun self.now (λ run.
             result.items ≡ enabled self.now.world.setup (past_in self.now.world.setup run)) }
-        ensures few { length result.items ≤ 16 }
+        ensures bounded { length result.items ≤ 16 }
     {
         let mut enabled = SmallVec::new(self.alloc);
         for process in 0..self.processes {

@@ -30,9 +30,9 @@ pub(super) fn pass_by<L: RunObserver>(
 )
     requires floor { floor ≤ remaining.old }
     requires room { L.HasRoom observer.old remaining.old }
-    requires some { 0 < known.old }
+    requires nonzero { 0 < known.old }
     requires known { known.old ≤ remaining_in world.old.seats process + 1 }
-    ensures some { 0 < known.new }
+    ensures nonzero { 0 < known.new }
     ensures known { known.new ≤ remaining_in world.new.seats process + 1 }
     ensures fewer { remaining.new ≤ remaining.old }
     ensures floor { floor ≤ remaining.new }
@@ -69,13 +69,13 @@ pub(super) fn turn_step<L: RunObserver>(
 ) -> bool
     requires none { outcome.old ≡ Ok None }
     requires room { L.HasRoom observer.old 1 }
-    requires some { 0 < known.old }
+    requires nonzero { 0 < known.old }
     requires known { known.old ≤ remaining_in world.old.seats process + 1 }
-    ensures some { 0 < known.new }
+    ensures nonzero { 0 < known.new }
     ensures known { known.new ≤ remaining_in world.new.seats process + 1 }
     ensures after { flicks.new ≡ after_flick flicks.old }
     ensures quiet { result ≡ true → outcome.new ≡ Ok None }
-    ensures ok { IfOk outcome.new (λ reported. MakesStep L.Observes world.old process
+    ensures observed { IfOk outcome.new (λ reported. MakesStep L.Observes world.old process
         (flick_of flicks.old) reported world.new observer.old observer.new) }
     ensures room { IfOk outcome.new (λ reported. LeavesRoom L.HasRoom observer.old 1 observer.new 0 reported) }
     ensures cut { IfErr outcome.new (λ fault. ObservesStep (StopsBy L.Stops fault) world.old process
@@ -109,7 +109,7 @@ pub(super) fn turn_step<L: RunObserver>(
 #[inline]
 pub(super) fn goes_on(outcome: &Result<Option<TurnReport>, Fault>) -> bool
     ensures none { result ≡ true → outcome.now ≡ Ok None }
-    ensures some { result ≡ false → outcome.now ≡ Ok None → ⊥ }
+    ensures outcome { result ≡ false → outcome.now ≡ Ok None → ⊥ }
 {
     matches!(outcome, Ok(None))
 }
@@ -118,9 +118,9 @@ pub(super) fn goes_on(outcome: &Result<Option<TurnReport>, Fault>) -> bool
 /// is asked only if none is known to be; otherwise `known` is counted down in place.
 #[inline(always)]
 pub(super) fn is_quiet(world: &World, known: &mut u32, process: u8) -> bool
-    requires some { 0 < known.old }
+    requires nonzero { 0 < known.old }
     requires known { known.old ≤ remaining_in world.now.seats process + 1 }
-    ensures some { 0 < known.new }
+    ensures nonzero { 0 < known.new }
     ensures within { result ≡ true → known.new ≤ remaining_in world.now.seats process }
     ensures none { result ≡ false → known.new ≡ 1 }
 {
@@ -143,7 +143,7 @@ pub(super) fn any_step<L: RunObserver>(
     observer: &mut L,
 ) -> Result<Option<TurnReport>, Fault>
     requires { L.HasRoom observer.old 1 }
-    ensures ok { IfOk result (λ reported. MakesStep L.Observes world.old process flick reported
+    ensures observed { IfOk result (λ reported. MakesStep L.Observes world.old process flick reported
         world.new observer.old observer.new) }
     ensures room { IfOk result (λ reported. LeavesRoom L.HasRoom observer.old 1 observer.new 0 reported) }
     ensures cut { IfErr result (λ fault.
@@ -171,7 +171,7 @@ pub(super) fn any_step<L: RunObserver>(
 /// Returns the access of a Step that was made, if the Step has no mark.
 #[inline]
 fn unmarked(stepped: &Result<AccessMade, Refusal>, leads: &StepOutcome) -> Option<AccessMade>
-    ensures some { IfSome result (λ made. (stepped.now ≡ Ok made) × (leads.now ≡ Nothing)) }
+    ensures step { IfSome result (λ made. (stepped.now ≡ Ok made) × (leads.now ≡ Nothing)) }
     ensures none { result ≡ None → (made : MadeSeen) → stepped.now ≡ Ok made → leads.now ≡ Nothing → ⊥ }
 {
     let _nested: NestedTypes = None;

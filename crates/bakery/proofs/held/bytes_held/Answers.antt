@@ -14,7 +14,7 @@ loop-k-preserved c =
     let values = values_of c.args.register.now in
     let byte : ℕ = c.number_held.result in (
       ap (λ i. take (l.k + 1) (set l.bytes i byte)) c.from.ensures
-          ∙ take_more_set l.bytes l.k byte (omega (arith, l.invariant.1, c.loop-k-test.true, c.requires.few))
+          ∙ take_more_set l.bytes l.k byte (omega (arith, l.invariant.1, c.loop-k-test.true, c.requires.bounded))
           ∙ ap (λ xs. xs ++ byte ∷ []) l.invariant.0
           ∙ ap (λ b. bytes_of_bits l.k values ++ b ∷ []) c.number_held.ensures
           ∙ sym (bytes-more l.k values),

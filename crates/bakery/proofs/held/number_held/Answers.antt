@@ -4,20 +4,20 @@ use Rattle.bakery.specs.{values_of}
 use Rattle.bakery.proofs.Holdings.{number-more, number-below, byte-is, byte-below}
 use Rattle.bakery.proofs.held.number_held.Goals as goal
 
-pub bit-requires-clause-there : goal.bit-requires-clause-there
-bit-requires-clause-there c = record { reader_in = c.requires.readable.reader; bit_in = omega (arith, c.requires.readable.wide) }
+pub bit-requires-clause-cell : goal.bit-requires-clause-cell
+bit-requires-clause-cell c = record { reader_in = c.requires.readable.reader; bit_in = omega (arith, c.requires.readable.wide) }
 
 pub overflow_mul-number : goal.overflow_mul-number
 overflow_mul-number c =
     let l = c.loop-done in
     let below = number-below (drop (c.args.from + (c.args.width - l.done)) (values_of c.args.register.now)) l.done in
-    omega (arith, below, l.invariant, c.loop-done-test.true, c.requires.few, pow_mono {i = l.done} {j = 31} (omega (arith, c.loop-done-test.true, c.requires.few)))
+    omega (arith, below, l.invariant, c.loop-done-test.true, c.requires.bounded, pow_mono {i = l.done} {j = 31} (omega (arith, c.loop-done-test.true, c.requires.bounded)))
 
 pub overflow_add-number : goal.overflow_add-number
 overflow_add-number c =
     let l = c.loop-done in
     let below = number-below (drop (c.args.from + (c.args.width - l.done)) (values_of c.args.register.now)) l.done in
-    omega (arith, below, l.invariant, c.from.ensures, byte-below c.bit.result, c.loop-done-test.true, c.requires.few, pow_mono {i = l.done} {j = 31} (omega (arith, c.loop-done-test.true, c.requires.few)))
+    omega (arith, below, l.invariant, c.from.ensures, byte-below c.bit.result, c.loop-done-test.true, c.requires.bounded, pow_mono {i = l.done} {j = 31} (omega (arith, c.loop-done-test.true, c.requires.bounded)))
 
 pub loop-done-preserved : goal.loop-done-preserved
 loop-done-preserved c =

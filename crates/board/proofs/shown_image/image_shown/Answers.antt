@@ -39,7 +39,7 @@ bytes_of-bytes-requires c =
     record {
       layout = c.of-layout.ensures;
       words = c.requires.words;
-      few = c.image_bytes-count.ensures.most;
+      bounded = c.image_bytes-count.ensures.most;
       owner = subst (λ (r : RegisterName). r.owner < s.processes) (sym c.image.ensures) inside;
       bits = omega (arith, wide, c.image_bytes-count.ensures.bytes);
     }

@@ -8,13 +8,13 @@ pub overflow_mul-number : goal.overflow_mul-number
 overflow_mul-number c =
     let l = c.loop-done in
     let below = number-below (drop (c.args.from + (c.args.count - l.done)) (bits_shown c.args.setup.now c.args.words.now.words.items c.args.register.owner c.args.register.field)) l.done in
-    omega (arith, below, l.invariant, c.loop-done-test.true, c.requires.few, pow_mono {i = l.done} {j = 31} (omega (arith, c.loop-done-test.true, c.requires.few)))
+    omega (arith, below, l.invariant, c.loop-done-test.true, c.requires.bounded, pow_mono {i = l.done} {j = 31} (omega (arith, c.loop-done-test.true, c.requires.bounded)))
 
 pub overflow_add-number : goal.overflow_add-number
 overflow_add-number c =
     let l = c.loop-done in
     let below = number-below (drop (c.args.from + (c.args.count - l.done)) (bits_shown c.args.setup.now c.args.words.now.words.items c.args.register.owner c.args.register.field)) l.done in
-    omega (arith, below, l.invariant, c.from.ensures, byte-small c.bit_shown-bit.result, c.loop-done-test.true, c.requires.few, pow_mono {i = l.done} {j = 31} (omega (arith, c.loop-done-test.true, c.requires.few)))
+    omega (arith, below, l.invariant, c.from.ensures, byte-small c.bit_shown-bit.result, c.loop-done-test.true, c.requires.bounded, pow_mono {i = l.done} {j = 31} (omega (arith, c.loop-done-test.true, c.requires.bounded)))
 
 pub loop-done-preserved : goal.loop-done-preserved
 loop-done-preserved c =

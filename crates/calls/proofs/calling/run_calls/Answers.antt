@@ -11,9 +11,9 @@ use Rattle.calls.proofs.calling.run_calls.Goals as goal
 pub returns-in_err-scenario-clause-ran : goal.returns-in_err-scenario-clause-ran
 returns-in_err-scenario-clause-ran g c =
     ran_to_line scenario_of tabled scenario_reports_at_limit (ended c.from_residual-in_err-scenario.result) c.in_err-scenario.field-0.0 c.in_ok-file.file.items _ _
-    (ended_err c.from_residual-in_err-scenario.result (λ reported. reported ≡ Line c.in_err-scenario.field-0.0) c.from_residual-in_err-scenario.ensures.1) c.in_ok-file.ensures.ok (rw c.as_slice.ensures.value at c.in_err-scenario.ensures.said) (kept _)
+    (ended_err c.from_residual-in_err-scenario.result (λ reported. reported ≡ Line c.in_err-scenario.field-0.0) c.from_residual-in_err-scenario.ensures.1) c.in_ok-file.ensures.input (rw c.as_slice.ensures.value at c.in_err-scenario.ensures.said) (kept _)
 
 pub returns-clause-ran : goal.returns-clause-ran
 returns-clause-ran g c =
     engine_ran tabled c.table_scenario.result c.in_ok-file.file.items (script c.in_ok-scenario.scenario) _ _
-    c.in_ok-file.ensures.ok (rw c.as_slice.ensures.value at c.in_ok-scenario.ensures.said) c.table_scenario.ensures.ok c.table_scenario.ensures.front c.table_scenario.ensures.fault c.table_scenario.ensures.failures
+    c.in_ok-file.ensures.input (rw c.as_slice.ensures.value at c.in_ok-scenario.ensures.said) c.table_scenario.ensures.written c.table_scenario.ensures.front c.table_scenario.ensures.fault c.table_scenario.ensures.failures

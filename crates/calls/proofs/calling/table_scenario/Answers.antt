@@ -17,7 +17,7 @@ returns-in_err-play_all-clause-front g c =
     let same : said ≡ script c.args.scenario.now = λ i. record { setup = c.in_ok-scenario_run.ensures.setup i; lines = c.args.scenario.now.lines.items } in
     let cut = c.in_err-play_all.ensures.cut run_at_start c.in_ok-scenario_run.ensures.follows in
     let part = cut.1.part (nothing_tabled said.setup c.in_ok-table.table (c.in_ok-table.ensures.setup ∙ sym c.in_ok-scenario_run.ensures.setup) c.in_ok-table.ensures.observed) in
-    let front : WritesFront (g.W.Sink.taken c.args.output.now) (g.W.Sink.taken c.play_all.new.observer.output.now) (tabled said) = table_cut said _ _ _ c.in_ok-write_header.ensures.ok part in
+    let front : WritesFront (g.W.Sink.taken c.args.output.now) (g.W.Sink.taken c.play_all.new.observer.output.now) (tabled said) = table_cut said _ _ _ c.in_ok-write_header.ensures.written part in
     subst (λ w. WritesFront (g.W.Sink.taken c.args.output.now) (g.W.Sink.taken w) (tabled (script c.args.scenario.now))) (sym (c.output-1.given.1 (sym cut.0)))
     (subst (λ said. WritesFront (g.W.Sink.taken c.args.output.now) (g.W.Sink.taken c.play_all.new.observer.output.now) (tabled said)) same front)
 
@@ -43,15 +43,15 @@ write_open-requires-clause-setup g c =
     let had = nothing_tabled c.in_ok-scenario_run.scenario_run.world.setup c.in_ok-table.table (c.in_ok-table.ensures.setup ∙ sym c.in_ok-scenario_run.ensures.setup) c.in_ok-table.ensures.observed in
     ap (λ (t : TableState). t.setup) (c.table-3-1.given.1 (sym plays.observes.1)) ∙ (plays.observes.2 had).setup ∙ c.in_ok-scenario_run.ensures.setup
 
-pub returns-clause-ok : goal.returns-clause-ok
-returns-clause-ok g c =
+pub returns-clause-written : goal.returns-clause-written
+returns-clause-written g c =
     let was : Script = record { setup = c.in_ok-scenario_run.scenario_run.world.setup; lines = c.args.scenario.now.lines.items } in
     let said : Script = script c.args.scenario.now in
     let same : was ≡ said = λ i. record { setup = c.in_ok-scenario_run.ensures.setup i; lines = c.args.scenario.now.lines.items } in
     let plays = c.in_ok-play_all.ensures.whole refl run_at_start c.in_ok-scenario_run.ensures.follows in
     let had = nothing_tabled was.setup c.in_ok-table.table (c.in_ok-table.ensures.setup ∙ sym c.in_ok-scenario_run.ensures.setup) c.in_ok-table.ensures.observed in
     let all = all_tabled {was = was} {said = said} same (c.table-3-1.given.1 (sym plays.observes.1)) (ap g.W.Sink.taken (c.output-1.given.1 (sym plays.observes.0))) (plays.observes.2 had) (plays.observes.3.writes had) in
-    ok_then c.write_open.result (λ ends. table_written said _ _ _ _ c.in_ok-write_header.ensures.ok all.1 (ends _ all.0.observed)) c.write_open.ensures.ok
+    ok_then c.write_open.result (λ ends. table_written said _ _ _ _ c.in_ok-write_header.ensures.written all.1 (ends _ all.0.observed)) c.write_open.ensures.written
 
 pub returns-clause-front : goal.returns-clause-front
 returns-clause-front g c =
@@ -61,7 +61,7 @@ returns-clause-front g c =
     let plays = c.in_ok-play_all.ensures.whole refl run_at_start c.in_ok-scenario_run.ensures.follows in
     let had = nothing_tabled was.setup c.in_ok-table.table (c.in_ok-table.ensures.setup ∙ sym c.in_ok-scenario_run.ensures.setup) c.in_ok-table.ensures.observed in
     let all = all_tabled {was = was} {said = said} same (c.table-3-1.given.1 (sym plays.observes.1)) (ap g.W.Sink.taken (c.output-1.given.1 (sym plays.observes.0))) (plays.observes.2 had) (plays.observes.3.writes had) in
-    open_cut said _ _ _ _ c.in_ok-write_header.ensures.ok all.1 (c.write_open.ensures.front _ all.0.observed)
+    open_cut said _ _ _ _ c.in_ok-write_header.ensures.written all.1 (c.write_open.ensures.front _ all.0.observed)
 
 pub returns-clause-failures : goal.returns-clause-failures
 returns-clause-failures g c =

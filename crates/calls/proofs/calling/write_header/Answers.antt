@@ -5,10 +5,10 @@ use Rattle.scenario.specs.files.{WritesFront}
 use Rattle.calls.specs.{header}
 use Rattle.calls.proofs.calling.write_header.Goals as goal
 
-pub returns-clause-ok : goal.returns-clause-ok
-returns-clause-ok g c =
+pub returns-clause-written : goal.returns-clause-written
+returns-clause-written g c =
     let text : c.as_bytes.result.now ≡ header = c.as_bytes.ensures.value in
-    subst (λ l. OnOk c.write_all.result (Appends (g.W.Sink.taken c.args.output.now) (g.W.Sink.taken c.write_all.new.output) l)) text c.write_all.ensures.ok
+    subst (λ l. OnOk c.write_all.result (Appends (g.W.Sink.taken c.args.output.now) (g.W.Sink.taken c.write_all.new.output) l)) text c.write_all.ensures.written
 
 pub returns-clause-front : goal.returns-clause-front
 returns-clause-front g c =

@@ -31,7 +31,7 @@ loop-process-preserved g c =
           let f : ℕ → List ℕ = λ p. line_of (length past - 1) (open_call c.args.setup.now p past) in
           let here : Appends (g.W.Sink.taken c.loop-process.output) (g.W.Sink.taken c.write_open_call.new.output) (f k) =
           subst (λ (s : Setup). Appends (g.W.Sink.taken c.loop-process.output) (g.W.Sink.taken c.write_open_call.new.output) (line_of (length past - 1) (open_call s k past))) c.requires.setup
-          (c.in_ok-write_open_call.ensures.ok past h) in
+          (c.in_ok-write_open_call.ensures.written past h) in
           subst (λ l. Appends (g.W.Sink.taken c.args.output.now) (g.W.Sink.taken c.write_open_call.new.output) l) (sym (lines_more f k))
           (appends_both _ _ _ (flat_map f (range_with_len 0 k)) (f k) (c.loop-process.invariant.written past h) here);
       whole = omega (arith, c.in_ok-write_open_call.ensures.failures, c.loop-process.invariant.whole);
@@ -53,11 +53,11 @@ returns-in_err-write_open_call-clause-front g c = λ past h.
     (front_longer _ _ (flat_map f (range_with_len 0 k) ++ f k) rest.0
     (front_after _ _ _ (flat_map f (range_with_len 0 k)) (f k) (c.loop-process.invariant.written past h) here))
 
-pub returns-clause-ok : goal.returns-clause-ok
-returns-clause-ok g c = λ past h.
+pub returns-clause-written : goal.returns-clause-written
+returns-clause-written g c = λ past h.
     let all : c.loop-process.process ≡ c.args.setup.now.processes = omega (arith, c.loop-process-test.false, c.loop-process.auto.process-end) in
     let f : ℕ → List ℕ = λ p. line_of (length past - 1) (open_call c.args.setup.now p past) in
     subst (λ n. Appends (g.W.Sink.taken c.args.output.now) (g.W.Sink.taken c.loop-process.output) (flat_map f (range_with_len 0 n))) all (c.loop-process.invariant.written past h)
 
 pub returns-clause-front : goal.returns-clause-front
-returns-clause-front g c = λ past h. front_all _ _ (open_lines c.args.setup.now past) (returns-clause-ok g c past h)
+returns-clause-front g c = λ past h. front_all _ _ (open_lines c.args.setup.now past) (returns-clause-written g c past h)

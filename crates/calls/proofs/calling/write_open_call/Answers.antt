@@ -5,13 +5,13 @@ use Rattle.calls.specs.{line_of, open_call}
 use Rattle.scenario_run.proofs.Written.{ok_then}
 use Rattle.calls.proofs.calling.write_open_call.Goals as goal
 
-pub returns-clause-ok : goal.returns-clause-ok
-returns-clause-ok g c = ok_then c.write_if.result
+pub returns-clause-written : goal.returns-clause-written
+returns-clause-written g c = ok_then c.write_if.result
     (λ wrote past h.
     let newest = c.newest-last.ensures ∙ ap (λ n. n - 1) h.entries in
     let same : line_of c.newest-last.result c.open_call-called.result ≡ line_of (length past - 1) (open_call c.args.table.now.setup c.args.process past) = λ i. line_of (newest i) (c.open_call-called.ensures past h i) in
     subst (λ l. Appends (g.W.Sink.taken c.args.output.now) (g.W.Sink.taken c.write_if.new.output) l) same wrote)
-    c.write_if.ensures.ok
+    c.write_if.ensures.written
 
 pub returns-clause-front : goal.returns-clause-front
 returns-clause-front g c = λ past h.

@@ -14,15 +14,15 @@ returns-in_err-write_line-clause-front g c =
     let is : verdict_line law_text c.in_ok-audited.audited.entries c.in_ok-audited.audited.verdict ≡ text = λ i. verdict_line law_text (reported.entries i) (reported.good i) in
     line_front string_bytes (g.W.Sink.taken c.args.output.now) (g.W.Sink.taken c.write_line.new.output) c.verdict_line.result text (ok_along string_bytes c.verdict_line.result _ text c.verdict_line.ensures is) c.in_err-write_line.ensures.front c.in_err-write_line.ensures.none
 
-pub returns-clause-ok : goal.returns-clause-ok
-returns-clause-ok g c =
+pub returns-clause-written : goal.returns-clause-written
+returns-clause-written g c =
     let text = audited (script c.args.scenario.now) in
     let reported = c.in_ok-audited.ensures in
     let is : verdict_line law_text c.in_ok-audited.audited.entries c.in_ok-audited.audited.verdict ≡ text = λ i. verdict_line law_text (reported.entries i) (reported.good i) in
-    line_whole string_bytes (g.W.Sink.taken c.args.output.now) (g.W.Sink.taken c.write_line.new.output) c.verdict_line.result text (ok_along string_bytes c.verdict_line.result _ text c.verdict_line.ensures is) c.in_ok-write_line.ensures.made c.in_ok-write_line.ensures.ok
+    line_whole string_bytes (g.W.Sink.taken c.args.output.now) (g.W.Sink.taken c.write_line.new.output) c.verdict_line.result text (ok_along string_bytes c.verdict_line.result _ text c.verdict_line.ensures is) c.in_ok-write_line.ensures.made c.in_ok-write_line.ensures.written
 
 pub returns-clause-front : goal.returns-clause-front
-returns-clause-front g c = front_all (g.W.Sink.taken c.args.output.now) (g.W.Sink.taken c.write_line.new.output) (audited (script c.args.scenario.now)) (returns-clause-ok g c)
+returns-clause-front g c = front_all (g.W.Sink.taken c.args.output.now) (g.W.Sink.taken c.write_line.new.output) (audited (script c.args.scenario.now)) (returns-clause-written g c)
 
 pub returns-clause-verdict : goal.returns-clause-verdict
 returns-clause-verdict g c =
@@ -33,5 +33,5 @@ returns-clause-verdict g c =
       verdict = verdict;
       is = c.in_ok-audited.ensures.verdict;
       answer = c.status_of.ensures;
-      line = line_whole string_bytes (g.W.Sink.taken c.args.output.now) (g.W.Sink.taken c.write_line.new.output) c.verdict_line.result text (ok_along string_bytes c.verdict_line.result _ text c.verdict_line.ensures is) c.in_ok-write_line.ensures.made c.in_ok-write_line.ensures.ok;
+      line = line_whole string_bytes (g.W.Sink.taken c.args.output.now) (g.W.Sink.taken c.write_line.new.output) c.verdict_line.result text (ok_along string_bytes c.verdict_line.result _ text c.verdict_line.ensures is) c.in_ok-write_line.ensures.made c.in_ok-write_line.ensures.written;
     }

@@ -11,14 +11,14 @@ use Rattle.engines.proofs.auditing.run_audit.Goals as goal
 pub returns-in_err-scenario-clause-ran : goal.returns-in_err-scenario-clause-ran
 returns-in_err-scenario-clause-ran g c =
     ran_to_line scenario_of audited scenario_reports_at_limit (ended c.from_residual-in_err-scenario.result) c.in_err-scenario.field-0.0 c.in_ok-file.file.items _ _
-    (ended_err c.from_residual-in_err-scenario.result (λ reported. reported ≡ Line c.in_err-scenario.field-0.0) c.from_residual-in_err-scenario.ensures.1) c.in_ok-file.ensures.ok (rw c.as_slice.ensures.value at c.in_err-scenario.ensures.said) (kept _)
+    (ended_err c.from_residual-in_err-scenario.result (λ reported. reported ≡ Line c.in_err-scenario.field-0.0) c.from_residual-in_err-scenario.ensures.1) c.in_ok-file.ensures.input (rw c.as_slice.ensures.value at c.in_err-scenario.ensures.said) (kept _)
 
 pub returns-clause-ran : goal.returns-clause-ran
 returns-clause-ran g c =
     engine_ran audited c.audit_scenario.result c.in_ok-file.file.items (script c.in_ok-scenario.scenario) _ _
-    c.in_ok-file.ensures.ok (rw c.as_slice.ensures.value at c.in_ok-scenario.ensures.said) c.audit_scenario.ensures.ok c.audit_scenario.ensures.front c.audit_scenario.ensures.fault c.audit_scenario.ensures.failures
+    c.in_ok-file.ensures.input (rw c.as_slice.ensures.value at c.in_ok-scenario.ensures.said) c.audit_scenario.ensures.written c.audit_scenario.ensures.front c.audit_scenario.ensures.fault c.audit_scenario.ensures.failures
 
 pub returns-clause-verdict : goal.returns-clause-verdict
 returns-clause-verdict g c =
     input_answer c.audit_scenario.result (λ said status. ReportsVerdict said status (g.W.Sink.taken c.args.output.now) (g.W.Sink.taken c.audit_scenario.new.output)) c.in_ok-file.file.items (script c.in_ok-scenario.scenario) _ _
-    c.in_ok-file.ensures.ok (rw c.as_slice.ensures.value at c.in_ok-scenario.ensures.said) c.audit_scenario.ensures.verdict
+    c.in_ok-file.ensures.input (rw c.as_slice.ensures.value at c.in_ok-scenario.ensures.said) c.audit_scenario.ensures.verdict

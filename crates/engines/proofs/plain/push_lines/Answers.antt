@@ -17,8 +17,8 @@ loop-line-init c =
       few = omega (arith, ap (λ (r : Run). r.place) c.requires);
     }
 
-pub line-requires-clause-few : goal.line-requires-clause-few
-line-requires-clause-few c =
+pub line-requires-clause-bounded : goal.line-requires-clause-bounded
+line-requires-clause-bounded c =
     let within : c.loop-line.line-index < length c.args.scenario.now.lines.items = omega arith in
     omega (arith, within, c.args.scenario.now.few, c.loop-line.invariant.few)
 

@@ -13,18 +13,18 @@ use Rattle.engines.proofs.recording.run_record.Goals as goal
 pub returns-in_err-scenario-clause-ran : goal.returns-in_err-scenario-clause-ran
 returns-in_err-scenario-clause-ran g c =
     ran_to_line scenario_of recorded scenario_reports_at_limit (ended c.from_residual-in_err-scenario.result) c.in_err-scenario.field-0.0 c.in_ok-file.file.items _ _
-    (ended_err c.from_residual-in_err-scenario.result (λ reported. reported ≡ Line c.in_err-scenario.field-0.0) c.from_residual-in_err-scenario.ensures.1) c.in_ok-file.ensures.ok (rw c.as_slice.ensures.value at c.in_err-scenario.ensures.said) (kept _)
+    (ended_err c.from_residual-in_err-scenario.result (λ reported. reported ≡ Line c.in_err-scenario.field-0.0) c.from_residual-in_err-scenario.ensures.1) c.in_ok-file.ensures.input (rw c.as_slice.ensures.value at c.in_err-scenario.ensures.said) (kept _)
 
 pub returns-clause-ran : goal.returns-clause-ran
 returns-clause-ran g c =
     engine_ran recorded c.record_scenario.result c.in_ok-file.file.items (script c.in_ok-scenario.scenario) _ _
-    c.in_ok-file.ensures.ok (rw c.as_slice.ensures.value at c.in_ok-scenario.ensures.said) c.record_scenario.ensures.ok c.record_scenario.ensures.front c.record_scenario.ensures.fault c.record_scenario.ensures.failures
+    c.in_ok-file.ensures.input (rw c.as_slice.ensures.value at c.in_ok-scenario.ensures.said) c.record_scenario.ensures.written c.record_scenario.ensures.front c.record_scenario.ensures.fault c.record_scenario.ensures.failures
 
 pub returns-clause-read_again : goal.returns-clause-read_again
 returns-clause-read_again g c =
     let good = rw c.as_slice.ensures.value at c.in_ok-scenario.ensures.said in
     input_answer c.record_scenario.result (λ said done. WritesRecord said (g.W.Sink.taken c.args.output.now) (g.W.Sink.taken c.record_scenario.new.output)) c.in_ok-file.file.items (script c.in_ok-scenario.scenario) _ _
-    c.in_ok-file.ensures.ok good (written_again c.record_scenario.result c.in_ok-file.file.items (script c.in_ok-scenario.scenario) _ _ good c.record_scenario.ensures.ok)
+    c.in_ok-file.ensures.input good (written_again c.record_scenario.result c.in_ok-file.file.items (script c.in_ok-scenario.scenario) _ _ good c.record_scenario.ensures.written)
 
 -- the facts about all runs and records hold at each way out
 pub returns-in_err-file-clause-runs : goal.returns-in_err-file-clause-runs

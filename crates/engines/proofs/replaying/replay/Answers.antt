@@ -10,19 +10,19 @@ use Rattle.engines.proofs.replaying.replay.Goals as goal
 pub returns-in_err-scenario-clause-ran : goal.returns-in_err-scenario-clause-ran
 returns-in_err-scenario-clause-ran g c =
     ran_to_line scenario_of replayed scenario_reports_at_limit (ended c.from_residual-in_err-scenario.result) c.in_err-scenario.field-0.0 c.in_ok-file.file.items _ _
-    (ended_err c.from_residual-in_err-scenario.result (λ reported. reported ≡ Line c.in_err-scenario.field-0.0) c.from_residual-in_err-scenario.ensures.1) c.in_ok-file.ensures.ok (rw c.as_slice.ensures.value at c.in_err-scenario.ensures.said) (kept _)
+    (ended_err c.from_residual-in_err-scenario.result (λ reported. reported ≡ Line c.in_err-scenario.field-0.0) c.from_residual-in_err-scenario.ensures.1) c.in_ok-file.ensures.input (rw c.as_slice.ensures.value at c.in_err-scenario.ensures.said) (kept _)
 
 pub returns-clause-ran : goal.returns-clause-ran
 returns-clause-ran g c =
     engine_ran replayed c.replay_scenario.result c.in_ok-file.file.items (script c.in_ok-scenario.scenario) _ _
-    c.in_ok-file.ensures.ok (rw c.as_slice.ensures.value at c.in_ok-scenario.ensures.said) c.replay_scenario.ensures.ok c.replay_scenario.ensures.front c.replay_scenario.ensures.fault c.replay_scenario.ensures.failures
+    c.in_ok-file.ensures.input (rw c.as_slice.ensures.value at c.in_ok-scenario.ensures.said) c.replay_scenario.ensures.written c.replay_scenario.ensures.front c.replay_scenario.ensures.fault c.replay_scenario.ensures.failures
 
 pub returns-clause-summary : goal.returns-clause-summary
 returns-clause-summary g c =
     replay_numbers c.replay_scenario.result c.in_ok-file.file.items (script c.in_ok-scenario.scenario) _ _
-    c.in_ok-file.ensures.ok (rw c.as_slice.ensures.value at c.in_ok-scenario.ensures.said) c.replay_scenario.ensures.summary
+    c.in_ok-file.ensures.input (rw c.as_slice.ensures.value at c.in_ok-scenario.ensures.said) c.replay_scenario.ensures.summary
 
 pub returns-clause-headline : goal.returns-clause-headline
 returns-clause-headline g c =
     replay_headline c.replay_scenario.result c.in_ok-file.file.items (script c.in_ok-scenario.scenario) _ _
-    c.in_ok-file.ensures.ok (rw c.as_slice.ensures.value at c.in_ok-scenario.ensures.said) c.replay_scenario.ensures.headline
+    c.in_ok-file.ensures.input (rw c.as_slice.ensures.value at c.in_ok-scenario.ensures.said) c.replay_scenario.ensures.headline

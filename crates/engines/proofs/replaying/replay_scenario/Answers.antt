@@ -66,11 +66,11 @@ returns g c =
     let writes : Writes [] (text_of s (happenings said)) (g.W.Sink.taken c.args.output.now) (g.W.Sink.taken c.output-2-1.given.0) =
     subst (λ w. Writes [] (text_of s (happenings said)) (g.W.Sink.taken c.args.output.now) (g.W.Sink.taken w)) (sym is) (plays.observes.2.writes counts) in
     let ok : Appends (g.W.Sink.taken c.args.output.now) (g.W.Sink.taken c.write_end.new.output) (replayed (script c.args.scenario.now)) =
-    subst (λ said. Appends (g.W.Sink.taken c.args.output.now) (g.W.Sink.taken c.write_end.new.output) (replayed said)) same (replay_written said _ _ _ _ writes numbers c.in_ok-write_end.ensures.ok) in
+    subst (λ said. Appends (g.W.Sink.taken c.args.output.now) (g.W.Sink.taken c.write_end.new.output) (replayed said)) same (replay_written said _ _ _ _ writes numbers c.in_ok-write_end.ensures.written) in
     let last : Summary = record c.play_all.new.observer.summary { taken = c.taken.result } in
     let whole = ap g.W.Sink.failures is ∙ plays.observes.2.whole in
     record {
-      ok = ok;
+      written = ok;
       front = front_all _ _ _ ok;
       summary = subst (λ said. last ≡ summary_of said.setup (happenings said)) same numbers;
       headline = subst RunKeepsHeadline same (run_headline said plays);

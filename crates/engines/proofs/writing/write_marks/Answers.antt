@@ -31,7 +31,7 @@ loop-mark-preserved g c =
     let k : ℕ = c.loop-mark.mark-index in
     record {
       taken = subst (λ l. Appends (g.W.Sink.taken c.args.output.now) (g.W.Sink.taken c.write_run_line.new.output) l) (sym (items_more f marks k c.mark-item.result c.loop-mark-test.true c.mark-item.is))
-          (appends_both _ _ _ (flat_map f (take k marks)) (f c.mark-item.result) c.loop-mark.invariant.taken c.in_ok-write_run_line.ensures.ok);
+          (appends_both _ _ _ (flat_map f (take k marks)) (f c.mark-item.result) c.loop-mark.invariant.taken c.in_ok-write_run_line.ensures.written);
       whole = omega (arith, c.in_ok-write_run_line.ensures.failures, c.loop-mark.invariant.whole);
     }
 

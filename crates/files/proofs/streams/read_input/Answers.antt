@@ -45,7 +45,7 @@ returns-then-is_err g c =
     let l = c.loop-input in
     let early : length l.bytes.items < input_limit = omega (arith, c.loop-input-test.true, c.len.ensures, l.bytes.ok.0) in
     record {
-      ok = tt;
+      input = tt;
       front = front_read (to_come c.args.input.now) (to_come l.input) (to_come c.next_byte.new.self) l.bytes.items c.in-Ok-Some.byte early l.invariant.front (rw c.in-Ok-Some.field-0-is at c.in-Ok-Some.ensures.byte).0;
       fault = tt;
       failures = omega (arith, c.in-Ok-Some.ensures.failures, l.invariant.whole);
@@ -59,7 +59,7 @@ returns-in-Ok-None g c =
     let came = rw c.in-Ok-None.field-0-is at c.in-Ok-None.ensures.byte in
     let front = front_still (to_come c.args.input.now) (to_come l.input) (to_come c.next_byte.new.self) l.bytes.items l.invariant.front came.0 in
     record {
-      ok = record { front = front; within = l.invariant.within; whole = λ _. came.1 refl };
+      input = record { front = front; within = l.invariant.within; whole = λ _. came.1 refl };
       front = record { bytes = l.bytes.items; front = front; within = l.invariant.within };
       fault = tt;
       failures = omega (arith, c.in-Ok-None.ensures.failures, l.invariant.whole);
@@ -71,7 +71,7 @@ returns-in-Err g c =
     let to_come = g.R.Source.to_come in
     let l = c.loop-input in
     record {
-      ok = tt;
+      input = tt;
       front = record {
         bytes = l.bytes.items;
         front = front_held (to_come c.args.input.now) (to_come l.input) (to_come c.next_byte.new.self) l.bytes.items l.invariant.front c.in-Err.ensures.byte;
@@ -86,7 +86,7 @@ pub returns : goal.returns
 returns g c =
     let l = c.loop-input in
     record {
-      ok = record {
+      input = record {
         front = l.invariant.front;
         within = l.invariant.within;
         whole = λ less. absurd (omega (arith, c.loop-input-test.false, c.len.ensures, l.bytes.ok.0));

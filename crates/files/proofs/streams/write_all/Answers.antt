@@ -20,7 +20,7 @@ returns-in-Ok-eq0 g c =
     let bytes = c.args.bytes.now in
     let none = c.in-Ok-eq0.field-0 in
     record {
-      ok = tt;
+      written = tt;
       front = front_of (taken c.args.output.now) (taken c.put.new.self) bytes (l.at + none) (appends_more (taken c.args.output.now) (taken l.output) (taken c.put.new.self) bytes l.at none l.invariant.taken (rw (take_rest bytes l.at) at c.in-Ok-eq0.ensures.bytes));
       fault = refl;
       failures = grind (arith, nat_tests, c.in-Ok-eq0.ensures.failures, c.in-Ok-eq0.field-0-test, l.invariant.whole, length-drop l.at bytes);
@@ -32,7 +32,7 @@ returns-in-Err g c =
     let taken = g.W.Sink.taken in
     let l = c.loop-at in
     record {
-      ok = tt;
+      written = tt;
       front = front_kept (taken c.args.output.now) (taken l.output) (taken c.put.new.self) c.args.bytes.now l.at l.invariant.taken c.in-Err.ensures.bytes;
       fault = refl;
       failures = omega (arith, c.in-Err.ensures.failures, l.invariant.whole);
@@ -44,7 +44,7 @@ returns g c =
     let taken = g.W.Sink.taken in
     let l = c.loop-at in
     record {
-      ok = whole_of (taken c.args.output.now) (taken l.output) c.args.bytes.now l.at (omega arith) l.invariant.taken;
+      written = whole_of (taken c.args.output.now) (taken l.output) c.args.bytes.now l.at (omega arith) l.invariant.taken;
       front = front_of (taken c.args.output.now) (taken l.output) c.args.bytes.now l.at l.invariant.taken;
       fault = tt;
       failures = omega (arith, l.invariant.whole);

@@ -68,13 +68,13 @@ lines-init g c =
       whole = refl;
     }
 
-pub line_within-requires-clause-few : goal.line_within-requires-clause-few
-line_within-requires-clause-few g c =
+pub line_within-requires-clause-bounded : goal.line_within-requires-clause-bounded
+line_within-requires-clause-bounded g c =
     let mid = coming c.lines.lines.ahead (g.R.Source.to_come c.lines.input) in
     let rest = coming c.next.new.self.ahead (g.R.Source.to_come c.next.new.input) in
     let takes = subst (λ (b : Bool). GoesToNext (Ok b) c.lines.lines c.next.new.self mid rest) c.if-branch.true c.in_ok-next.ensures.next in
     let few = few_observed g.H.EntryObserver.HasObserved g.H.EntryObserver.count g.met.H.EntryObserver.counts c.args.limit (g.R.Source.to_come c.args.input.now) mid c.lines.lines.taken c.lines.trial.reader c.lines.trial.observer c.lines.invariant.onwards in
-    omega (arith, few, takes.taken, c.taken.ensures.taken, c.taken.ensures.few)
+    omega (arith, few, takes.taken, c.taken.ensures.taken, c.taken.ensures.bounded)
 
 pub returns-in-None-clause-fault : goal.returns-in-None-clause-fault
 returns-in-None-clause-fault g c =

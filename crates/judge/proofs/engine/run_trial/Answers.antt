@@ -26,4 +26,4 @@ returns g c =
     let old : Streams = streams g.R.Source g.W.Sink c.args.input.now c.args.output.now in
     let new : Streams = streams g.R.Source g.W.Sink c.observe_file.new.input c.write_all.new.output in
     trial_reported (HasObservedFirsts c.args.limit g.H.EntryObserver.HasObserved) (ReportsFirsts c.args.limit g.H.EntryObserver.Reports) c.in_ok-observer.observer c.in_ok-reporting.reporting.text.items c.in_ok-reporting.reporting.status old new
-    c.in_ok-observer.ensures.observed (reports_firsts g.H.EntryObserver.HasObserved g.H.EntryObserver.Reports c.args.limit c.in_ok-observer.observer c.in_ok-reporting.reporting.text.items c.in_ok-reporting.reporting.status c.in_ok-reporting.ensures) c.in_ok-observer.ensures.end (rw c.as_slice.ensures.value at c.in_ok-write_all.ensures.ok)
+    c.in_ok-observer.ensures.observed (reports_firsts g.H.EntryObserver.HasObserved g.H.EntryObserver.Reports c.args.limit c.in_ok-observer.observer c.in_ok-reporting.reporting.text.items c.in_ok-reporting.reporting.status c.in_ok-reporting.ensures) c.in_ok-observer.ensures.end (rw c.as_slice.ensures.value at c.in_ok-write_all.ensures.written)

@@ -8,7 +8,7 @@ use Rattle.laws.proofs.registers.registers_serve_every_access.Goals as goal
 
 pub returns : goal.returns
 returns x = record {
-  there = λ s h events event e is a access. access_there s (is_good s h) events event e is a access;
+  in_range = λ s h events event e is a access. access_there s (is_good s h) events event e is a access;
   turn = λ s h events event e is a access. comes_in_turn s (is_good s h) events event e is a access;
   answer = λ s h events a flick. held_answers s (is_good s h) events a flick;
   open_reads = λ s h events a reading. open_at_place s (is_good s h) events a reading;

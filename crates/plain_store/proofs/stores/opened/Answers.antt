@@ -10,6 +10,6 @@ pub loop-place-preserved : goal.loop-place-preserved
 loop-place-preserved g c =
     let setup = c.args.setup.now in
     let pair = c.unwrap-name.result in
-    c.in_ok-apply.ensures.ok
+    c.in_ok-apply.ensures.contents
     ∙ ap (λ (s : Contents). after s (Write pair.0 pair.1) (record { process = 0; number = 0 })) c.loop-place.invariant
     ∙ opened_more setup.slots (callers_of setup) setup.opening c.loop-place.place pair c.len-place-end.ensures.differ (few-opening setup c.requires.good) (sym c.entry.ensures ∙ c.unwrap-name.ensures)

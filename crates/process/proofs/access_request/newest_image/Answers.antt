@@ -29,5 +29,5 @@ returns c =
     let some : 0 < n = omega (arith, c.requires.call.process) in
     record {
       register = image-register (call_of c.args.call.now) seen newest c.requires.room some c.requires.call.processes is ∙ (λ i. (newest, sym c.image_field.ensures i));
-      there = omega (arith, is, newest-inside seen n c.requires.room some c.requires.call.processes);
+      in_range = omega (arith, is, newest-inside seen n c.requires.room some c.requires.call.processes);
     }

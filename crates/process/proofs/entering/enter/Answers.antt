@@ -17,7 +17,7 @@ returns-in-Reads c =
           c.begin_read.ensures
           ∙ (λ i. reading (c.setup-setup.ensures i) (record { owner = c.in-Reads.owner; field = c.in-Reads.field }) (c.process-process.ensures i))
           ∙ entered-read k.call k.part c.in-Reads.owner c.in-Reads.field e.1 e.3;
-      there = subst (λ (x : CursorState). x.register.owner < k.call.setup.processes) (sym c.begin_read.ensures) e.2;
+      in_range = subst (λ (x : CursorState). x.register.owner < k.call.setup.processes) (sym c.begin_read.ensures) e.2;
     }
 
 pub begin_write-requires-clause-narrow : goal.begin_write-requires-clause-narrow
@@ -34,7 +34,7 @@ returns-in-Writes c =
           c.begin_write.ensures
           ∙ (λ i. writing (c.setup-setup.ensures i) (record { owner = c.process-process.ensures i; field = f }) (bits_of_number (width (c.setup-setup.ensures i) f) number))
           ∙ entered-write k.call k.part f (bits_of_number (width k.call.setup f) number) e.1 e.3;
-      there = subst (λ (x : CursorState). x.register.owner < k.call.setup.processes) (sym c.begin_write.ensures) (subst (λ p. p < k.call.setup.processes) (sym c.process-process.ensures) c.requires.call.process);
+      in_range = subst (λ (x : CursorState). x.register.owner < k.call.setup.processes) (sym c.begin_write.ensures) (subst (λ p. p < k.call.setup.processes) (sym c.process-process.ensures) c.requires.call.process);
     }
 
 pub returns-in-WritesImage : goal.returns-in-WritesImage
@@ -57,5 +57,5 @@ returns-in-WritesImage c =
           ∙ (λ i. writing (c.setup-setup.ensures i) (record { owner = c.process-process.ensures i; field = f }) (bits_in c.pad-bytes.result (width (c.setup-setup.ensures i) f)))
           ∙ ap (writing s (record { owner = k.call.process; field = f })) bits
           ∙ entered-write k.call k.part f (written_at k.call k.part).1 w.0 (λ i. (e.1 i, (written_at k.call k.part).1));
-      there = subst (λ (x : CursorState). x.register.owner < s.processes) (sym c.begin_write_bytes.ensures) (subst (λ p. p < s.processes) (sym c.process-process.ensures) c.requires.call.process);
+      in_range = subst (λ (x : CursorState). x.register.owner < s.processes) (sym c.begin_write_bytes.ensures) (subst (λ p. p < s.processes) (sym c.process-process.ensures) c.requires.call.process);
     }

@@ -9,6 +9,6 @@ pub returns : goal.returns
 returns c =
     let call = call_of c.args.call.now in
     record {
-      store = IfOk-at_ok (λ (r : Reply). c.apply.new.self ≡ after c.args.read.now call.command (caller call)) c.unwrap-reply.ensures c.apply.ensures.ok;
+      store = IfOk-at_ok (λ (r : Reply). c.apply.new.self ≡ after c.args.read.now call.command (caller call)) c.unwrap-reply.ensures c.apply.ensures.contents;
       reply = IfOk-at_ok (λ (r : Reply). r ≡ reply call c.args.read.now) c.unwrap-reply.ensures c.apply.ensures.reply;
     }

@@ -19,5 +19,5 @@ returns-then-all-clause-made g c =
 pub returns-then-all-clause-fault : goal.returns-then-all-clause-fault
 returns-then-all-clause-fault g c =
     let threads = c.start_all-threads.result in
-    let few : length threads.items ≤ length c.args.plans.now = (let most = c.start_all-threads.ensures.few in let ok = threads.ok.0 in omega (arith, most, ok)) in
+    let few : length threads.items ≤ length c.args.plans.now = (let most = c.start_all-threads.ensures.bounded in let ok = threads.ok.0 in omega (arith, most, ok)) in
     ends_among c.join_all-made.result c.args.board.now c.args.plans.now threads.items (λ (t : _). t.promise.board.value) (λ (t : _). t.promise.number) (λ (t : _). t.promise.plan.value.items) few c.start_all-threads.ensures.each c.join_all-made.ensures.fault

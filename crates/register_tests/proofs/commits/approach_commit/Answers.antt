@@ -22,14 +22,14 @@ read m d then row new so is at = on 373 m begun reading d then row new so is at 
 pub run_section-reads-requires : goal.run_section-reads-requires
 run_section-reads-requires c = record {
   going = ap is_going c.requires.section;
-  goes = (λ i. section_goes (c.requires.most i) true (c.requires.section i, c.requires.row i)) ∙ reads;
+  runs = (λ i. section_goes (c.requires.most i) true (c.requires.section i, c.requires.row i)) ∙ reads;
 }
 
 pub run_section-turns-requires : goal.run_section-turns-requires
 run_section-turns-requires c =
     let r = c.run_section-reads in
     let came = read c.args.most c.args.section.now r.new.section c.args.row.now r.new.row c.requires.most c.requires.section c.requires.row r.ensures.section r.ensures.row in
-    record { going = ap is_going came.0; goes = (λ i. section_goes 1 true (came.0 i, came.1 i)) ∙ turns }
+    record { going = ap is_going came.0; runs = (λ i. section_goes 1 true (came.0 i, came.1 i)) ∙ turns }
 
 pub run_section-writes-requires : goal.run_section-writes-requires
 run_section-writes-requires c =
@@ -37,7 +37,7 @@ run_section-writes-requires c =
     let t = c.run_section-turns in
     let came = read c.args.most c.args.section.now r.new.section c.args.row.now r.new.row c.requires.most c.requires.section c.requires.row r.ensures.section r.ensures.row in
     let turns = on 1 1 reading turned r.new.section t.new.section r.new.row t.new.row refl came.0 came.1 turns-to t.ensures.section t.ensures.row in
-    record { going = ap is_going turns.0; goes = (λ i. section_goes (c.requires.most i) true (turns.0 i, turns.1 i)) ∙ writes }
+    record { going = ap is_going turns.0; runs = (λ i. section_goes (c.requires.most i) true (turns.0 i, turns.1 i)) ∙ writes }
 
 pub returns : goal.returns
 returns c =

@@ -29,7 +29,7 @@ settle-unit-requires c =
       locks = omega (arith, ap length c.requires.locks);
       row = omega (arith, ap (λ (r : DataRow). length r.parts) row);
       going = c.start-unit.ensures.going;
-      goes = (λ i. unit_goes 100 (settlement_of c.args.value (unit i) 0 (c.requires.locks i) (row i))) ∙ settles-on c.args.value;
+      runs = (λ i. unit_goes 100 (settlement_of c.args.value (unit i) 0 (c.requires.locks i) (row i))) ∙ settles-on c.args.value;
     }
 
 pub newest-requires : goal.newest-requires

@@ -11,7 +11,7 @@ use Rattle.register_tests.proofs.commits.finish_commit.Goals as goal
 pub run_section-ends-requires : goal.run_section-ends-requires
 run_section-ends-requires c =
     let a = c.approach_commit-approach.ensures in
-    record { going = ap is_going a.section; goes = (λ i. section_goes 100 true (a.section i, a.row i)) ∙ ends }
+    record { going = ap is_going a.section; runs = (λ i. section_goes 100 true (a.section i, a.row i)) ∙ ends }
 
 pub newest-requires : goal.newest-requires
 newest-requires c =

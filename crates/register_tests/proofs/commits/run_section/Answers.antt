@@ -7,7 +7,7 @@ use Rattle.register_tests.proofs.Turning.{along-all, along-on, along-over, along
 use Rattle.register_tests.proofs.commits.run_section.Goals as goal
 
 pub loop-made-init : goal.loop-made-init
-loop-made-init c = along-start section_going (section_can c.args.flick) (section_on c.args.flick) c.args.most (c.args.most - 0) (c.args.section.now, c.args.row.now) (omega arith) c.requires.going c.requires.goes
+loop-made-init c = along-start section_going (section_can c.args.flick) (section_on c.args.flick) c.args.most (c.args.most - 0) (c.args.section.now, c.args.row.now) (omega arith) c.requires.going c.requires.runs
 
 pub step-requires-clause-going : goal.step-requires-clause-going
 step-requires-clause-going c = c.loop-made.invariant.0

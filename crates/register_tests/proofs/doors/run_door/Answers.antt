@@ -7,7 +7,7 @@ use Rattle.register_tests.proofs.Turning.{along-all, along-on, along-over, along
 use Rattle.register_tests.proofs.doors.run_door.Goals as goal
 
 pub loop-made-init : goal.loop-made-init
-loop-made-init c = along-start door_going (door_can c.args.flick) (door_on c.args.flick) c.args.most (c.args.most - 0) (c.args.door.now, c.args.locks.now) (omega arith) c.requires.going c.requires.goes
+loop-made-init c = along-start door_going (door_can c.args.flick) (door_on c.args.flick) c.args.most (c.args.most - 0) (c.args.door.now, c.args.locks.now) (omega arith) c.requires.going c.requires.runs
 
 pub step-progress-requires-clause-going : goal.step-progress-requires-clause-going
 step-progress-requires-clause-going c = c.loop-made.invariant.0

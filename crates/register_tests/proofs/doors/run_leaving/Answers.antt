@@ -7,7 +7,7 @@ use Rattle.register_tests.proofs.Turning.{along-on, along-over, along-start, may
 use Rattle.register_tests.proofs.doors.run_leaving.Goals as goal
 
 pub loop-made-init : goal.loop-made-init
-loop-made-init c = along-start leaving_going leaving_can leaving_on c.args.most (c.args.most - 0) (c.args.leaving.now, c.args.lock.now) (omega arith) c.requires.going c.requires.goes
+loop-made-init c = along-start leaving_going leaving_can leaving_on c.args.most (c.args.most - 0) (c.args.leaving.now, c.args.lock.now) (omega arith) c.requires.going c.requires.runs
 
 pub step-progress-requires-clause-going : goal.step-progress-requires-clause-going
 step-progress-requires-clause-going c = c.loop-made.invariant.0

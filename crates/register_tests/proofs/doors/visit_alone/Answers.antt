@@ -17,8 +17,8 @@ come d begun locks new made starts is goes = goes ∙ (λ i. (door_after 100 tru
 come-read : (d begun : ProcessState) (locks new read : List LockRows) → d ≡ process_after one [] 0 → begun ≡ called d Ask 0 → locks ≡ new_locks one → new ≡ (door_after 100 true (begun, locks)).1 → read ≡ after_lock_read new 0 0 false → read ≡ inside_read
 come-read d begun locks new read made starts is goes reads = reads ∙ ap (λ (x : List LockRows). after_lock_read x 0 0 false) (come d begun locks new made starts is goes)
 
-pub run_door-enters-requires-clause-goes : goal.run_door-enters-requires-clause-goes
-run_door-enters-requires-clause-goes c =
+pub run_door-enters-requires-clause-runs : goal.run_door-enters-requires-clause-runs
+run_door-enters-requires-clause-runs c =
     (λ i. door_goes 100 true ((c.start.ensures.door ∙ ap (λ (x : ProcessState). called x Ask 0) c.requires.door) i, c.requires.locks i)) ∙ enters
 
 pub read_lock-inside-requires : goal.read_lock-inside-requires
@@ -31,8 +31,8 @@ clear_ticket-cleared-requires c =
     record {
       setup = ap checked c.requires.setup;
       process = omega (arith, ap (λ (s : Setup). s.processes) c.requires.setup);
-      there = omega (arith, ap length read, there);
-      goes = (λ i. leaving_goes 100 (leaves (c.requires.setup i) 0, lock_of (read i) 0)) ∙ clears;
+      in_range = omega (arith, ap length read, there);
+      runs = (λ i. leaving_goes 100 (leaves (c.requires.setup i) 0, lock_of (read i) 0)) ∙ clears;
     }
 
 pub read_lock-outside-requires : goal.read_lock-outside-requires

@@ -17,8 +17,8 @@ use Rattle.register_tests.proofs.failures.falls.Goals as goal
 begun : (p : ℕ) (d new : ProcessState) → d ≡ process_after two [] p → new ≡ called d Ask 0 → new ≡ started two p
 begun p d new is starts = starts ∙ ap (λ (x : ProcessState). called x Ask 0) is
 
-pub run_door-doorway-requires-clause-goes : goal.run_door-doorway-requires-clause-goes
-run_door-doorway-requires-clause-goes c =
+pub run_door-doorway-requires-clause-runs : goal.run_door-doorway-requires-clause-runs
+run_door-doorway-requires-clause-runs c =
     let can : CanFall c.args.value c.args.steps = can-fall c.args.value c.args.steps c.requires.steps in
     let door = begun 0 c.args.first.now c.start.new.self c.requires.first c.start.ensures.door in
     (λ i. door_goes c.args.steps true (door i, c.requires.locks i)) ∙ can.doorway
@@ -33,7 +33,7 @@ fail-torn-requires c =
     let locks = come-locks n c.start.new.self c.args.locks.now w.new.locks start c.requires.locks w.ensures.locks in
     record {
       going = ap is_going door ∙ can.going;
-      there = subst (λ (d : ProcessState). MayDrop d w.new.locks) (sym door) (subst (MayDrop (come n).0) (sym locks) can.drop);
+      droppable = subst (λ (d : ProcessState). MayDrop d w.new.locks) (sym door) (subst (MayDrop (come n).0) (sym locks) can.drop);
     }
 
 pub start-unit-requires-clause-torn : goal.start-unit-requires-clause-torn
@@ -55,7 +55,7 @@ settle-made-requires c =
       locks = omega (arith, can.there, ap length remaining);
       row = omega (arith, ap (λ (r : DataRow). length r.parts) c.requires.row);
       going = c.start-unit.ensures.going;
-      goes = (λ i. unit_goes 100 (settlement_of c.args.value (unit i) 0 (remaining i) (c.requires.row i))) ∙ can.settles_on;
+      runs = (λ i. unit_goes 100 (settlement_of c.args.value (unit i) 0 (remaining i) (c.requires.row i))) ∙ can.settles_on;
     }
 
 pub read_lock-lock-requires : goal.read_lock-lock-requires
@@ -69,8 +69,8 @@ read_lock-lock-requires c =
     let all = down-locks n c.args.value c.start-unit.result c.fail-torn.new.locks c.settle-made.new.locks c.args.row.now unit remaining c.requires.row c.settle-made.ensures.locks in
     ap (λ (x : List LockRows). lock_reads x 0 1 true) all ∙ can.reads
 
-pub run_door-enters-requires-clause-goes : goal.run_door-enters-requires-clause-goes
-run_door-enters-requires-clause-goes c =
+pub run_door-enters-requires-clause-runs : goal.run_door-enters-requires-clause-runs
+run_door-enters-requires-clause-runs c =
     let n : ℕ = c.args.steps in
     let can : CanFall c.args.value n = can-fall c.args.value n c.requires.steps in
     let w = c.run_door-doorway in

@@ -31,8 +31,8 @@ step-reported-requires-clause-turn c =
     subst (λ (d : ProcessState). IsInTurn d c.in_ok-locks.locks true) (sym starts)
     (subst (λ (locks : List LockRows). IsInTurn (started c.one-setup.result) locks true) (sym c.in_ok-locks.ensures) (subst Opens (sym c.one-setup.ensures) opens))
 
-pub fail-requires-clause-there : goal.fail-requires-clause-there
-fail-requires-clause-there c =
+pub fail-requires-clause-droppable : goal.fail-requires-clause-droppable
+fail-requires-clause-droppable c =
     let starts = c.start.ensures.door ∙ ap (λ (d : ProcessState). called d Ask 0) c.in_ok-door.ensures.door in
     let locks = c.step-reported.new.locks in
     let value = value_of c.step-reported.result.0.how in

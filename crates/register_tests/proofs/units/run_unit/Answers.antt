@@ -7,7 +7,7 @@ use Rattle.register_tests.proofs.Turning.{along-all, along-on, along-over, along
 use Rattle.register_tests.proofs.units.run_unit.Goals as goal
 
 pub loop-made-init : goal.loop-made-init
-loop-made-init c = along-start unit_going unit_can unit_on c.args.most (c.args.most - 0) (settlement c.args.flick c.args.unit.now c.args.lock.now c.args.versions.now) (omega arith) c.requires.going c.requires.goes
+loop-made-init c = along-start unit_going unit_can unit_on c.args.most (c.args.most - 0) (settlement c.args.flick c.args.unit.now c.args.lock.now c.args.versions.now) (omega arith) c.requires.going c.requires.runs
 
 pub step-progress-requires-clause-going : goal.step-progress-requires-clause-going
 step-progress-requires-clause-going c = c.loop-made.invariant.0

@@ -3,8 +3,8 @@ use Rattle.bakery.specs.Registers.{Data, DataRow}
 use Rattle.register_tests.specs.Units.{settlement, unit_after, unit_goes}
 use Rattle.register_tests.proofs.units.settle.Goals as goal
 
-pub run_unit-requires-clause-goes : goal.run_unit-requires-clause-goes
-run_unit-requires-clause-goes c = (λ i. unit_goes 100 (settlement c.args.flick c.args.unit.now (c.own.ensures.lock i) (c.own-2.ensures.part i))) ∙ c.requires.goes
+pub run_unit-requires-clause-runs : goal.run_unit-requires-clause-runs
+run_unit-requires-clause-runs c = (λ i. unit_goes 100 (settlement c.args.flick c.args.unit.now (c.own.ensures.lock i) (c.own-2.ensures.part i))) ∙ c.requires.runs
 
 pub returns : goal.returns
 returns c = record {

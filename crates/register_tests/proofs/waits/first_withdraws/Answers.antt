@@ -8,8 +8,8 @@ use Rattle.register_tests.specs.Waits.{both_wait, first_waits, second_waits, two
 use Rattle.register_tests.proofs.GivesUp.{first_can, CanGiveUp, cleared, cleared-locks, cleared_read, given_up, remaining-locks, read-locks, waited, waited-door, waited-locks}
 use Rattle.register_tests.proofs.waits.first_withdraws.Goals as goal
 
-pub run_door-waits-requires-clause-goes : goal.run_door-waits-requires-clause-goes
-run_door-waits-requires-clause-goes c = (λ i. door_goes 1 true (c.take_tickets-tickets.ensures.first i, c.take_tickets-tickets.ensures.locks i)) ∙ first_can.waiting
+pub run_door-waits-requires-clause-runs : goal.run_door-waits-requires-clause-runs
+run_door-waits-requires-clause-runs c = (λ i. door_goes 1 true (c.take_tickets-tickets.ensures.first i, c.take_tickets-tickets.ensures.locks i)) ∙ first_can.waiting
 
 pub withdraw-requires : goal.withdraw-requires
 withdraw-requires c =
@@ -19,7 +19,7 @@ withdraw-requires c =
     let locks = waited-locks first_waits t.new.first 1 t.new.locks w.new.locks t.ensures.first t.ensures.locks w.ensures.locks in
     record {
       waiting = ap is_waiting door ∙ first_can.still;
-      there = subst (λ (d : ProcessState). MayDrop d w.new.locks) (sym door) (subst (MayDrop (waited first_waits 1).0) (sym locks) first_can.drop);
+      droppable = subst (λ (d : ProcessState). MayDrop d w.new.locks) (sym door) (subst (MayDrop (waited first_waits 1).0) (sym locks) first_can.drop);
     }
 
 pub clear_ticket-cleared-requires : goal.clear_ticket-cleared-requires
@@ -30,8 +30,8 @@ clear_ticket-cleared-requires c =
     record {
       setup = ap checked c.requires.setup;
       process = omega (arith, ap (λ (s : Setup). s.processes) c.requires.setup);
-      there = omega (arith, first_can.there, ap length remaining);
-      goes = (λ i. leaving_goes 100 (leaves (c.requires.setup i) 0, lock_of (remaining i) 0)) ∙ first_can.clears;
+      in_range = omega (arith, first_can.there, ap length remaining);
+      runs = (λ i. leaving_goes 100 (leaves (c.requires.setup i) 0, lock_of (remaining i) 0)) ∙ first_can.clears;
     }
 
 pub read_lock-lock-requires : goal.read_lock-lock-requires
@@ -49,5 +49,5 @@ run_door-enters-requires c =
     let read = read-locks first_waits 0 1 c.args.setup.now c.withdraw.new.locks c.clear_ticket-cleared.new.locks c.read_lock-lock.new.locks c.requires.setup remaining c.clear_ticket-cleared.ensures c.read_lock-lock.ensures in
     record {
       going = ap is_going t.ensures.second;
-      goes = (λ i. door_goes 100 true (t.ensures.second i, read i)) ∙ first_can.enters;
+      runs = (λ i. door_goes 100 true (t.ensures.second i, read i)) ∙ first_can.enters;
     }

@@ -8,8 +8,8 @@ use Rattle.register_tests.specs.Waits.{both_wait, first_waits, second_waits, two
 use Rattle.register_tests.proofs.GivesUp.{second_can, CanGiveUp, cleared, cleared-locks, cleared_read, given_up, remaining-locks, read-locks, waited, waited-door, waited-locks}
 use Rattle.register_tests.proofs.waits.second_withdraws.Goals as goal
 
-pub run_door-waits-requires-clause-goes : goal.run_door-waits-requires-clause-goes
-run_door-waits-requires-clause-goes c = let can : CanGiveUp second_waits first_waits 1 c.args.steps = second_can c.args.steps c.requires.steps in
+pub run_door-waits-requires-clause-runs : goal.run_door-waits-requires-clause-runs
+run_door-waits-requires-clause-runs c = let can : CanGiveUp second_waits first_waits 1 c.args.steps = second_can c.args.steps c.requires.steps in
     (λ i. door_goes c.args.steps true (c.take_tickets-tickets.ensures.second i, c.take_tickets-tickets.ensures.locks i)) ∙ can.waiting
 
 pub withdraw-requires : goal.withdraw-requires
@@ -21,7 +21,7 @@ withdraw-requires c =
     let locks = waited-locks second_waits t.new.second c.args.steps t.new.locks w.new.locks t.ensures.second t.ensures.locks w.ensures.locks in
     record {
       waiting = ap is_waiting door ∙ can.still;
-      there = subst (λ (d : ProcessState). MayDrop d w.new.locks) (sym door) (subst (MayDrop (waited second_waits c.args.steps).0) (sym locks) can.drop);
+      droppable = subst (λ (d : ProcessState). MayDrop d w.new.locks) (sym door) (subst (MayDrop (waited second_waits c.args.steps).0) (sym locks) can.drop);
     }
 
 pub clear_ticket-cleared-requires : goal.clear_ticket-cleared-requires
@@ -33,8 +33,8 @@ clear_ticket-cleared-requires c =
     record {
       setup = ap checked c.requires.setup;
       process = omega (arith, ap (λ (s : Setup). s.processes) c.requires.setup);
-      there = omega (arith, can.there, ap length remaining);
-      goes = (λ i. leaving_goes 100 (leaves (c.requires.setup i) 1, lock_of (remaining i) 1)) ∙ can.clears;
+      in_range = omega (arith, can.there, ap length remaining);
+      runs = (λ i. leaving_goes 100 (leaves (c.requires.setup i) 1, lock_of (remaining i) 1)) ∙ can.clears;
     }
 
 pub read_lock-lock-requires : goal.read_lock-lock-requires
@@ -54,5 +54,5 @@ run_door-enters-requires c =
     let read = read-locks second_waits 1 c.args.steps c.args.setup.now c.withdraw.new.locks c.clear_ticket-cleared.new.locks c.read_lock-lock.new.locks c.requires.setup remaining c.clear_ticket-cleared.ensures c.read_lock-lock.ensures in
     record {
       going = ap is_going t.ensures.first;
-      goes = (λ i. door_goes 100 true (t.ensures.first i, read i)) ∙ can.enters;
+      runs = (λ i. door_goes 100 true (t.ensures.first i, read i)) ∙ can.enters;
     }

@@ -8,7 +8,7 @@ use Rattle.registers.proofs.laws.cursors_follow_places.Goals as goal
 pub returns : goal.returns
 returns x = record {
   next = λ c part cur at. (moves c part cur false at).access;
-  goes = λ c part cur v at. place-moves c part cur v at;
+  advance = λ c part cur v at. place-moves c part cur v at;
   marks = λ c part cur v at. marks-move c part cur v at;
   stays = λ c part cur v at more. (moves c part cur v at).stays more;
   ends = λ c part cur v at over. (moves c part cur v at).done over;

@@ -25,4 +25,4 @@ returns g c =
     let old : Streams = streams g.R.Source g.W.Sink c.args.input.now c.args.output.now in
     let new : Streams = streams g.R.Source g.W.Sink c.list_file.new.input c.write_all.new.output in
     ends_tabled c.in_ok-lister.lister c.in_ok-text.text.items old new
-    c.in_ok-lister.ensures.listed c.in_ok-text.ensures c.in_ok-lister.ensures.end (rw c.as_slice.ensures.value at c.in_ok-write_all.ensures.ok)
+    c.in_ok-lister.ensures.listed c.in_ok-text.ensures c.in_ok-lister.ensures.end (rw c.as_slice.ensures.value at c.in_ok-write_all.ensures.written)

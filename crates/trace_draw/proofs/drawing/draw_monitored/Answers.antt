@@ -20,4 +20,4 @@ returns-in-Some-clause-drawn g c =
     let b = g.W.Sink.taken c.draw_access.new.output in
     ok_then c.draw_access.result
     (λ on s limit past has. subst (λ (l : List Gives). DrawsOn k k' a b l) (gives_some c.in_ok-observe.field-0 c.in-Some.access (shown_access s limit past c.args.entry.now) c.in-Some.is (c.in_ok-observe.ensures.shown s limit past has)) on)
-    c.draw_access.ensures.ok
+    c.draw_access.ensures.drawn

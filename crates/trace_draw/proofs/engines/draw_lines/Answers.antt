@@ -19,7 +19,7 @@ lines-preserved g c =
     let had = c.lines.invariant in
     let now = g.W.Sink.taken c.lines.output in
     let then = g.W.Sink.taken c.read.new.output in
-    let on = subst (λ (v : TraceView). DrawsLine v c.lines.sheet.reader c.lines.sheet.picture now c.read.new.self.reader c.read.new.self.picture then c.taken.result c.line.result.now) had.view c.in_ok-read.ensures.ok in
+    let on = subst (λ (v : TraceView). DrawsLine v c.lines.sheet.reader c.lines.sheet.picture now c.read.new.self.reader c.read.new.self.picture then c.taken.result c.line.result.now) had.view c.in_ok-read.ensures.drawn in
     record {
       drawn = drawn_on c.args.sheet.now.view (g.R.Source.to_come c.args.input.now) mid rest c.lines.lines c.next.new.self c.taken.result c.line.result.now c.lines.sheet.reader c.read.new.self.reader c.lines.sheet.picture c.read.new.self.picture (g.W.Sink.taken c.args.output.now) now then
           had.drawn takes c.taken.ensures.taken c.line.ensures on;
@@ -118,8 +118,8 @@ returns-in-Some g c =
     let t = c.lines.sheet in
     let d : DrawnTrace = c.in-Some.drawn in
     let had = c.lines.invariant in
-    let read = read_some t.reader (subst (λ (o : Option DrawnTrace). IfSome o (λ _. IsSome t.reader)) c.in-Some.is c.in_ok-end.ensures.some) in
-    let ended = subst (λ (o : Option DrawnTrace). IfSome o (λ d. EndsSheet t.view d t.reader t.picture now then)) c.in-Some.is c.in_ok-end.ensures.ok in
+    let read = read_some t.reader (subst (λ (o : Option DrawnTrace). IfSome o (λ _. IsSome t.reader)) c.in-Some.is c.in_ok-end.ensures.present) in
+    let ended = subst (λ (o : Option DrawnTrace). IfSome o (λ d. EndsSheet t.view d t.reader t.picture now then)) c.in-Some.is c.in_ok-end.ensures.drawn in
     let whole = subst (λ (v : TraceView). EndsSheet v d t.reader t.picture now then) had.view ended in
     record {
       drawn = drawn_all c.args.sheet.now.view all mid c.lines.lines.taken t.reader t.picture first now then had.drawn read.0 d read.1 whole ends.before;
@@ -129,10 +129,10 @@ returns-in-Some g c =
       write_failures = omega (arith, c.in_ok-end.ensures.failures, had.wrote);
     }
 
-pub read-requires-clause-few : goal.read-requires-clause-few
-read-requires-clause-few g c =
+pub read-requires-clause-bounded : goal.read-requires-clause-bounded
+read-requires-clause-bounded g c =
     let mid = coming c.lines.lines.ahead (g.R.Source.to_come c.lines.input) in
     let rest = coming c.next.new.self.ahead (g.R.Source.to_come c.next.new.input) in
     let takes = subst (λ (b : Bool). GoesToNext (Ok b) c.lines.lines c.next.new.self mid rest) c.if-branch.true c.in_ok-next.ensures.next in
     let few = drawn_few c.args.sheet.now.view (g.R.Source.to_come c.args.input.now) mid c.lines.lines.taken c.lines.sheet.reader c.lines.sheet.picture (g.W.Sink.taken c.args.output.now) (g.W.Sink.taken c.lines.output) c.lines.invariant.drawn in
-    omega (arith, few, takes.taken, c.taken.ensures.taken, c.taken.ensures.few)
+    omega (arith, few, takes.taken, c.taken.ensures.taken, c.taken.ensures.bounded)

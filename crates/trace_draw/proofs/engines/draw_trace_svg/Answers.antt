@@ -12,6 +12,6 @@ returns-in-Ok g c =
     let view : TraceView = record { alloc = c.args.alloc; form = form.Picture 34; judged = c.args.judged; options = c.args.options } in
     let drawn = subst (λ (was : List ℕ). IfSome all (DrawsAllBands view d (Some was) (Some bytes))) c.new-bands.ensures.bytes c.in-Ok.ensures.drawn in (
       all_reported c.args.judged (λ s shown reported. EndsTrace (form.Picture 34) c.args.options d s shown reported (Some []) (Some bytes)) (λ s shown reported. DrawsTraceSaid (form.Picture 34) c.args.options s shown reported (g.W.Sink.taken c.args.output.now) (g.W.Sink.taken c.write_picture.new.output)) d.status
-          (λ s shown reported ends. c.in_ok-write_picture-in-Ok.ensures.ok c.args.options s shown reported (subst (λ (now : List ℕ). EndsTrace (form.Picture 34) c.args.options d s shown reported (Some []) (Some now)) (sym c.bytes.ensures) ends)) all drawn,
+          (λ s shown reported ends. c.in_ok-write_picture-in-Ok.ensures.drawn c.args.options s shown reported (subst (λ (now : List ℕ). EndsTrace (form.Picture 34) c.args.options d s shown reported (Some []) (Some now)) (sym c.bytes.ensures) ends)) all drawn,
       c.in-Ok.ensures.end,
     )

@@ -25,4 +25,4 @@ returns g c =
     let old : Streams = streams g.R.Source g.W.Sink c.args.input.now c.args.output.now in
     let new : Streams = streams g.R.Source g.W.Sink c.judge_file.new.input c.write_all.new.output in
     ends_reported c.args.why c.in_ok-reporter.reporter c.in_ok-report.report.text.items c.in_ok-report.report.status old new
-    c.in_ok-reporter.ensures.observed (c.in_ok-report.ensures c.args.why) c.in_ok-reporter.ensures.end (rw c.as_slice.ensures.value at c.in_ok-write_all.ensures.ok)
+    c.in_ok-reporter.ensures.observed (c.in_ok-report.ensures c.args.why) c.in_ok-reporter.ensures.end (rw c.as_slice.ensures.value at c.in_ok-write_all.ensures.written)

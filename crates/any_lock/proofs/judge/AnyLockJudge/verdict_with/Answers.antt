@@ -42,4 +42,4 @@ returns-clause-reasons c =
     let family : JudgeState → Type 0 = λ j. (s : Setup) (past : Past) → BothObserved j s past → AreReasonsIf (first_broken s past e) c.reasons_of-self-inside.result s past e in
     subst family c.self.view_is (λ s past both.
     subst (λ (l : Option AnyLockLaw). AreReasonsIf l c.reasons_of-self-inside.result s past e) (reported_law _ e _ _ _ _ (reported c) s past both)
-    (reasons_given c.self.inside.kept c.observe-law.new.self s past e c.observe-law.result c.reasons_of-self-inside.result both.kept both.knows c.observe-law.ensures.same c.reasons_of-self-inside.ensures.none (λ knows. c.reasons_of-self-inside.ensures.some past e refl refl refl knows)))
+    (reasons_given c.self.inside.kept c.observe-law.new.self s past e c.observe-law.result c.reasons_of-self-inside.result both.kept both.knows c.observe-law.ensures.same c.reasons_of-self-inside.ensures.none (λ knows. c.reasons_of-self-inside.ensures.reasons past e refl refl refl knows)))

@@ -17,7 +17,7 @@ pub invariant_of-self : goal.invariant_of-self
 invariant_of-self c = record {
   good = c.self.invariant.good;
   processes = c.self.invariant.processes;
-  few = omega (arith, c.requires.few, ap (λ (k : LockRunState). k.taken) c.self.view_is, ap (λ (k : LockRunState). k.entries) c.self.view_is);
+  few = omega (arith, c.requires.bounded, ap (λ (k : LockRunState). k.taken) c.self.view_is, ap (λ (k : LockRunState). k.entries) c.self.view_is);
 }
 
 pub returns-clause-setup : goal.returns-clause-setup
@@ -31,6 +31,6 @@ returns-clause-store c = λ at is.
     let same = c.index-process_view.ensures
     ∙ given_at c.self.inside.process_views.items c.from.result c.index-process_view.result.now at ((λ i. slice_get (c.self.view_is i).process_views (c.from.ensures i)) ∙ is) in
     let store = ap (λ (k : LockRunState). k.store) c.self.view_is in
-    at_ok c.apply-reply.result c.apply-reply.ensures.never_fails c.apply-reply.ensures.ok
+    at_ok c.apply-reply.result c.apply-reply.ensures.never_fails c.apply-reply.ensures.contents
     ∙ (λ i. after (store i) (same i).command (record { process = c.args.process; number = (same i).number }))
     ∙ ap (λ b. cond b (after c.args.self.now.store at.command (record { process = c.args.process; number = at.number })) c.args.self.now.store) (sym c.if-not-takes.false)

@@ -37,7 +37,7 @@ returns-then-not-is_that-clause-observed c = λ past h.
 pub run-made-requires : goal.run-made-requires
 run-made-requires c =
     let some = (next (goal.at.run-made-requires c).After-is_that).within in
-    record { some = omega arith; within = omega (arith, some) }
+    record { nonzero = omega arith; within = omega (arith, some) }
 
 pub returns-clause-setup : goal.returns-clause-setup
 returns-clause-setup c = λ none. subst (λ (x : AuditorState). c.run-made.new.self.setup ≡ x.core.setup) c.self.view_is (made (goal.at.returns-clause-setup c).After-run-made []).steps.setup

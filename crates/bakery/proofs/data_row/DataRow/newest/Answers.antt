@@ -55,7 +55,7 @@ image-bytes-requires c =
     let part = part-is row c.self.inside.setup c.self.inside.parts.items c.index-2.result.now c.from-2.result q c.self.view_is c.index-2.ensures c.from-2.ensures (omega (arith, inside, c.requires.fits.parts)) in
     let count : c.image_bytes-count.result ≡ image_bytes row.setup = c.image_bytes-count.ensures.bytes ∙ ap (λ (r : DataRow). image_bytes r.setup) c.self.view_is in
     record {
-      few = c.image_bytes-count.ensures.most;
+      bounded = c.image_bytes-count.ensures.most;
       image0 = subst (λ n. IsReadable c.index-2.result.now.image0 (8 * n)) (sym count) (subst (λ (d : Data). IsReadable d.image0 (8 * image_bytes row.setup)) (sym part) (readable row.setup row q Image0 c.requires.fits c.requires.quiet inside refl));
       image1 = subst (λ n. IsReadable c.index-2.result.now.image1 (8 * n)) (sym count) (subst (λ (d : Data). IsReadable d.image1 (8 * image_bytes row.setup)) (sym part) (readable row.setup row q Image1 c.requires.fits c.requires.quiet inside refl));
     }

@@ -12,8 +12,8 @@ close_in_order-requires-clause-ports c =
     let all : AreOfAll c.args.self.setup.processes c.args.ports.items = subst (λ (n : ℕ). AreOfAll n c.args.ports.items) (ap (λ (b : BoardState). b.setup.processes) c.self.view_is) (c.are_of_all.ensures.0 (search rules)) in
     first_ports c.args.self c.args.ports.items c.put_in_order.new.ports.items c.requires.ports all c.put_in_order.ensures.moved c.put_in_order.ensures.order
 
-pub close_in_order-requires-clause-some : goal.close_in_order-requires-clause-some
-close_in_order-requires-clause-some c =
+pub close_in_order-requires-clause-nonempty : goal.close_in_order-requires-clause-nonempty
+close_in_order-requires-clause-nonempty c =
     let many = some_processes c.self.inside.setup c.self.invariant.good in
     let every : length c.put_in_order.new.ports.items ≡ c.self.inside.setup.processes = all_later c.self.inside.setup.processes c.args.ports.items c.put_in_order.new.ports.items (c.are_of_all.ensures.0 (search rules)) c.put_in_order.ensures.moved in
     omega (arith, many, every)

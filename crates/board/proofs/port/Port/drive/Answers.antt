@@ -27,7 +27,7 @@ loop-made-init c = let port = c.args.self.now in record {
 }
 
 pub turn-requires : goal.turn-requires
-turn-requires c = let i = c.loop-made.invariant in record { board = i.board; goes = subst (λ s. goes s c.loop-made.self.view.own ≡ true) (sym i.driven.same.2) i.driven.goes }
+turn-requires c = let i = c.loop-made.invariant in record { board = i.board; enabled = subst (λ s. goes s c.loop-made.self.view.own ≡ true) (sym i.driven.same.2) i.driven.goes }
 
 pub returns-in-Answers : goal.returns-in-Answers
 returns-in-Answers c = let now = c.loop-made.self in let new = c.turn.new.self in let i = c.loop-made.invariant.driven in record {

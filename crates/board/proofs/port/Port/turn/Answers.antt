@@ -8,10 +8,10 @@ use Rattle.board.specs.declared.pending.Pending.{Pending}
 use Rattle.board.proofs.Doings.{goes_steps}
 use Rattle.board.proofs.port.Port.turn.Goals as goal
 
-pub word_step-reported-requires-clause-goes : goal.word_step-reported-requires-clause-goes
-word_step-reported-requires-clause-goes c =
+pub word_step-reported-requires-clause-enabled : goal.word_step-reported-requires-clause-enabled
+word_step-reported-requires-clause-enabled c =
     ap (λ (q : ProcessState). may_step q.doing) c.self.invariant.tied.same
-    ∙ goes_steps _ (subst (λ (p : PortState). goes p.setup p.view.own ≡ true) (sym c.self.view_is) c.requires.goes)
+    ∙ goes_steps _ (subst (λ (p : PortState). goes p.setup p.view.own ≡ true) (sym c.self.view_is) c.requires.enabled)
 
 pub invariant_of-self : goal.invariant_of-self
 invariant_of-self c =

@@ -45,7 +45,7 @@ loop-place-preserved c =
     let k : ℕ = c.loop-place.place in
     record {
       size = c.note_place.ensures.size ∙ c.loop-place.invariant.size;
-      last = λ few. next_store s calls k c.loop-place.store c.apply.new.self c.in-One.call c.caller.result few (c.loop-place.invariant.last few) (sym c.note_place.ensures.changes ∙ c.in-One.is) c.caller.ensures c.in_ok-apply-in-One.ensures.ok;
+      last = λ few. next_store s calls k c.loop-place.store c.apply.new.self c.in-One.call c.caller.result few (c.loop-place.invariant.last few) (sym c.note_place.ensures.changes ∙ c.in-One.is) c.caller.ensures c.in_ok-apply-in-One.ensures.contents;
       notes = λ few.
           let last = c.loop-place.invariant.last few in
           noted_below s calls k c.loop-place.store c.loop-place.notes.items c.note_place.new.notes.items last c.note_place.ensures.size (c.loop-place.invariant.notes few) (c.note_place.ensures.notes few (callers_of_store s calls k c.loop-place.store last));

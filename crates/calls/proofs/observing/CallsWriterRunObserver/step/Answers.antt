@@ -6,8 +6,8 @@ use Rattle.calls.specs.{HasTabled, lines_after}
 use Rattle.calls.proofs.TabledSteps.{step_lines, step_tabled}
 use Rattle.calls.proofs.observing.CallsWriterRunObserver.step.Goals as goal
 
-pub returns-clause-ok : goal.returns-clause-ok
-returns-clause-ok g c = λ s before on.
+pub returns-clause-observed : goal.returns-clause-observed
+returns-clause-observed g c = λ s before on.
     let old = c.args.self.now in
     let made = c.args.made in
     let after = Tries (Step made.process made.flick) ∷ before in (

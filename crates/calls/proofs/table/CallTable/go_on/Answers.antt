@@ -10,8 +10,8 @@ overflow_add-self c = omega (arith, ap (λ (t : TableState). t.entries) c.self.v
 pub invariant_of-self : goal.invariant_of-self
 invariant_of-self c = record { good = c.self.invariant.good; processes = c.self.invariant.processes }
 
-pub returns-then-place-len-clause-goes : goal.returns-then-place-len-clause-goes
-returns-then-place-len-clause-goes c = λ before there.
+pub returns-then-place-len-clause-step : goal.returns-then-place-len-clause-step
+returns-then-place-len-clause-step c = λ before there.
     absurd (omega (arith, slice_get_within c.args.self.now.call_states c.args.process before there, ap (λ (t : TableState). length t.call_states) c.self.view_is))
 
 pub observe-requires : goal.observe-requires
@@ -29,8 +29,8 @@ returns-clause-setup c = ap (λ (t : TableState). t.setup) c.self.view_is
 pub returns-clause-count : goal.returns-clause-count
 returns-clause-count c = ap (λ (t : TableState). t.entries + 1) c.self.view_is
 
-pub returns-clause-goes : goal.returns-clause-goes
-returns-clause-goes c = λ before there.
+pub returns-clause-step : goal.returns-clause-step
+returns-clause-step c = λ before there.
     let then : CallState = c.observe.new.self in
     let same = kept_there _ c.args.self.now c.from-place.result c.args.process c.index_mut.result.now before c.self.view_is c.from-place.ensures c.index_mut.ensures.value there in
     record {

@@ -3,12 +3,12 @@ use Rattle.draw.specs.{Changed, DrawsLines, SaysMark}
 use Rattle.draw.proofs.Written.{ok_then}
 use Rattle.draw.proofs.canvas.Canvas.draw_mark.Goals as goal
 
-pub returns-clause-ok : goal.returns-clause-ok
-returns-clause-ok g c =
+pub returns-clause-drawn : goal.returns-clause-drawn
+returns-clause-drawn g c =
     let made = c.in_ok-change.ensures in
     ok_then c.draw.result
     (λ drew s before is. (
       subst (λ (o : Option Changed). DrawsLines c.args.self.now c.draw.new.self (g.W.Sink.taken c.args.output.now) (g.W.Sink.taken c.draw.new.output) c.args.source c.args.at (SaysMark c.args.process c.args.mark.now o ∷ [])) (made.change s before is) drew,
       made.after s before is,
     ))
-    c.draw.ensures.ok
+    c.draw.ensures.drawn

@@ -27,11 +27,11 @@ loop-mark-preserved g c =
     let d = g.W.Sink.taken c.draw_mark.new.output in
     record {
       drawn = subst (λ (l : List Mark). DrawsMarks c.args.self.now c.draw_mark.new.self c.args.store.now c.draw_mark.new.store a d c.args.source c.args.at c.args.process l) (sym next)
-          (draws_marks_both c.args.self.now c.loop-mark.self c.draw_mark.new.self c.args.store.now c.loop-mark.store c.draw_mark.new.store a (g.W.Sink.taken c.loop-mark.output) d c.args.source c.args.at c.args.process marks (here ∷ []) c.loop-mark.invariant.drawn c.in_ok-draw_mark.ensures.ok);
+          (draws_marks_both c.args.self.now c.loop-mark.self c.draw_mark.new.self c.args.store.now c.loop-mark.store c.draw_mark.new.store a (g.W.Sink.taken c.loop-mark.output) d c.args.source c.args.at c.args.process marks (here ∷ []) c.loop-mark.invariant.drawn c.in_ok-draw_mark.ensures.drawn);
       whole = omega (arith, c.in_ok-draw_mark.ensures.failures, c.loop-mark.invariant.whole);
     }
 
-pub returns-clause-ok : goal.returns-clause-ok
-returns-clause-ok g c =
+pub returns-clause-drawn : goal.returns-clause-drawn
+returns-clause-drawn g c =
     subst (λ (l : List Mark). DrawsMarks c.args.self.now c.loop-mark.self c.args.store.now c.loop-mark.store (g.W.Sink.taken c.args.output.now) (g.W.Sink.taken c.loop-mark.output) c.args.source c.args.at c.args.process l)
     (take_all c.loop-mark.mark-index c.args.marks.now (omega arith)) c.loop-mark.invariant.drawn

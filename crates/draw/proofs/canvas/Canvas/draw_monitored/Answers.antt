@@ -27,4 +27,4 @@ returns-in-Some-clause-drawn g c =
       subst (λ (l : List Gives). DrawsOn k k' a b l) (gives_some c.in_ok-observe_access.field-0 c.in-Some.shown (shown_access s limit past (entry_with c.args.process c.args.access.now marks)) c.in-Some.is (seen.shown s limit past marks has is drop)) on,
       seen.monitored s limit past marks has is drop,
     ))
-    c.draw_access.ensures.ok
+    c.draw_access.ensures.drawn

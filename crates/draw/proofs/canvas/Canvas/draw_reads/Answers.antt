@@ -24,13 +24,13 @@ loop-read-preserved g c =
     let none : OverlappedRead = record { reader = 0; owner = 0; field = Choosing; bit = 0; is_wide = false; begin = 0; end = 0; value = false; more = 0 } in
     record {
       drawn = subst (λ l. DrawsOn (kept c.args.self.now) (kept c.draw_read.new.self) (g.W.Sink.taken c.args.output.now) (g.W.Sink.taken c.draw_read.new.output) l) (sym (map_next GivesRead reads k none c.loop-read-test.true))
-          (draws_on_both _ _ _ _ _ _ (map GivesRead (take k reads)) (GivesRead (get_or reads k none) ∷ []) c.loop-read.invariant.drawn c.in_ok-draw_read.ensures.ok);
+          (draws_on_both _ _ _ _ _ _ (map GivesRead (take k reads)) (GivesRead (get_or reads k none) ∷ []) c.loop-read.invariant.drawn c.in_ok-draw_read.ensures.drawn);
       overlaps = c.in_ok-draw_read.ensures.overlaps ∙ c.loop-read.invariant.overlaps;
       whole = omega (arith, c.in_ok-draw_read.ensures.failures, c.loop-read.invariant.whole);
     }
 
-pub returns-clause-ok : goal.returns-clause-ok
-returns-clause-ok g c = λ mode s past reads waits. (
+pub returns-clause-drawn : goal.returns-clause-drawn
+returns-clause-drawn g c = λ mode s past reads waits. (
   subst (λ l. DrawsOn (kept c.args.self.now) (kept c.loop-read.self) (g.W.Sink.taken c.args.output.now) (g.W.Sink.taken c.loop-read.output) (map GivesRead l))
       (take_all c.loop-read.read-index c.deref-read-items.result.now (omega arith) ∙ c.deref-read-items.ensures.value ∙ c.take_ended-ended.ensures.reads mode s past reads waits) c.loop-read.invariant.drawn,
   subst (ObservesAll mode s past []) (sym c.loop-read.invariant.overlaps) (c.take_ended-ended.ensures.none mode s past reads waits),

@@ -11,4 +11,4 @@ returns-clause-drawn g c =
     (sym c.is_empty.ensures ∙ c.if-is_empty.false)
     (c.as_slice.ensures.value ∙ c.in_ok-last.ensures ∙ sym (text_of_content line.at line.line_content))
     c.in_ok-verdict.ensures
-    c.in_ok-draw_reads.ensures.ok
+    c.in_ok-draw_reads.ensures.drawn

@@ -5,8 +5,8 @@ use Rattle.draw.proofs.Drawn.{draws_rest}
 use Rattle.draw.proofs.Ending.{last_drawn}
 use Rattle.draw.proofs.canvas.Canvas.end.Goals as goal
 
-pub returns-clause-ok : goal.returns-clause-ok
-returns-clause-ok g c =
+pub returns-clause-drawn : goal.returns-clause-drawn
+returns-clause-drawn g c =
     let line = c.args.line in
     let last = says_of line.line_content in
     let mid = c.draw_up_to_verdict.new.self in
@@ -15,6 +15,6 @@ returns-clause-ok g c =
     let z = g.W.Sink.taken c.write_last.new.output in
     let bands = c.in_ok-full.ensures in
     let verdict = c.in_ok-verdict.verdict in
-    let rest = draws_rest line.at verdict (kept mid) (seen_windowed c.end.new.self) c.in_ok-full.full c.in_ok-full.last b z bands.lines bands.page (c.in_ok-write_last.ensures.ok bands.full bands.last) in
+    let rest = draws_rest line.at verdict (kept mid) (seen_windowed c.end.new.self) c.in_ok-full.full c.in_ok-full.last b z bands.lines bands.page (c.in_ok-write_last.ensures.drawn bands.full bands.last) in
     subst (DrawsLast c.args.self.now a z line.source line.at c.args.reported.now last) (sym c.height.ensures)
     (last_drawn c.args.self.now mid a b z line.source line.at c.args.reported.now last verdict c.end.new.self.page.height c.in_ok-verdict.ensures.drawn rest)

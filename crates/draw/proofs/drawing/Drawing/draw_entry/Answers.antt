@@ -18,7 +18,7 @@ returns-clause-drawn g c = λ view s parts e process access marks reports recall
     (c.in_ok-observe.ensures.observes view.reads s past (reads_since s parts) e access recalls.waits recalls.entries reports)
     (shown.drawn view s past c.args.marks.now recalls.entries (sym c.drops_open_read.ensures) recalls.accesses)
     shown.overlaps shown.store shown.source
-    c.in_ok-draw_marks.ensures.ok refl (ap (λ (n : ℕ). n + 1) shown.entries)
+    c.in_ok-draw_marks.ensures.drawn refl (ap (λ (n : ℕ). n + 1) shown.entries)
     (subst (λ (x : StoreBefore). IsStoreBefore view.window s (e ∷ past) x) (sym shown.before)
     (before_on view.window s past e b (inl (λ many. kept.kept (subst (λ n. b.from ≤ n) (sym recalls.entries) many)))
     (kept.before view.window s past recalls.store recalls.entries recalls.before)))

@@ -16,4 +16,4 @@ returns c = λ mode s past e is monitors.
     let some = is ∙ c.in-Some-access.is in
     subst (λ (a : Option Access). ReportsEnd mode s past a over.result × Monitors mode s (e ∷ past) (Some c.observe.new.self)) (sym c.in-Some-access.is)
     (monitors_on mode s past e c.in-Some-access.access over.result c.in-Some.monitor c.observe.new.self some c.observe.ensures.setup (c.observe.ensures.observed past e some)
-    (over.ensures.there past) over.ensures.stray (subst (λ (w : Option MonitorState). Monitors mode s past w) c.in-Some.is monitors))
+    (over.ensures.in_range past) over.ensures.stray (subst (λ (w : Option MonitorState). Monitors mode s past w) c.in-Some.is monitors))

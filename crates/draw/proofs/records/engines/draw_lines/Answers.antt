@@ -20,7 +20,7 @@ lines-preserved g c =
     let rest = coming c.next.new.self.ahead (g.R.Source.to_come c.next.new.input) in
     let takes = subst (λ (b : Bool). GoesToNext (Ok b) c.lines.lines c.next.new.self mid rest) c.if-branch.true c.in_ok-next.ensures.next in
     record {
-      onwards = onwards_on (g.R.Source.to_come c.args.input.now) mid rest c.lines.lines c.next.new.self c.line.result.now c.lines.sheet c.read.new.self (g.W.Sink.taken c.args.output.now) _ _ c.lines.invariant.onwards takes c.line.ensures c.in_ok-read.ensures.ok;
+      onwards = onwards_on (g.R.Source.to_come c.args.input.now) mid rest c.lines.lines c.next.new.self c.line.result.now c.lines.sheet c.read.new.self (g.W.Sink.taken c.args.output.now) _ _ c.lines.invariant.onwards takes c.line.ensures c.in_ok-read.ensures.drawn;
       holds = c.in_ok-next.ensures.holds c.lines.invariant.holds;
       form = c.in_ok-read.ensures.form ∙ c.lines.invariant.form;
       options = c.in_ok-read.ensures.options ∙ c.lines.invariant.options;
@@ -117,10 +117,10 @@ returns-in-Some g c =
       write_failures = omega (arith, ended.failures, c.lines.invariant.wrote);
     }
 
-pub read-requires-clause-few : goal.read-requires-clause-few
-read-requires-clause-few g c =
+pub read-requires-clause-bounded : goal.read-requires-clause-bounded
+read-requires-clause-bounded g c =
     let mid = coming c.lines.lines.ahead (g.R.Source.to_come c.lines.input) in
     let rest = coming c.next.new.self.ahead (g.R.Source.to_come c.next.new.input) in
     let takes = subst (λ (b : Bool). GoesToNext (Ok b) c.lines.lines c.next.new.self mid rest) c.if-branch.true c.in_ok-next.ensures.next in
     let few = onwards_few (g.R.Source.to_come c.args.input.now) mid c.lines.lines.taken c.lines.sheet (g.W.Sink.taken c.args.output.now) (g.W.Sink.taken c.lines.output) c.lines.invariant.onwards in
-    omega (arith, few, takes.taken, c.taken.ensures.taken, c.taken.ensures.few)
+    omega (arith, few, takes.taken, c.taken.ensures.taken, c.taken.ensures.bounded)

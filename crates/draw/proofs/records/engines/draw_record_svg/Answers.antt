@@ -14,5 +14,5 @@ returns-in-Ok g c =
     (ok_then c.write_picture.result
     (λ ends. if_some all _ _ (λ text. of_record_then _ _ text (λ s entries numbers bands. ends c.args.options (record { setup = s; entries = entries }) []
     (subst (λ (l : List ℕ). DrawsBandsOf c.args.options (form.Picture 34) c.in-Ok.drawn (Some []) (Some l) (record { setup = s; entries = entries }) []) (sym c.bytes.ensures) bands))) bands)
-    c.write_picture.ensures.ok)
+    c.write_picture.ensures.drawn)
     c.in-Ok.ensures.end c.write_picture.ensures.fault (omega (arith, c.write_picture.ensures.failures))

@@ -25,5 +25,5 @@ returns-clause-drawn g c = λ to_come first u.
     let now = g.W.Sink.taken c.args.output.now in
     let after = g.W.Sink.taken c.end.new.output in
     let drawn = λ (d : DrawnEntry) (reported : List ℕ). (p : Progress) (past : Past) (first : Option (List ℕ)) → t.reader ≡ Some p → Stands t (Some p) past first now → (d.setup ≡ p.head.setup) × EndsAsked t.options t.form p.head.setup past reported d.shows d.opening.items d.height first after in
-    let ended = subst (drawn c.in-Some-2.drawn) c.as_slice.ensures.value (subst (λ (o : Option DrawnEntry). IfSome o (λ d. drawn d c.as_slice.result.now)) c.in-Some-2.is c.in_ok-end.ensures.ok) in
+    let ended = subst (drawn c.in-Some-2.drawn) c.as_slice.ensures.value (subst (λ (o : Option DrawnEntry). IfSome o (λ d. drawn d c.as_slice.result.now)) c.in-Some-2.is c.in_ok-end.ensures.drawn) in
     read_judged g.H.EntryObserver.HasObserved g.H.Judging.Keeps g.H.Judging.finds_good g.met.H.Judging.begins g.met.H.Judging.good g.met.H.Judging.bad to_come c.args.lines.now.taken _ _ t first now u g.H.EntryObserver.Reports c.in-Some.reporting c.in-Some-2.drawn after is ended

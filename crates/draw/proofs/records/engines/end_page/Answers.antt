@@ -4,8 +4,8 @@ use Rattle.draw.proofs.Whole.{page_drawn}
 use Rattle.draw.proofs.Written.{ok_then}
 use Rattle.draw.proofs.records.engines.end_page.Goals as goal
 
-pub returns-clause-ok : goal.returns-clause-ok
-returns-clause-ok g c =
+pub returns-clause-drawn : goal.returns-clause-drawn
+returns-clause-drawn g c =
     let a = g.W.Sink.taken c.args.output.now in
     let b = g.W.Sink.taken c.write_page_end.new.output in
     ok_then c.write_page_end.result

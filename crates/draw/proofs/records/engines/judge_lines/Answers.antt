@@ -42,7 +42,7 @@ lines-preserved g c =
     let takes = subst (λ (b : Bool). GoesToNext (Ok b) c.lines.lines c.next.new.self mid rest) c.if-branch.true c.in_ok-next.ensures.next in
     record {
       judged = judged_shown g.H.EntryObserver.HasObserved g.H.Judging.Keeps g.H.Judging.finds_good g.met.H.Judging.begins g.met.H.Judging.good g.met.H.Judging.bad (g.R.Source.to_come c.args.input.now) mid rest c.lines.lines c.next.new.self c.taken-number.result c.line-line.result.now _ _ _ _ c.lines.sheet c.read.new.self (g.W.Sink.taken c.args.output.now) (g.W.Sink.taken c.lines.output) (g.W.Sink.taken c.read.new.output) c.lines.shows c.is_good-shows.result
-          c.if-not-shows.false c.lines.invariant.judged takes c.taken-number.ensures.taken c.line-line.ensures c.in_default.ensures c.in_ok-read.ensures.ok c.is_good-shows.ensures;
+          c.if-not-shows.false c.lines.invariant.judged takes c.taken-number.ensures.taken c.line-line.ensures c.in_default.ensures c.in_ok-read.ensures.drawn c.is_good-shows.ensures;
       holds = c.in_ok-next.ensures.holds c.lines.invariant.holds;
       form = c.in_ok-read.ensures.form ∙ c.lines.invariant.form;
       options = c.in_ok-read.ensures.options ∙ c.lines.invariant.options;
@@ -65,21 +65,21 @@ returns g c =
       write_failures = omega (arith, c.lines.invariant.wrote);
     }
 
-pub line-requires-clause-few : goal.line-requires-clause-few
-line-requires-clause-few g c =
+pub line-requires-clause-bounded : goal.line-requires-clause-bounded
+line-requires-clause-bounded g c =
     let mid = coming c.lines.lines.ahead (g.R.Source.to_come c.lines.input) in
     let rest = coming c.next.new.self.ahead (g.R.Source.to_come c.next.new.input) in
     let takes = subst (λ (b : Bool). GoesToNext (Ok b) c.lines.lines c.next.new.self mid rest) c.if-branch.true c.in_ok-next.ensures.next in
     let few = onwards_few g.H.EntryObserver.HasObserved g.H.EntryObserver.count g.met.H.EntryObserver.counts (g.R.Source.to_come c.args.input.now) mid c.lines.lines.taken _ _ c.lines.invariant.judged.onwards in
-    omega (arith, few, takes.taken, c.taken-number.ensures.taken, c.taken-number.ensures.few)
+    omega (arith, few, takes.taken, c.taken-number.ensures.taken, c.taken-number.ensures.bounded)
 
-pub read-requires-clause-few : goal.read-requires-clause-few
-read-requires-clause-few g c =
+pub read-requires-clause-bounded : goal.read-requires-clause-bounded
+read-requires-clause-bounded g c =
     let mid = coming c.lines.lines.ahead (g.R.Source.to_come c.lines.input) in
     let rest = coming c.next.new.self.ahead (g.R.Source.to_come c.next.new.input) in
     let takes = subst (λ (b : Bool). GoesToNext (Ok b) c.lines.lines c.next.new.self mid rest) c.if-branch.true c.in_ok-next.ensures.next in
     let few = shown_few g.H.EntryObserver.HasObserved g.H.Judging.Keeps g.H.Judging.finds_good (g.R.Source.to_come c.args.input.now) mid c.lines.lines.taken _ _ c.lines.sheet (g.W.Sink.taken c.args.output.now) (g.W.Sink.taken c.lines.output) c.lines.shows c.if-not-shows.false c.lines.invariant.judged in
-    omega (arith, few, takes.taken, c.taken-number.ensures.taken, c.taken-number.ensures.few)
+    omega (arith, few, takes.taken, c.taken-number.ensures.taken, c.taken-number.ensures.bounded)
 
 -- The faults.
 

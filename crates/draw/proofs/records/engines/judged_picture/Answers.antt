@@ -13,6 +13,6 @@ returns-in-Ok g c =
     let bands = λ (was now : List ℕ). DrawsBandsOf options (form.Picture 34) c.in-Ok.drawn (Some was) (Some now) in
     let drawn = subst (λ (was : List ℕ). IfSome all (IsOfRecord (IsJudged g.H.Judging.Keeps g.H.EntryObserver.Reports c.in-Ok.status (bands was bytes)))) c.new-bands.ensures.bytes c.in-Ok.ensures.drawn in (
       judged_all g.H.Judging.Keeps g.H.EntryObserver.Reports c.in-Ok.status (bands [] bytes) (λ said reported. DrawsAsked options (form.Picture 34) said reported (g.W.Sink.taken c.args.output.now) (g.W.Sink.taken c.write_picture.new.output))
-          (λ said reported held. c.in_ok-write_picture-in-Ok.ensures.ok options said reported (subst (λ (now : List ℕ). bands [] now said reported) (sym c.bytes.ensures) held)) all drawn,
+          (λ said reported held. c.in_ok-write_picture-in-Ok.ensures.drawn options said reported (subst (λ (now : List ℕ). bands [] now said reported) (sym c.bytes.ensures) held)) all drawn,
       c.in-Ok.ensures.end,
     )

@@ -51,7 +51,7 @@ loop-line-preserved g c =
       drawn = λ (plan : WindowPlan) (view : AccessView) first recalls.
           drawn_on plan view s lines (drop (k + 1) lines) here c.loop-line.scenario_run c.draw_line.new.scenario_run mid c.draw_line.new.run a b (g.W.Sink.taken c.draw_line.new.output)
           (subst (λ (rest : List Line). Drawn plan view s lines rest c.loop-line.scenario_run mid a b) next (c.loop-line.invariant.drawn plan view first recalls))
-          c.in_ok-draw_line.ensures.ok c.in_ok-draw_line.ensures.source;
+          c.in_ok-draw_line.ensures.drawn c.in_ok-draw_line.ensures.source;
       source = omega (arith, c.in_ok-draw_line.ensures.source, c.loop-line.invariant.source);
       whole = omega (arith, c.in_ok-draw_line.ensures.failures, c.loop-line.invariant.whole);
       room = c.in_ok-draw_line.ensures.room ((4000 - (k + 1)) * 2 ^ 32) (goes_on (tally mid) k (length lines) within c.args.scenario.now.few c.loop-line.invariant.room);
@@ -66,8 +66,8 @@ draw_line-requires-clause-room g c =
 whole_drawn : (k : ℕ) (lines : List Line) (P : List Line → Type 0) → length lines ≤ k → P (drop k lines) → P []
 whole_drawn k lines P all drawn = subst P (drop_all k lines all) drawn
 
-pub returns-clause-ok : goal.returns-clause-ok
-returns-clause-ok g c =
+pub returns-clause-drawn : goal.returns-clause-drawn
+returns-clause-drawn g c =
     let s : Setup = c.args.scenario.now.setup in
     let lines : List Line = c.args.scenario.now.lines.items in
     let mid : RunDrawing = c.loop-line.run in

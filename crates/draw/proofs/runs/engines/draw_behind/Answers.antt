@@ -2,8 +2,8 @@ use Rattle.std.proofs.Common.{ℕ, List, subst, ◌∙◌}
 use Rattle.draw.specs.{EndsPage}
 use Rattle.draw.proofs.runs.engines.draw_behind.Goals as goal
 
-pub returns-clause-ok : goal.returns-clause-ok
-returns-clause-ok g c =
+pub returns-clause-drawn : goal.returns-clause-drawn
+returns-clause-drawn g c =
     let drawn = c.in_ok-drawn.ensures in
     let mid = g.W.Sink.taken c.draw_bands.new.output in
     let last = g.W.Sink.taken c.write_page_end.new.output in

@@ -8,7 +8,7 @@ returns g c =
     let head = c.in_ok-head.ensures in
     let drew = c.draw_behind.ensures in
     record {
-      ok = ok_then c.draw_behind.result
+      drawn = ok_then c.draw_behind.result
           (draws_page c.args.options c.args.file.now (script c.args.scenario.now) (g.W.Sink.taken c.args.output.now) (g.W.Sink.taken c.draw_behind.new.output) c.in_ok-head.head head.draws head.lines head.elements)
           drew.ok;
       summary = drew.summary;

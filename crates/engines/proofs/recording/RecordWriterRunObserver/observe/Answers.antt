@@ -3,11 +3,11 @@ use Rattle.scenario_run.proofs.Played.{on_fault}
 use Rattle.engines.proofs.Recordings.{entry_copied, entry_cut}
 use Rattle.engines.proofs.recording.RecordWriterRunObserver.observe.Goals as goal
 
-pub returns-clause-ok : goal.returns-clause-ok
-returns-clause-ok g c = λ s before this happens. (
+pub returns-clause-observed : goal.returns-clause-observed
+returns-clause-observed g c = λ s before this happens. (
   refl,
   record {
-    writes = λ _. entry_copied s before this c.args.reported.now _ _ happens c.in_ok-write_entry.ensures.ok;
+    writes = λ _. entry_copied s before this c.args.reported.now _ _ happens c.in_ok-write_entry.ensures.written;
     whole = c.in_ok-write_entry.ensures.failures ∙ add-zero (g.W.Sink.failures c.args.self.now.output.now);
   },
 )

@@ -3,11 +3,11 @@ use Rattle.scenario_run.proofs.Played.{on_fault}
 use Rattle.engines.proofs.Recordings.{step_copied, step_cut}
 use Rattle.engines.proofs.recording.RecordWriterRunObserver.step.Goals as goal
 
-pub returns-clause-ok : goal.returns-clause-ok
-returns-clause-ok g c = λ s before on. (
+pub returns-clause-observed : goal.returns-clause-observed
+returns-clause-observed g c = λ s before on. (
   refl,
   record {
-    writes = λ _. step_copied s before c.args.made _ _ on c.in_ok-write_step.ensures.ok;
+    writes = λ _. step_copied s before c.args.made _ _ on c.in_ok-write_step.ensures.written;
     whole = c.in_ok-write_step.ensures.failures ∙ add-zero (g.W.Sink.failures c.args.self.now.output.now);
   },
 )

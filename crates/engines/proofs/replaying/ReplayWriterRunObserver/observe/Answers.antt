@@ -4,14 +4,14 @@ use Rattle.scenario_run.proofs.Endings.{err_both, ok_both}
 use Rattle.engines.proofs.Replayings.{reported_cut, reported_written}
 use Rattle.engines.proofs.replaying.ReplayWriterRunObserver.observe.Goals as goal
 
-pub returns-clause-ok : goal.returns-clause-ok
-returns-clause-ok g c =
+pub returns-clause-observed : goal.returns-clause-observed
+returns-clause-observed g c =
     let old = c.args.self.now in
     ok_both c.write_turn.result (g.W.Sink.failures old.output.now) (g.W.Sink.failures c.write_turn.new.output) (λ wrote counted whole s before this happens. (
       refl,
       counts_observed s before this c.args.reported.now old.summary c.write_turn.new.summary happens counted,
       record { writes = reported_written s before this c.args.reported.now old.summary _ _ happens wrote; whole = whole },
-    )) c.write_turn.ensures.ok c.write_turn.ensures.count c.write_turn.ensures.failures
+    )) c.write_turn.ensures.written c.write_turn.ensures.count c.write_turn.ensures.failures
 
 pub returns-clause-cut : goal.returns-clause-cut
 returns-clause-cut g c =

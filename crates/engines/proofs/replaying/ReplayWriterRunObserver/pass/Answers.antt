@@ -6,8 +6,8 @@ use Rattle.scenario_run.proofs.Endings.{took_same}
 use Rattle.scenario_run.proofs.Within.{within_quietly}
 use Rattle.engines.proofs.replaying.ReplayWriterRunObserver.pass.Goals as goal
 
-pub returns-clause-ok : goal.returns-clause-ok
-returns-clause-ok g c = λ off s before after newest is passed.
+pub returns-clause-observed : goal.returns-clause-observed
+returns-clause-observed g c = λ off s before after newest is passed.
     let passes = within_quietly s _ c.args.steps before after passed.within in
     let old = c.args.self.now in (
       refl,

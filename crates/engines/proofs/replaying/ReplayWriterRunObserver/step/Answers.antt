@@ -6,8 +6,8 @@ use Rattle.scenario_run.proofs.Counting.{counts_stepped, step_passes, text_passe
 use Rattle.scenario_run.proofs.Endings.{took_same}
 use Rattle.engines.proofs.replaying.ReplayWriterRunObserver.step.Goals as goal
 
-pub returns-clause-ok : goal.returns-clause-ok
-returns-clause-ok g c = λ s before on.
+pub returns-clause-observed : goal.returns-clause-observed
+returns-clause-observed g c = λ s before on.
     let old = c.args.self.now in
     let made = c.args._made in
     let after = Tries (Step made.process made.flick) ∷ before in (

@@ -2,5 +2,5 @@ use Rattle.std.proofs.Common.{◌∙◌, sym}
 use Rattle.engines.proofs.Sweepings.{calls_passed}
 use Rattle.engines.proofs.sweeping.CallsRunObserver.pass.Goals as goal
 
-pub returns-clause-ok : goal.returns-clause-ok
-returns-clause-ok c = λ none s before after newest how passes are. are ∙ sym (calls_passed s c.args._process c.args.steps before after passes.within)
+pub returns-clause-observed : goal.returns-clause-observed
+returns-clause-observed c = λ none s before after newest how passes are. are ∙ sym (calls_passed s c.args._process c.args.steps before after passes.within)

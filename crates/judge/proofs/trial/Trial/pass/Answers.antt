@@ -26,7 +26,7 @@ returns-in_ok-pass_entry g c =
     let says : now.entry ≡ Some e = c.in-Some-last_entry.ensures in
     let read : words_read record_grammar (words_of c.args.line.now) old.reader ≡ Ok (Some now) = c.in_ok-read_any_line.ensures ∙ ap (λ (o : Option Progress). Ok o) c.in-Some.is in
     let observes = subst (λ (s : Setup). (entries : List Entry) (numbers : List ℕ) → Observes observed old.observer s entries numbers → Observes observed c.pass_entry.new.observer s (entries ++ e ∷ []) (numbers ++ c.args.number ∷ [])) c.setup.ensures.value (c.in_ok-pass_entry.ensures.observed e c.args.number) in
-    λ before entries numbers view_of. ends_observed observed c.args.number c.args.line.now old.reader (Some c.forget_entry.new.self) now e old.observer c.pass_entry.new.observer before entries numbers c.requires.short view_of read says remaining c.in_ok-pass_entry.ensures.some observes
+    λ before entries numbers view_of. ends_observed observed c.args.number c.args.line.now old.reader (Some c.forget_entry.new.self) now e old.observer c.pass_entry.new.observer before entries numbers c.requires.short view_of read says remaining c.in_ok-pass_entry.ensures.present observes
 
 pub returns-in_default-last_entry : goal.returns-in_default-last_entry
 returns-in_default-last_entry g c =

@@ -23,5 +23,5 @@ invariant_of-self c =
       differ = ap names_differ more.found ∙ differ-more (pairs_in c.self.inside.places) (c.args.name, c.args.value) c.self.invariant.differ (sym c.is_among.ensures ∙ c.if-is_among.false);
     }
 
-pub returns-clause-ok : goal.returns-clause-ok
-returns-clause-ok c = (packed c).found ∙ ap (λ pairs. pairs ++ (c.args.name, c.args.value) ∷ []) c.self.view_is
+pub returns-clause-pairs : goal.returns-clause-pairs
+returns-clause-pairs c = (packed c).found ∙ ap (λ pairs. pairs ++ (c.args.name, c.args.value) ∷ []) c.self.view_is

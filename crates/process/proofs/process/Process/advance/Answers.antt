@@ -6,13 +6,13 @@ use Rattle.process.proofs.process.Process.advance.Goals as goal
 use Rattle.process.proofs.process.Process.advance.Goals.{After-advance}
 
 pub next-how-requires : goal.next-how-requires
-next-how-requires c = (stands c.self.inside.called c.self.inside.work c.self.inside.cursor c.self.invariant (ap (λ (s : ProcessState). may_step s.doing) c.self.view_is ∙ c.requires.goes)).going
+next-how-requires c = (stands c.self.inside.called c.self.inside.work c.self.inside.cursor c.self.invariant (ap (λ (s : ProcessState). may_step s.doing) c.self.view_is ∙ c.requires.enabled)).going
 
 pub advance-requires : goal.advance-requires
-advance-requires c = (stands c.self.inside.called c.self.inside.work c.self.inside.cursor c.self.invariant (ap (λ (s : ProcessState). may_step s.doing) c.self.view_is ∙ c.requires.goes)).going
+advance-requires c = (stands c.self.inside.called c.self.inside.work c.self.inside.cursor c.self.invariant (ap (λ (s : ProcessState). may_step s.doing) c.self.view_is ∙ c.requires.enabled)).going
 
 moved : (c : After-advance) → HasMoved c.self.inside.called c.self.inside.work c.args.flick c.args.value c.self.inside.cursor c.advance.new.self c.is_fresh-fresh.result
-moved c = has-moved c.args.flick c.args.value c.self.invariant (ap (λ (s : ProcessState). may_step s.doing) c.self.view_is ∙ c.requires.goes) c.given.ensures c.next-how.ensures c.advance.ensures c.is_fresh-fresh.ensures
+moved c = has-moved c.args.flick c.args.value c.self.invariant (ap (λ (s : ProcessState). may_step s.doing) c.self.view_is ∙ c.requires.enabled) c.given.ensures c.next-how.ensures c.advance.ensures c.is_fresh-fresh.ensures
 
 pub go_on-requires : goal.go_on-requires
 go_on-requires c = record { moved = (c.args.flick, c.args.value, _, moved (goal.at.go_on-requires c).After-advance) }

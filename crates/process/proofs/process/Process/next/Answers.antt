@@ -11,7 +11,7 @@ returns-clause-access c =
     let q = c.self.inside in
     c.next.ensures
     ∙ ap (next_access q.cursor) c.given.ensures
-    ∙ next-is q.called q.work q.cursor c.args.flick c.self.invariant (ap (λ (s : ProcessState). may_step s.doing) c.self.view_is ∙ c.requires.goes)
+    ∙ next-is q.called q.work q.cursor c.args.flick c.self.invariant (ap (λ (s : ProcessState). may_step s.doing) c.self.view_is ∙ c.requires.enabled)
     ∙ ap (λ (s : ProcessState). next_at s c.args.flick) c.self.view_is
 
 pub returns-clause-register : goal.returns-clause-register
@@ -21,4 +21,4 @@ returns-clause-register c =
     (subst (IsOfRegister q.called.call.setup q.called.call.process (doing_at q.called q.work q.cursor)) (sym c.next.ensures) (of-register q.called q.work q.cursor c.given.result c.self.invariant))
 
 pub next-requires : goal.next-requires
-next-requires c = (stands c.self.inside.called c.self.inside.work c.self.inside.cursor c.self.invariant (ap (λ (s : ProcessState). may_step s.doing) c.self.view_is ∙ c.requires.goes)).going
+next-requires c = (stands c.self.inside.called c.self.inside.work c.self.inside.cursor c.self.invariant (ap (λ (s : ProcessState). may_step s.doing) c.self.view_is ∙ c.requires.enabled)).going

@@ -9,7 +9,7 @@ use Rattle.process.proofs.process.Process.run.Goals.{After-run-arg-3-1}
 
 -- by its cursor
 shown : (c : After-run-arg-3-1) → RunsShown c.args.steps c.self.inside.called c.self.inside.work c.self.inside.cursor c.args.self.now c.args.memory.now c.args.flicks.now
-shown c = shown-run c.args.steps c.self.inside.called c.self.inside.work c.self.inside.cursor c.args.self.now c.args.memory.now c.args.flicks.now c.self.invariant c.self.view_is c.requires.some c.requires.remaining
+shown c = shown-run c.args.steps c.self.inside.called c.self.inside.work c.self.inside.cursor c.args.self.now c.args.memory.now c.args.flicks.now c.self.invariant c.self.view_is c.requires.nonzero c.requires.remaining
 
 pub run-requires-clause-kind : goal.run-requires-clause-kind
 run-requires-clause-kind c = (shown c).kind
@@ -19,7 +19,7 @@ run-requires-clause-within c = (shown c).within
 
 pub run-requires-clause-fits : goal.run-requires-clause-fits
 run-requires-clause-fits c =
-    let more : 0 < remaining_at c.args.self.now = omega (arith, c.requires.some, c.requires.remaining) in
+    let more : 0 < remaining_at c.args.self.now = omega (arith, c.requires.nonzero, c.requires.remaining) in
     shown-fits c.self.inside.called c.self.inside.work c.self.inside.cursor c.args.self.now c.args.memory.now c.self.invariant c.self.view_is (remaining-goes c.args.self.now more) c.requires.memory
 
 pub invariant_of-self : goal.invariant_of-self

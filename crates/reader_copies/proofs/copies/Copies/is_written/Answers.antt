@@ -17,7 +17,7 @@ returns-clause-written c = λ some.
     let at : (c.args.k + j) % 64 ≡ place = omega (arith, inside, c.requires.word) in (
       j,
       omega (arith, inside),
-      ap (λ (x : Cell). x.writing) (sym (cells-read _ _ c.args.k (c.args.k + j) c.self.view_is c.self.invariant c.index.ensures (omega (arith, inside, c.requires.there)) (omega (arith, inside, c.requires.word))))
+      ap (λ (x : Cell). x.writing) (sym (cells-read _ _ c.args.k (c.args.k + j) c.self.view_is c.self.invariant c.index.ensures (omega (arith, inside, c.requires.in_range)) (omega (arith, inside, c.requires.word))))
           ∙ ap (flag_in flags.writing) at ∙ there.1,
     )
 
@@ -26,7 +26,7 @@ returns-clause-closed c = λ closed j below.
     let i : ℕ = c.args.k + j in
     let flags = c.index.result.now in
     let none : bit_and flags.writing c.mask.result ≡ 0 = eqb-true (bit_and flags.writing c.mask.result) 0 (turned (bit_and flags.writing c.mask.result == 0) closed) in
-    ap (λ (x : Cell). x.writing) (sym (cells-read _ _ c.args.k i c.self.view_is c.self.invariant c.index.ensures (omega (arith, c.requires.there)) (omega (arith, c.requires.word))))
+    ap (λ (x : Cell). x.writing) (sym (cells-read _ _ c.args.k i c.self.view_is c.self.invariant c.index.ensures (omega (arith, c.requires.in_range)) (omega (arith, c.requires.word))))
     ∙ none_both flags.writing c.mask.result (i % 64) none (c.mask.ensures.inside (i % 64) (omega (arith, c.requires.word)) (omega (arith, c.requires.word)))
   where
     turned : (b : Bool) → not b ≡ false → b ≡ true

@@ -13,7 +13,7 @@ pub returns : goal.returns
 returns c =
     let flags = c.index_mut-flags.result.now in
     let mask = c.mask-mask.result in
-    cells-masked _ _ c.args.k c.args.n _ c.self.view_is c.self.invariant c.index_mut-flags.ensures.value c.requires.word c.requires.there c.requires.some c.mask-mask.ensures (λ i. after_write (flag_in c.args.word i))
+    cells-masked _ _ c.args.k c.args.n _ c.self.view_is c.self.invariant c.index_mut-flags.ensures.value c.requires.word c.requires.in_range c.requires.nonzero c.mask-mask.ensures (λ i. after_write (flag_in c.args.word i))
     (λ i below.
     same_cell (c.choose-flags.ensures i)
     (c.choose-flags-2.ensures i ∙ ap (λ b. cond (flag_in mask i) b (flag_in flags.writing i)) (flag-zero i))

@@ -7,4 +7,4 @@ pub apply-requires : goal.apply-requires
 apply-requires c =
     let P : Made → Type 0 = λ made. CanMake c.args.self.now c.args.bit made in
     subst P (sym (c.next-made.ensures ∙ ap (next_read c.args.reader c.args.run.now) c.answer-value.ensures))
-    (read_can c.args.self.now c.args.bit c.args.reader c.args.run.now c.args.flick c.requires.there c.requires.turn)
+    (read_can c.args.self.now c.args.bit c.args.reader c.args.run.now c.args.flick c.requires.cell c.requires.turn)

@@ -11,7 +11,7 @@ returns-then-process-ge-MOST_PROCESSES-clause-taken c = λ past marks taken is_n
     let p = c.args.process in
     let above : 16 ≤ p = omega (arith, c.if-process-ge-MOST_PROCESSES.true) in
     let old : HasTaken w past = subst (λ (w : MonitorState). HasTaken w past) (sym c.self.view_is) taken in
-    let none : possible_access w.setup p c.args.access.now ≡ None = impossible w.setup p c.args.access.now (out-of-range w.setup p c.possible-access.ensures.few above) in
+    let none : possible_access w.setup p c.args.access.now ≡ None = impossible w.setup p c.args.access.now (out-of-range w.setup p c.possible-access.ensures.bounded above) in
     subst (λ (t : MonitorState). HasTaken t (entry_with p (possible_access t.setup p c.args.access.now) marks ∷ past)) c.self.view_is
     (taken-still w p (possible_access w.setup p c.args.access.now) marks past none above old)
 
@@ -21,7 +21,7 @@ returns-then-process-ge-MOST_PROCESSES-clause-monitored c = λ past marks taken 
     let w : MonitorState = record { setup = i.openings; bits = i.bits; waves = i.waves; opened = i.opened; limit = i.limit } in
     let p = c.args.process in
     let above : 16 ≤ p = omega (arith, c.if-process-ge-MOST_PROCESSES.true) in
-    sym (none-shown w.setup w.limit past (entry_with p (possible_access w.setup p c.args.access.now) marks) (out-of-range w.setup p c.possible-access.ensures.few above))
+    sym (none-shown w.setup w.limit past (entry_with p (possible_access w.setup p c.args.access.now) marks) (out-of-range w.setup p c.possible-access.ensures.bounded above))
     ∙ ap (λ (w : MonitorState). monitored w.setup w.limit past (entry_with p (possible_access w.setup p c.args.access.now) marks)) c.self.view_is
 
 pub returns-clause-taken : goal.returns-clause-taken

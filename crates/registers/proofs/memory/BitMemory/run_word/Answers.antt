@@ -24,8 +24,8 @@ returns-in-Some-clause-leads c =
     (lane-found c.self.inside.lanes.items c.args.self.now lane (first_lane cur) c.index_mut.result.now c.self.view_is lane_is c.index_mut.ensures.value inside)
     c.in-Some.ensures.quiet c.in-Some.ensures.word c.in-Some.ensures.read c.keep_word.ensures)
 
-pub write_word-requires-clause-there : goal.write_word-requires-clause-there
-write_word-requires-clause-there c =
+pub write_word-requires-clause-in_range : goal.write_word-requires-clause-in_range
+write_word-requires-clause-in_range c =
     let cur = c.args.cursor.now in
     let r = c.cursor.inside in
     let lane_is : r.lane ≡ first_lane cur = c.cursor.invariant.lane_is ∙ ap first_lane c.cursor.view_is in

@@ -5,13 +5,13 @@ use Rattle.run_state.specs.{Passes}
 use Rattle.run_state.proofs.Seeing.{newest_within, passes_of}
 use Rattle.run_state.proofs.observer.StateObserverRunObserver.pass.Goals as goal
 
-pub returns-clause-ok : goal.returns-clause-ok
-returns-clause-ok c = λ off s before after newest is passed seen.
+pub returns-clause-observed : goal.returns-clause-observed
+returns-clause-observed c = λ off s before after newest is passed seen.
     let p = c.args.process in
     let n = c.args.steps in
     let most = seen.reported in
     let more = c.pass.ensures.count in
-    let some = c.requires.some in
+    let some = c.requires.nonzero in
     record {
       setup = c.pass.ensures.setup ∙ seen.setup;
       observed = c.pass.ensures.observed p (past_after s before) (past_after s after) (subst (λ (s' : Setup). Passes s' p n (past_after s before) (past_after s after)) (sym seen.setup) (passes_of s p n before after passed.within)) seen.observed;

@@ -11,7 +11,7 @@ returns-then-not-is_there c =
     record {
       setup = refl;
       observed = λ past e access observed. observed_stray c.args.self.now past e c.in-Some.access (access ∙ c.in-Some.is) out observed;
-      there = λ past e access observed there. absurd (out (there c.in-Some.access (access ∙ c.in-Some.is)));
+      in_range = λ past e access observed there. absurd (out (there c.in-Some.access (access ∙ c.in-Some.is)));
       stray = λ a is stray. refl;
       first = λ past e access observed all. stray_keeps c.args.self.now.setup past e c.in-Some.access (access ∙ c.in-Some.is) out all;
     }
@@ -22,7 +22,7 @@ returns c =
     record {
       setup = c.observe_there.ensures.setup;
       observed = λ past e access. c.observe_there.ensures.observed past e (access ∙ c.in-Some.is);
-      there = λ past e access observed is. c.observe_there.ensures.answer past e (access ∙ c.in-Some.is) observed;
+      in_range = λ past e access observed is. c.observe_there.ensures.answer past e (access ∙ c.in-Some.is) observed;
       stray = λ a is out. let same : c.in-Some.access ≡ a = cc in absurd (out (subst (λ (x : Access). IsThere c.args.self.now.setup x) same there));
       first = λ past e access observed all. c.observe_there.ensures.answer past e (access ∙ c.in-Some.is) observed;
     }

@@ -26,7 +26,7 @@ pub returns-in-Flick-clause-made : goal.returns-in-Flick-clause-made
 returns-in-Flick-clause-made c =
     let i = c.self.inside in
     let remaining = ap (λ (s : ScenarioRunState). s.remaining) c.self.view_is in
-    let few : i.remaining ≤ 1 = rw c.in-Flick.is at rw (sym c.self.view_is) at c.requires.few in
+    let few : i.remaining ≤ 1 = rw c.in-Flick.is at rw (sym c.self.view_is) at c.requires.bounded in
     let new : ScenarioRunState = scenario_run i.world c.set.new.self (i.remaining - 1) in
     let family : ScenarioRunState → Type 0 = λ old. (run : Run) → Follows old run → Makes old run (turn_of old.world.setup c.args.line.now old.remaining run) None new in
     subst family c.self.view_is (turn_made (scenario_run i.world i.flicks i.remaining) new c.args.line.now (line.Flick c.in-Flick.flick) None (λ none. omega (arith, none, remaining, c.requires.some_remaining)) c.in-Flick.is

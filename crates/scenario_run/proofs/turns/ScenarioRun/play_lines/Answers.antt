@@ -48,8 +48,8 @@ loop-index-preserved g c =
     record {
       played = λ run follows. subst (λ n. PlayedTo g.L.RunObserver.Observes c.args.self.now.world.setup lines c.args.until (k + 1) run one.new.self c.args.observer.now one.new.observer n c.if-events-gt0.newest) same
           (lines_on g.L.RunObserver.Observes c.args.self.now.world.setup lines c.args.until run c.args.observer.now k line i.self i.observer one.new.observer made i.newest within
-          (drop_in lines k line within c.index-lines-index.is) (i.invariant.played run follows) one.new.self events c.if-events-gt0.newest laws.observes_on one.ensures.few plays counts made_by);
-      few = omega (arith, i.invariant.few, c.from-made.ensures, c.in_ok-events.ensures.turns, one.ensures.few);
+          (drop_in lines k line within c.index-lines-index.is) (i.invariant.played run follows) one.new.self events c.if-events-gt0.newest laws.observes_on one.ensures.bounded plays counts made_by);
+      few = omega (arith, i.invariant.few, c.from-made.ensures, c.in_ok-events.ensures.turns, one.ensures.bounded);
       room = c.in_ok-events.ensures.room ((length lines - (k + 1)) * 2 ^ 32)
           (laws.room_less i.observer ((length lines - (k + 1)) * 2 ^ 32 + 2 ^ 32) ((length lines - k) * 2 ^ 32) (omega (arith, within)) i.invariant.room);
     }

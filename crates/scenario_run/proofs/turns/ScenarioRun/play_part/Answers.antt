@@ -13,7 +13,7 @@ turns-init g c =
       played = λ run follows. played_start g.L.RunObserver.Observes c.args.self.now.world.setup c.args.line.now c.floor_below-floor.result run c.args.self.now begun c.args.observer.now laws.observes_nothing refl c.begin.ensures.scenario_run follows;
       remaining = omega (arith, remaining);
       count = omega (arith, remaining);
-      room = λ more room. laws.room_less c.args.observer.now (more + begun.remaining) (more + 2 ^ 32) (omega (arith, c.begin.ensures.few)) room;
+      room = λ more room. laws.room_less c.args.observer.now (more + begun.remaining) (more + 2 ^ 32) (omega (arith, c.begin.ensures.bounded)) room;
     }
 
 pub next-requires-clause-room : goal.next-requires-clause-room
@@ -23,7 +23,7 @@ next-requires-clause-room g c =
 
 pub returns-in_default-clause-plays : goal.returns-in_default-clause-plays
 returns-in_default-clause-plays g c = λ run follows.
-    let comes = subst (λ (o : Option TurnReport). (run : Run) → Follows c.turns.self run → ComesAlong g.L.RunObserver.Observes c.turns.self.world.setup c.args.line.now c.turns.self.remaining run c.turns.observer c.next.new.observer c.floor_below-floor.result c.next.new.before o c.next.new.self) c.in_default.is c.in_ok-reported.ensures.ok in
+    let comes = subst (λ (o : Option TurnReport). (run : Run) → Follows c.turns.self run → ComesAlong g.L.RunObserver.Observes c.turns.self.world.setup c.args.line.now c.turns.self.remaining run c.turns.observer c.next.new.observer c.floor_below-floor.result c.next.new.before o c.next.new.self) c.in_default.is c.in_ok-reported.ensures.observed in
     let remaining = ap (λ (scenario_run : ScenarioRunState). scenario_run.remaining) c.begin.ensures.scenario_run in
     let inside = ap (λ (scenario_run : ScenarioRunState). scenario_run.remaining) c.self.view_is in
     let here = ap (λ (scenario_run : ScenarioRunState). scenario_run.remaining) c.self-in-turns.view_is in
@@ -33,7 +33,7 @@ returns-in_default-clause-plays g c = λ run follows.
 
 pub returns-in_default-clause-events : goal.returns-in_default-clause-events
 returns-in_default-clause-events g c = λ run follows.
-    let comes = subst (λ (o : Option TurnReport). (run : Run) → Follows c.turns.self run → ComesAlong g.L.RunObserver.Observes c.turns.self.world.setup c.args.line.now c.turns.self.remaining run c.turns.observer c.next.new.observer c.floor_below-floor.result c.next.new.before o c.next.new.self) c.in_default.is c.in_ok-reported.ensures.ok in
+    let comes = subst (λ (o : Option TurnReport). (run : Run) → Follows c.turns.self run → ComesAlong g.L.RunObserver.Observes c.turns.self.world.setup c.args.line.now c.turns.self.remaining run c.turns.observer c.next.new.observer c.floor_below-floor.result c.next.new.before o c.next.new.self) c.in_default.is c.in_ok-reported.ensures.observed in
     let remaining = ap (λ (scenario_run : ScenarioRunState). scenario_run.remaining) c.begin.ensures.scenario_run in
     let inside = ap (λ (scenario_run : ScenarioRunState). scenario_run.remaining) c.self.view_is in
     let here = ap (λ (scenario_run : ScenarioRunState). scenario_run.remaining) c.self-in-turns.view_is in
@@ -51,7 +51,7 @@ observe-requires g c =
 pub turns-preserved : goal.turns-preserved
 turns-preserved g c =
     let laws = g.met.L.RunObserver in
-    let comes = subst (λ (o : Option TurnReport). (run : Run) → Follows c.turns.self run → ComesAlong g.L.RunObserver.Observes c.turns.self.world.setup c.args.line.now c.turns.self.remaining run c.turns.observer c.next.new.observer c.floor_below-floor.result c.next.new.before o c.next.new.self) c.in-Some.is c.in_ok-reported.ensures.ok in
+    let comes = subst (λ (o : Option TurnReport). (run : Run) → Follows c.turns.self run → ComesAlong g.L.RunObserver.Observes c.turns.self.world.setup c.args.line.now c.turns.self.remaining run c.turns.observer c.next.new.observer c.floor_below-floor.result c.next.new.before o c.next.new.self) c.in-Some.is c.in_ok-reported.ensures.observed in
     let less = rw c.in-Some.is at c.in_ok-reported.ensures.remaining in
     let room = rw c.in-Some.is at c.in_ok-reported.ensures.room in
     let here = ap (λ (scenario_run : ScenarioRunState). scenario_run.remaining) c.self-in-turns.view_is in
@@ -59,7 +59,7 @@ turns-preserved g c =
     record {
       played = λ run follows. subst (λ n. Played g.L.RunObserver.Observes c.args.self.now.world.setup c.args.line.now c.floor_below-floor.result run c.args.observer.now c.next.new.self n c.observe.new.self) made
           (played_on g.L.RunObserver.Observes c.args.self.now.world.setup c.args.line.now c.floor_below-floor.result run c.args.observer.now c.turns.observer c.turns.self c.turns.made c.turns.invariant.remaining (c.turns.invariant.played run follows) laws.observes_on c.next.new.observer c.next.new.self c.next.new.before
-          c.observe.new.self c.in-Some.reported comes c.in_ok-observe.ensures.ok);
+          c.observe.new.self c.in-Some.reported comes c.in_ok-observe.ensures.observed);
       remaining = omega (arith, less, c.in_ok-reported.ensures.fewer, c.turns.invariant.remaining);
       count = omega (arith, less, here, c.in_ok-reported.ensures.fewer, c.events-made.ensures.one, c.turns.invariant.count);
       room = λ more has. c.in_ok-observe.ensures.room (more + c.next.new.self.remaining)
@@ -71,7 +71,7 @@ returns-in_err-observe-clause-cut g c =
     let s = c.args.self.now.world.setup in
     let l = c.args.line.now in
     let laws = g.met.L.RunObserver in
-    let comes = subst (λ (o : Option TurnReport). (run : Run) → Follows c.turns.self run → ComesAlong g.L.RunObserver.Observes c.turns.self.world.setup c.args.line.now c.turns.self.remaining run c.turns.observer c.next.new.observer c.floor_below-floor.result c.next.new.before o c.next.new.self) c.in-Some.is c.in_ok-reported.ensures.ok in
+    let comes = subst (λ (o : Option TurnReport). (run : Run) → Follows c.turns.self run → ComesAlong g.L.RunObserver.Observes c.turns.self.world.setup c.args.line.now c.turns.self.remaining run c.turns.observer c.next.new.observer c.floor_below-floor.result c.next.new.before o c.next.new.self) c.in-Some.is c.in_ok-reported.ensures.observed in
     on_fault c.from_residual-in_err-observe.result c.in_err-observe.field-0.0 (λ fault. (run : Run) → Follows c.args.self.now run → g.L.RunObserver.Stops c.args.observer.now s run.happened (run_after s l run).happened fault c.observe.new.self) c.from_residual-in_err-observe.ensures.1
     (λ run follows. played_cut g.L.RunObserver.Observes s l c.floor_below-floor.result run c.args.observer.now c.turns.observer c.turns.self c.turns.made c.turns.invariant.remaining (c.turns.invariant.played run follows) laws.observes_on c.next.new.observer c.next.new.self c.next.new.before
     g.L.RunObserver.Stops laws.stops_on c.in_err-observe.field-0.0 c.observe.new.self c.in-Some.reported laws.stops_before comes c.in_err-observe.ensures.cut)

@@ -44,25 +44,25 @@ steps-preserved g c =
     ] in
     record {
       on = λ line run follows next. alone_then g.L.RunObserver.Observes laws.observes_on c.args.self.now.world.setup line c.args.self.now.remaining c.args.process c.args.floor run c.args.observer.now c.steps.observer by.new.observer one.new.observer (scenario_run i.world i.flicks i.remaining) by.new.world one.new.world by.new.flicks one.new.flicks remaining (c.steps.invariant.on line run follows next) by.ensures.on above one.ensures.after
-          (rw none at one.ensures.ok);
+          (rw none at one.ensures.observed);
       none = none;
       kept = record { are = c.steps.invariant.kept.are ∙ ap (λ s. s.processes) (sym setup); few = c.steps.invariant.kept.few };
       remaining = omega (arith, by.ensures.fewer, c.steps.invariant.remaining);
       floor = omega (arith, above);
-      some = one.ensures.some;
+      some = one.ensures.nonzero;
       known = one.ensures.known;
       room = room_after g.L.RunObserver.HasRoom laws.room_less c.args.observer.now by.new.observer c.args.self.now.remaining remaining (λ more room. by.ensures.room more (c.steps.invariant.room more room)) one.new.observer None (omega (arith, above))
           (rw none at one.ensures.room);
     }
 
-pub returns-then-self-floor-clause-ok : goal.returns-then-self-floor-clause-ok
-returns-then-self-floor-clause-ok g c = λ line run follows next.
+pub returns-then-self-floor-clause-observed : goal.returns-then-self-floor-clause-observed
+returns-then-self-floor-clause-observed g c = λ line run follows next.
     let i = c.steps.self-inside in
     let by = c.pass_by in
     alone_passed g.L.RunObserver.Observes g.met.L.RunObserver.observes_on c.args.self.now.world.setup line c.args.self.now.remaining c.args.process c.args.floor run c.args.observer.now c.steps.observer by.new.observer by.new.observer (scenario_run i.world i.flicks i.remaining) by.new.world by.new.world by.new.flicks by.new.flicks by.new.remaining (c.steps.invariant.on line run follows next) by.ensures.on
 
-pub returns-then-not-goes_on-clause-ok : goal.returns-then-not-goes_on-clause-ok
-returns-then-not-goes_on-clause-ok g c =
+pub returns-then-not-goes_on-clause-observed : goal.returns-then-not-goes_on-clause-observed
+returns-then-not-goes_on-clause-observed g c =
     let laws = g.met.L.RunObserver in
     let i = c.steps.self-inside in
     let by = c.pass_by in
@@ -70,9 +70,9 @@ returns-then-not-goes_on-clause-ok g c =
     let remaining' : ℕ = c.left_after-self-inside.result in
     let apart = c.if-self-floor.false in
     let above : c.args.floor < by.new.remaining = omega (arith, by.ensures.floor, apart) in
-    where_ok one.new.outcome _ (RunsAlone g.L.RunObserver.Observes c.args.self.now c.args.process c.args.floor by.new.remaining (scenario_run one.new.world one.new.flicks remaining') c.args.observer.now one.new.observer) one.ensures.ok (λ reported is makes line run follows next.
+    where_ok one.new.outcome _ (RunsAlone g.L.RunObserver.Observes c.args.self.now c.args.process c.args.floor by.new.remaining (scenario_run one.new.world one.new.flicks remaining') c.args.observer.now one.new.observer) one.ensures.observed (λ reported is makes line run follows next.
     alone_to g.L.RunObserver.Observes laws.observes_on c.args.self.now.world.setup line c.args.self.now.remaining c.args.process c.args.floor run c.args.observer.now c.steps.observer by.new.observer one.new.observer (scenario_run i.world i.flicks i.remaining) by.new.world one.new.world by.new.flicks one.new.flicks by.new.remaining (c.steps.invariant.on line run follows next) by.ensures.on above one.ensures.after
-    laws.observes_nothing reported remaining' (λ none. c.goes_on.ensures.some c.if-not-goes_on.true (is ∙ ap Ok none)) makes (subst (λ (outcome : Result (Option TurnReport) Fault). IfOk outcome (λ reported. IfSome reported (λ answer. remaining' ≡ remaining_after answer (by.new.remaining - 1)))) is c.left_after-self-inside.ensures.reported))
+    laws.observes_nothing reported remaining' (λ none. c.goes_on.ensures.outcome c.if-not-goes_on.true (is ∙ ap Ok none)) makes (subst (λ (outcome : Result (Option TurnReport) Fault). IfOk outcome (λ reported. IfSome reported (λ answer. remaining' ≡ remaining_after answer (by.new.remaining - 1)))) is c.left_after-self-inside.ensures.reported))
 
 pub returns-then-not-goes_on-clause-room : goal.returns-then-not-goes_on-clause-room
 returns-then-not-goes_on-clause-room g c =

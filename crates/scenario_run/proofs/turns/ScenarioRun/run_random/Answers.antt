@@ -14,8 +14,8 @@ use Rattle.scenario_run.proofs.Wanders.{ArePicked, drawn_more, drawn_none, drawn
 use Rattle.scenario_run.proofs.turns.ScenarioRun.run_random.Goals as goal
 use Rattle.scenario_run.proofs.turns.ScenarioRun.run_random.Goals.{else-not-is_quiet, then-remaining-eq0-via-else-remaining-eq0+then-not-goes_on, then-remaining-eq0-via-then-remaining-eq0, then-not-is_quiet}
 
-pub returns-then-is_empty-clause-ok : goal.returns-then-is_empty-clause-ok
-returns-then-is_empty-clause-ok g c = λ steps run follows.
+pub returns-then-is_empty-clause-observed : goal.returns-then-is_empty-clause-observed
+returns-then-is_empty-clause-observed g c = λ steps run follows.
     let i = c.self.inside in
     let s = c.args.self.now.world.setup in
     let ps = c.as_slice-among.result.now in
@@ -30,8 +30,8 @@ returns-then-is_empty-clause-ok g c = λ steps run follows.
     ))
 
 -- only one process has a Step to make
-pub returns-then-is_constant-clause-ok : goal.returns-then-is_constant-clause-ok
-returns-then-is_constant-clause-ok g c = λ steps run follows.
+pub returns-then-is_constant-clause-observed : goal.returns-then-is_constant-clause-observed
+returns-then-is_constant-clause-observed g c = λ steps run follows.
     let i = c.self.inside in
     let j = c.self-then-is_constant.inside in
     let old = c.args.self.now in
@@ -45,7 +45,7 @@ returns-then-is_constant-clause-ok g c = λ steps run follows.
     let taken : scenario_run j.world c.skip_picks.new.self j.remaining ≡ lone_run old.remaining mid = (λ k. scenario_run j.world (c.skip_picks.ensures k) j.remaining) ∙ (λ k. lone_run (c.self.view_is k).remaining (c.self-then-is_constant.view_is k)) in
     subst (λ (new : ScenarioRunState). ComesAlong g.L.RunObserver.Observes old.world.setup (WanderLine steps) old.remaining run c.args.observer.now c.run_alone.new.observer c.args.floor before reported new) (sym taken)
     (lone_whole g.L.RunObserver.Observes old.world.setup 0 steps p old.remaining run c.args.observer.now c.run_alone.new.observer mid constant lone c.args.floor before reported c.in_ok-reported.ensures.ended c.in_ok-reported.ensures.floor
-    (c.in_ok-reported.ensures.ok (StepLine p 0) run follows (inl (0, refl))))
+    (c.in_ok-reported.ensures.observed (StepLine p 0) run follows (inl (0, refl))))
 
 pub returns-in_err-reported-clause-cut : goal.returns-in_err-reported-clause-cut
 returns-in_err-reported-clause-cut g c =
@@ -80,7 +80,7 @@ steps-init g c =
       kept = record { are = c.self.invariant.are; few = c.self.invariant.few };
       more = omega (arith, remaining, c.requires.floor);
       remaining = omega (arith, remaining, c.requires.floor);
-      process = let count : c.new-count.result ≡ length ps = omega (arith, c.new-count.ensures, c.enabled-enabled.ensures.few, ap length c.as_slice-among.ensures) in ap (slice_index ps) (c.pick.ensures.index ∙ (λ k. pick_of (count k) ((c.twin-ahead.ensures ∙ sym none) k)));
+      process = let count : c.new-count.result ≡ length ps = omega (arith, c.new-count.ensures, c.enabled-enabled.ensures.bounded, ap length c.as_slice-among.ensures) in ap (slice_index ps) (c.pick.ensures.index ∙ (λ k. pick_of (count k) ((c.twin-ahead.ensures ∙ sym none) k)));
       below = omega arith;
       ahead = c.pick.ensures.after ∙ ap after_pick (c.twin-ahead.ensures ∙ sym none);
       counted = none_known i.world.seats;
@@ -117,16 +117,16 @@ steps-preserved g c =
     let apart = c.if-remaining-eq0.false in
     record {
       on = λ steps run follows. subst (λ n. ComesOn g.L.RunObserver.Observes old.world.setup (WanderLine steps) old.remaining run c.args.observer.now one.new.observer (scenario_run one.new.world (drawn_to old n) n) (ArePicked ps)) less
-          (wander_on g.L.RunObserver.Observes laws.observes_on old steps remaining c.steps.next ps run c.args.observer.now c.steps.observer one.new.observer i.world one.new.world c.twin-source.result more inv.remaining some inv.process (c.twin-source.ensures ∙ inv.ahead) (inv.on steps run follows) (rw none at one.ensures.ok));
+          (wander_on g.L.RunObserver.Observes laws.observes_on old steps remaining c.steps.next ps run c.args.observer.now c.steps.observer one.new.observer i.world one.new.world c.twin-source.result more inv.remaining some inv.process (c.twin-source.ensures ∙ inv.ahead) (inv.on steps run follows) (rw none at one.ensures.observed));
       same = inv.same;
       none = none;
       kept = record { are = inv.kept.are ∙ ap (λ s. s.processes) (sym one.ensures.setup); few = inv.kept.few };
       more = omega (arith, inv.more, apart);
       remaining = omega (arith, inv.more, inv.remaining);
-      process = let count : c.new-count.result ≡ length ps = omega (arith, c.new-count.ensures, c.enabled-enabled.ensures.few, ap length c.as_slice-among.ensures) in ap (slice_index ps) (c.pick-in-steps.ensures.index ∙ (λ k. pick_of (count k) (same k)));
+      process = let count : c.new-count.result ≡ length ps = omega (arith, c.new-count.ensures, c.enabled-enabled.ensures.bounded, ap length c.as_slice-among.ensures) in ap (slice_index ps) (c.pick-in-steps.ensures.index ∙ (λ k. pick_of (count k) (same k)));
       below = omega arith;
       ahead = c.pick-in-steps.ensures.after ∙ ap after_pick same;
-      counted = subst (λ at. IsCounted (set c.steps.within at one.new.known) one.new.world.seats) (sym c.from.ensures) (counted_put c.steps.within c.steps.next one.new.known i.world.seats one.new.world.seats inv.counted one.ensures.some (omega (arith, one.ensures.known)) one.ensures.others);
+      counted = subst (λ at. IsCounted (set c.steps.within at one.new.known) one.new.world.seats) (sym c.from.ensures) (counted_put c.steps.within c.steps.next one.new.known i.world.seats one.new.world.seats inv.counted one.ensures.nonzero (omega (arith, one.ensures.known)) one.ensures.others);
       room = subst (λ n. LeavesRoom g.L.RunObserver.HasRoom c.args.observer.now old.remaining one.new.observer n None) less (room_after g.L.RunObserver.HasRoom laws.room_less c.args.observer.now c.steps.observer old.remaining remaining inv.room one.new.observer None more (rw none at one.ensures.room));
     }
 
@@ -136,8 +136,8 @@ returns-then-remaining-eq0-clause-remaining g c = wanted_by c.turn_step-is_quiet
 pub returns-then-remaining-eq0-clause-fewer : goal.returns-then-remaining-eq0-clause-fewer
 returns-then-remaining-eq0-clause-fewer g c = any_ok c.turn_step-is_quiet.new.outcome (c.left_before.result ≤ c.args.self.now.remaining) (omega (arith, c.left_before.ensures.fewer, c.steps.invariant.more, c.steps.invariant.remaining))
 
-pub returns-then-remaining-eq0-clause-ok : goal.returns-then-remaining-eq0-clause-ok
-returns-then-remaining-eq0-clause-ok g c =
+pub returns-then-remaining-eq0-clause-observed : goal.returns-then-remaining-eq0-clause-observed
+returns-then-remaining-eq0-clause-observed g c =
     let laws = g.met.L.RunObserver in
     let i = c.steps.self-inside in
     let inv = c.steps.invariant in
@@ -158,11 +158,11 @@ returns-then-remaining-eq0-clause-ok g c =
     let last : one.new.outcome ≡ Ok None → c.steps.remaining - 1 ≡ 0 = λ none. elim c.then-remaining-eq0.branch [
       | then-remaining-eq0-via-then-remaining-eq0 w ↦ w.if-remaining-eq0.true
       | then-remaining-eq0-via-else-remaining-eq0+then-not-goes_on w ↦ elim w.if-not-is_quiet.branch [
-        | then-not-is_quiet w' ↦ absurd (w'.goes_on.ensures.some (not-true w'.goes_on.result (sym w'.value-is ∙ w.if-not-goes_on.true)) none)
+        | then-not-is_quiet w' ↦ absurd (w'.goes_on.ensures.outcome (not-true w'.goes_on.result (sym w'.value-is ∙ w.if-not-goes_on.true)) none)
         | else-not-is_quiet w' ↦ absurd (true≢false (sym w.if-not-goes_on.true ∙ w'.value-is ∙ ap not w'.if-not-is_quiet.false))
       ]
     ] in
-    where_ok one.new.outcome _ (λ reported. (steps : ℕ) (run : Run) → Follows old run → ComesAlong g.L.RunObserver.Observes old.world.setup (WanderLine steps) old.remaining run c.args.observer.now one.new.observer floor before reported (scenario_run one.new.world c.skip.new.self (floor + (c.steps.remaining - 1)))) one.ensures.ok (λ reported is makes steps run follows.
+    where_ok one.new.outcome _ (λ reported. (steps : ℕ) (run : Run) → Follows old run → ComesAlong g.L.RunObserver.Observes old.world.setup (WanderLine steps) old.remaining run c.args.observer.now one.new.observer floor before reported (scenario_run one.new.world c.skip.new.self (floor + (c.steps.remaining - 1)))) one.ensures.observed (λ reported is makes steps run follows.
     subst (λ n. ComesAlong g.L.RunObserver.Observes old.world.setup (WanderLine steps) old.remaining run c.args.observer.now one.new.observer floor before reported (scenario_run one.new.world c.skip.new.self n)) less
     (wander_to g.L.RunObserver.Observes laws.observes_on old steps remaining c.steps.next ps run c.args.observer.now c.steps.observer one.new.observer i.world one.new.world c.twin-source.result more inv.remaining some inv.process (c.twin-source.ensures ∙ inv.ahead) (inv.on steps run follows)
     laws.observes_nothing floor before reported c.skip.new.self above makes

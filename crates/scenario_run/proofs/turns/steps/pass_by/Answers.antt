@@ -23,7 +23,7 @@ returns-clause-on g c = λ l run follows next.
     let some : 0 < c.min-within.result = omega (arith, c.if-within-eq0.false) in
     alone_pass g.L.RunObserver.Observes c.min-within.result c.args.world.now made.new.self c.args.flicks.now made.new.flicks made.result.newest made.result.overlapped l c.args.remaining.now c.args.process c.args.floor run c.args.observer.now c.pass.new.self
     (omega (arith, c.requires.floor, c.min-within.ensures)) some made.ensures.runs
-    (λ s before after by. c.pass.ensures.ok (sym c.observes_steps.ensures ∙ c.if-observes_steps.false) s before after made.result.newest refl by) follows next
+    (λ s before after by. c.pass.ensures.observed (sym c.observes_steps.ensures ∙ c.if-observes_steps.false) s before after made.result.newest refl by) follows next
 
 pub returns-clause-room : goal.returns-clause-room
 returns-clause-room g c = λ more room.

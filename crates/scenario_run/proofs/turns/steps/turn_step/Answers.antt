@@ -15,20 +15,20 @@ returns-clause-cut g c =
     subst (λ b. ObservesStep (StopsBy g.L.RunObserver.Stops fault) w c.args.process b r.new.self c.args.observer.now c.step-observed.new.self) flick
     (within_observed (StopsBy g.L.RunObserver.Stops fault) w r.new.self c.args.process c.flick-flick.result r.result.newest _ c.args.observer.now c.step-observed.new.self one.0 c.in-Err.ensures.cut)
 
-pub returns-in_default-clause-ok : goal.returns-in_default-clause-ok
-returns-in_default-clause-ok g c =
+pub returns-in_default-clause-observed : goal.returns-in_default-clause-observed
+returns-in_default-clause-observed g c =
     let r = c.run-made in
     let w = c.args.world.now in
     let flick = c.flick-flick.ensures.flick ∙ ap flick_of c.twin.ensures in
     let Observes = g.L.RunObserver.Observes in
     let one = walks-one w r.new.self c.args.flicks.now r.new.flicks c.args.process c.flick-flick.result r.result.newest r.result.overlapped (sym flick) r.ensures.runs in
     rw c.requires.none (subst (λ b. ObservesStep Observes w c.args.process b r.new.self c.args.observer.now c.step-observed.new.self) flick
-    (within_observed Observes w r.new.self c.args.process c.flick-flick.result r.result.newest _ c.args.observer.now c.step-observed.new.self one.0 c.in_default.ensures.ok))
+    (within_observed Observes w r.new.self c.args.process c.flick-flick.result r.result.newest _ c.args.observer.now c.step-observed.new.self one.0 c.in_default.ensures.observed))
 
-pub returns-then-not-observes_steps-clause-ok : goal.returns-then-not-observes_steps-clause-ok
-returns-then-not-observes_steps-clause-ok g c =
+pub returns-then-not-observes_steps-clause-observed : goal.returns-then-not-observes_steps-clause-observed
+returns-then-not-observes_steps-clause-observed g c =
     let r = c.run-made in
     let w = c.args.world.now in
     let one = walks-one w r.new.self c.args.flicks.now r.new.flicks c.args.process (flick_of c.args.flicks.now) r.result.newest r.result.overlapped refl r.ensures.runs in
     rw c.requires.none (within_passed g.L.RunObserver.Observes w r.new.self c.args.process (flick_of c.args.flicks.now) r.result.newest _ c.args.observer.now c.pass.new.self one.0 r.result.overlapped one.1
-    (c.pass.ensures.ok (sym c.observes_steps.ensures ∙ c.if-not-observes_steps.true)))
+    (c.pass.ensures.observed (sym c.observes_steps.ensures ∙ c.if-not-observes_steps.true)))

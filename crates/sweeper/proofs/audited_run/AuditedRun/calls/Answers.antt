@@ -25,7 +25,7 @@ loop-process-preserved c =
           subst (λ (run : Run). IsRun then (l.stuck || met) run) (calls_more s v calls l.process-index call run c.loop-process-test.true c.loop-process-item.is)
           (subst (λ (s : Setup). IsRun then (l.stuck || met) (with_call s v before call)) l.invariant.setup
           (subst (λ (stuck : Bool). IsRun then (stuck || met) (with_call l.self.core.setup v before call)) (sym so_far.stuck) (c.call-stuck.ensures.run before so_far.follows)));
-      few = let had = l.invariant.few in let more = c.call-stuck.ensures.few in omega (arith, had, more);
+      few = let had = l.invariant.few in let more = c.call-stuck.ensures.bounded in omega (arith, had, more);
       setup = c.call-stuck.ensures.setup ∙ l.invariant.setup;
     }
 

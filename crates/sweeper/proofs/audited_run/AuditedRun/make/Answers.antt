@@ -57,11 +57,11 @@ returns-clause-accepted c =
     let family : RunnerState → Type 0 = λ r. (events : List Event) → Follows r events → true ≡ is_accepted r.core.setup events c.args.event.now in
     subst family c.self.view_is (λ events follows. sym (made_accepted (before b) c.args.event.now c.in-Ok.access c.event.new.effect c.event.new.self (made b) events follows))
 
-pub returns-clause-few : goal.returns-clause-few
-returns-clause-few c =
+pub returns-clause-bounded : goal.returns-clause-bounded
+returns-clause-bounded c =
     let i = c.self.inside in
     let old : RunnerState = record { core = i.core; auditor = i.auditor; taken = i.taken } in
     let then : RunnerState = record { core = c.event.new.self; auditor = c.observe-law.new.self; taken = c.more-self-inside.result } in
     let few : due then ≤ due old + cond (is_call c.args.event.now) 16 0 =
-    few_made c.args.event.now c.event.new.effect i.core.seats c.event.new.self.seats i.taken c.more-self-inside.result (few_seats i.core _ _ c.self.invariant.follows.shows) c.more-self-inside.ensures c.in-Ok.ensures.pending c.in-Ok.ensures.few in
+    few_made c.args.event.now c.event.new.effect i.core.seats c.event.new.self.seats i.taken c.more-self-inside.result (few_seats i.core _ _ c.self.invariant.follows.shows) c.more-self-inside.ensures c.in-Ok.ensures.pending c.in-Ok.ensures.bounded in
     subst (λ (r : RunnerState). due then ≤ due r + cond (is_call c.args.event.now) 16 0) c.self.view_is few

@@ -12,7 +12,7 @@ pub loop-process-preserved : goal.loop-process-preserved
 loop-process-preserved c = record {
   follows = λ events follows. subst (Follows c.step.new.self) (round_more c.args.value c.loop-process.process events)
       (c.step.ensures.follows (fold (λ events p. Step p c.args.value ∷ events) events (range_with_len 0 c.loop-process.process)) (c.loop-process.invariant.follows events follows));
-  few = let a = c.step.ensures.few in let b = c.loop-process.invariant.few in omega (arith, a, b);
+  few = let a = c.step.ensures.bounded in let b = c.loop-process.invariant.few in omega (arith, a, b);
   setup = c.step.ensures.setup ∙ c.loop-process.invariant.setup;
 }
 

@@ -18,7 +18,7 @@ pub rounds-preserved : goal.rounds-preserved
 rounds-preserved c = record {
   going = λ events follows. going_on (λ s. goes s c.args.value) (λ s. round s c.args.value) c.args.self.now.core.setup c.args.most events c.rounds.self c.rounds.remaining c.rounds.invariant.setup c.round.new.self c.goes.result
       (omega (arith, c.rounds-test.true)) c.goes.ensures c.if-not-goes.false c.round.ensures.follows (c.rounds.invariant.going events follows);
-  few = let a = c.round.ensures.few in let b = c.rounds.invariant.few in omega (arith, a, b);
+  few = let a = c.round.ensures.bounded in let b = c.rounds.invariant.few in omega (arith, a, b);
   setup = c.round.ensures.setup ∙ c.rounds.invariant.setup;
 }
 

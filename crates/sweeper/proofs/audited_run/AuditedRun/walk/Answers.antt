@@ -30,7 +30,7 @@ steps-preserved-then-within-gt0 c =
     record {
       going = λ events follows. going_by (λ s events. is_accepted s events step) (λ s events. step ∷ events) s c.args.most events c.steps.self c.steps.remaining c.steps.invariant.setup c.run_on.new.self c.min-within.result
           (omega (arith, c.min-within.ensures)) makes (c.steps.invariant.going events follows);
-      few = let a = c.run_on.ensures.few in let b = c.steps.invariant.few in omega (arith, a, b);
+      few = let a = c.run_on.ensures.bounded in let b = c.steps.invariant.few in omega (arith, a, b);
       setup = c.run_on.ensures.setup ∙ c.steps.invariant.setup;
     }
 
@@ -40,7 +40,7 @@ steps-preserved c =
     record {
       going = λ events follows. going_on (λ s events. is_accepted s events step) (λ s events. step ∷ events) c.args.self.now.core.setup c.args.most events c.steps.self c.steps.remaining c.steps.invariant.setup c.step.new.self c.step.result
           (omega (arith, c.steps-test.true)) c.step.ensures.accepted c.if-not-step.false c.step.ensures.follows (c.steps.invariant.going events follows);
-      few = let a = c.step.ensures.few in let b = c.steps.invariant.few in omega (arith, a, b);
+      few = let a = c.step.ensures.bounded in let b = c.steps.invariant.few in omega (arith, a, b);
       setup = c.step.ensures.setup ∙ c.steps.invariant.setup;
     }
 

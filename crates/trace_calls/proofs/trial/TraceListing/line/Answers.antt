@@ -18,7 +18,7 @@ returns-in_ok-list c =
     let says : now.entry ≡ Some e = c.in-Some-last_entry.ensures in
     let read : words_read trace_grammar (words_of c.args.line.now) old.reader ≡ Ok (Some now) = c.in_ok-read_trace_line.ensures ∙ ap (λ (o : Option TraceProgress). Ok o) c.in-Some.is in
     let observes = subst (λ (s : TraceSetup). (entries : List TraceEntry) (numbers : List ℕ) → Observes HasTabled old.lister s entries numbers → Observes HasTabled c.list.new.lister s (entries ++ e ∷ []) (numbers ++ c.args.number ∷ [])) c.setup.ensures.value (c.in_ok-list.ensures.listed c.args.number) in
-    λ before entries numbers read_up_to. ends_observed HasTabled c.args.number c.args.line.now old.reader (Some c.forget_entry.new.self) now e old.lister c.list.new.lister before entries numbers c.requires.short read_up_to read says remaining c.in_ok-list.ensures.some observes
+    λ before entries numbers read_up_to. ends_observed HasTabled c.args.number c.args.line.now old.reader (Some c.forget_entry.new.self) now e old.lister c.list.new.lister before entries numbers c.requires.short read_up_to read says remaining c.in_ok-list.ensures.present observes
 
 pub returns-in_default-last_entry : goal.returns-in_default-last_entry
 returns-in_default-last_entry c =

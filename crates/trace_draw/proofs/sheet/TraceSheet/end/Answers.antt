@@ -5,8 +5,8 @@ use Rattle.trace_draw.specs.{EndsTrace, IsReported}
 use Rattle.trace_draw.proofs.Ends.{observes_at, same_some}
 use Rattle.trace_draw.proofs.sheet.TraceSheet.end.Goals as goal
 
-pub returns-clause-ok : goal.returns-clause-ok
-returns-clause-ok g c = λ first p entries numbers stands.
+pub returns-clause-drawn : goal.returns-clause-drawn
+returns-clause-drawn g c = λ first p entries numbers stands.
     let t = c.args.self.now in
     let a = g.W.Sink.taken c.args.output.now in
     let b = g.W.Sink.taken c.draw_end.new.output in

@@ -10,15 +10,15 @@ use Rattle.trace_draw.specs.{HasShown, NothingYet, with_output}
 use Rattle.trace_draw.proofs.Ends.{nothing_more, some_shown}
 use Rattle.trace_draw.proofs.sheet.TraceSheet.read.Goals as goal
 
-pub returns-in_ok-draw_entry-clause-ok : goal.returns-in_ok-draw_entry-clause-ok
-returns-in_ok-draw_entry-clause-ok g c =
+pub returns-in_ok-draw_entry-clause-drawn : goal.returns-in_ok-draw_entry-clause-drawn
+returns-in_ok-draw_entry-clause-drawn g c =
     let old = c.args.self.now in
     let now : TraceProgress = c.in-Some.reader in
     let e : TraceEntry = c.in-Some-last_entry.entry.now in
     let a = g.W.Sink.taken c.args.output.now in
     let b = g.W.Sink.taken c.draw_entry.new.output in
     let picture = c.draw_entry.new.picture in
-    let some = c.in_ok-draw_entry.ensures.some in
+    let some = c.in_ok-draw_entry.ensures.present in
     let remaining : Some c.forget_entry.new.self ≡ cleared (Some now) = ap (λ (p : TraceProgress). Some p) c.forget_entry.ensures in
     let says : now.entry ≡ Some e = c.in-Some-last_entry.ensures in
     let read : words_read trace_grammar (words_of c.args.line.now) old.reader ≡ Ok (Some now) = c.in-Ok.ensures ∙ ap (λ (o : Option TraceProgress). Ok o) c.in-Some.is in
@@ -30,8 +30,8 @@ returns-in_ok-draw_entry-clause-ok g c =
       nothing = nothing_more picture first b some;
     }
 
-pub returns-in_default-last_entry-clause-ok : goal.returns-in_default-last_entry-clause-ok
-returns-in_default-last_entry-clause-ok g c =
+pub returns-in_default-last_entry-clause-drawn : goal.returns-in_default-last_entry-clause-drawn
+returns-in_default-last_entry-clause-drawn g c =
     let old = c.args.self.now in
     let now : TraceProgress = c.in-Some.reader in
     let a = g.W.Sink.taken c.args.output.now in
@@ -43,8 +43,8 @@ returns-in_default-last_entry-clause-ok g c =
       nothing = stands.nothing;
     }
 
-pub returns-in_default-clause-ok : goal.returns-in_default-clause-ok
-returns-in_default-clause-ok g c =
+pub returns-in_default-clause-drawn : goal.returns-in_default-clause-drawn
+returns-in_default-clause-drawn g c =
     let old = c.args.self.now in
     let a = g.W.Sink.taken c.args.output.now in
     let read : words_read trace_grammar (words_of c.args.line.now) old.reader ≡ Ok None = c.in-Ok.ensures ∙ ap (λ (o : Option TraceProgress). Ok o) c.in_default.is in

@@ -17,7 +17,7 @@ returns-in_ok-observe-clause-ends c =
     let says : now.entry ≡ Some e = c.in-Some-last_entry.ensures in
     let read : words_read trace_grammar (words_of c.args.line.now) old.reader ≡ Ok (Some now) = c.in_ok-read_trace_line.ensures ∙ ap (λ (o : Option TraceProgress). Ok o) c.in-Some.is in
     let observes = subst (λ (s : TraceSetup). (entries : List TraceEntry) (numbers : List ℕ) → Observes (HasReported old.why) old.reporter s entries numbers → Observes (HasReported old.why) c.observe.new.reporter s (entries ++ e ∷ []) (numbers ++ c.args.number ∷ [])) c.setup.ensures.value c.in_ok-observe.ensures.observed in
-    λ before entries numbers read_up_to. ends_observed (HasReported old.why) c.args.number c.args.line.now old.reader (Some c.forget_entry.new.self) now e old.reporter c.observe.new.reporter before entries numbers c.requires.short read_up_to read says remaining c.in_ok-observe.ensures.some observes
+    λ before entries numbers read_up_to. ends_observed (HasReported old.why) c.args.number c.args.line.now old.reader (Some c.forget_entry.new.self) now e old.reporter c.observe.new.reporter before entries numbers c.requires.short read_up_to read says remaining c.in_ok-observe.ensures.present observes
 
 pub returns-in_default-last_entry-clause-ends : goal.returns-in_default-last_entry-clause-ends
 returns-in_default-last_entry-clause-ends c =

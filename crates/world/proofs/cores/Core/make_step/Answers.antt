@@ -32,7 +32,7 @@ own c = seated (core c) c.args.process c.index_mut-seat.result.now c.self.invari
 pub step-made-requires : goal.step-made-requires
 step-made-requires c =
     let a = (goal.at.step-made-requires c).After-index_mut-seat in
-    record { goes = step-allowed a.args.process a.args.flick a.index_mut-seat.result.now.process (not-refused (core a) (Step a.args.process a.args.flick) a.index_mut-seat.result.now a.self.invariant (next a)); registers = (own a).registers }
+    record { enabled = step-allowed a.args.process a.args.flick a.index_mut-seat.result.now.process (not-refused (core a) (Step a.args.process a.args.flick) a.index_mut-seat.result.now a.self.invariant (next a)); registers = (own a).registers }
 
 pub note_waiting-requires : goal.note_waiting-requires
 note_waiting-requires c = (own (goal.at.note_waiting-requires c).After-index_mut-seat).few
@@ -57,15 +57,15 @@ made c next =
 pub invariant_of-self : goal.invariant_of-self
 invariant_of-self c = let a = goal.at.invariant_of-self c in (made a.After-note_waiting (next a.After-index_mut-seat)).keeps
 
-pub returns-clause-goes : goal.returns-clause-goes
-returns-clause-goes c = let a = goal.at.returns-clause-goes c in (made a.After-note_waiting (next a.After-index_mut-seat)).goes
+pub returns-clause-step : goal.returns-clause-step
+returns-clause-step c = let a = goal.at.returns-clause-step c in (made a.After-note_waiting (next a.After-index_mut-seat)).goes
 
 pub returns-clause-overlapped : goal.returns-clause-overlapped
 returns-clause-overlapped c =
     let b = (goal.at.returns-clause-overlapped c).After-index_mut-seat in
     let made = c.step-made.result in
     reports-overlapped (core b) c.args.self.now c.args.process c.args.flick made.access (Steps c.step-made.new.reported) made.overlapped c.index_mut-seat.result.now.process.setup c.self.view_is (own b).setup c.step-made.ensures.overlapped
-    (returns-clause-goes c).adds
+    (returns-clause-step c).adds
 
 pub returns-clause-others : goal.returns-clause-others
 returns-clause-others c = let a = goal.at.returns-clause-others c in (made a.After-note_waiting (next a.After-index_mut-seat)).others

@@ -38,8 +38,8 @@ some c = let within = (remaining c).within in omega (arith, within)
 pub next-next-requires : goal.next-next-requires
 next-next-requires c = let a = (goal.at.next-next-requires c).After-index-seat in record { goes = remaining-may a.index-seat.result.now.process (some a) }
 
-pub next_access-requires-clause-goes : goal.next_access-requires-clause-goes
-next_access-requires-clause-goes c = let a = (goal.at.next_access-requires-clause-goes c).After-index-seat in remaining-may a.index-seat.result.now.process (some a)
+pub next_access-requires-clause-enabled : goal.next_access-requires-clause-enabled
+next_access-requires-clause-enabled c = let a = (goal.at.next_access-requires-clause-enabled c).After-index-seat in remaining-may a.index-seat.result.now.process (some a)
 
 pub next_access-requires-clause-memory : goal.next_access-requires-clause-memory
 next_access-requires-clause-memory c = (own (goal.at.next_access-requires-clause-memory c).After-index-seat).registers

@@ -8,7 +8,7 @@ use Rattle.world.proofs.cores.Core.step.Goals as goal
 use Rattle.world.proofs.cores.Core.step.Goals.{After-run-made}
 
 pub run-made-requires : goal.run-made-requires
-run-made-requires c = record { some = omega arith; within = omega (arith, c.if-remaining-gt0.true, c.remaining.ensures) }
+run-made-requires c = record { nonzero = omega arith; within = omega (arith, c.if-remaining-gt0.true, c.remaining.ensures) }
 
 -- with each history
 one : (c : After-run-made) (taken : List Taken) → MakesQuietly (with_history c.args.self.now taken) c.args.process c.args.flick c.run-made.result.newest (nat_lt 0 c.run-made.result.overlapped) (with_history c.run-made.new.self taken)

@@ -16,7 +16,7 @@ invariant_of-self-in-Ok c =
     let i = c.self.inside in
     let seats = c.event.new.self.seats in
     let taken = c.take.ensures.items ∙ (λ k. with_taken (c.reserve.ensures.items k) (c.process.ensures k) (call_in seats (c.process.ensures k)).0 (call_in seats (c.process.ensures k)).1 (c.reply.ensures k)) in
-    let room = made_room i.core c.event.new.self i.history.items c.args.event.now c.event.new.effect _ (vec_capacity c.reserve.new.history) c.self.invariant c.reserve.ensures.capacity c.in_default.ensures.room c.in-Ok.ensures.few c.in-Ok.ensures.pending in
+    let room = made_room i.core c.event.new.self i.history.items c.args.event.now c.event.new.effect _ (vec_capacity c.reserve.new.history) c.self.invariant c.reserve.ensures.capacity c.in_default.ensures.room c.in-Ok.ensures.bounded c.in-Ok.ensures.pending in
     made_keeps i.core c.event.new.self i.history.items c.take.new.history.items c.args.event.now c.event.new.effect _ (vec_capacity c.take.new.history) c.self.invariant c.in-Ok.ensures.shows (omega (arith, room, c.take.ensures.capacity)) taken
 
 pub invariant_of-self-in-Err-event : goal.invariant_of-self-in-Err-event

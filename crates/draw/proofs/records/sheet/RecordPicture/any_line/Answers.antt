@@ -9,8 +9,8 @@ use Rattle.judge.proofs.Lines.{quiet_is_cleared}
 use Rattle.draw.proofs.Lines.{ends_drawn, ends_quiet}
 use Rattle.draw.proofs.records.sheet.RecordPicture.any_line.Goals as goal
 
-pub returns-in_ok-take-clause-ok : goal.returns-in_ok-take-clause-ok
-returns-in_ok-take-clause-ok g c =
+pub returns-in_ok-take-clause-drawn : goal.returns-in_ok-take-clause-drawn
+returns-in_ok-take-clause-drawn g c =
     let old : RecordPicture = c.args.self.now in
     let now : Progress = c.in-Some.reader in
     let e : Entry = c.in-Some-last_entry.entry.now in
@@ -21,8 +21,8 @@ returns-in_ok-take-clause-ok g c =
     let draws = subst (λ (s : Setup). (past : Past) (first : Option (List ℕ)) → DrawsPast old.options old.form old.entries s past first (g.W.Sink.taken c.args.output.now) → DrawsPast old.options old.form t.entries s (e ∷ past) first (g.W.Sink.taken c.take.new.output)) c.setup.ensures.value c.in_ok-take.ensures.drawn in
     λ before past first stands. ends_drawn c.args.line.now before now e old t past first _ _ c.requires.short stands read says remaining refl refl draws
 
-pub returns-in_default-last_entry-clause-ok : goal.returns-in_default-last_entry-clause-ok
-returns-in_default-last_entry-clause-ok g c =
+pub returns-in_default-last_entry-clause-drawn : goal.returns-in_default-last_entry-clause-drawn
+returns-in_default-last_entry-clause-drawn g c =
     let old : RecordPicture = c.args.self.now in
     let now : Progress = c.in-Some.reader in
     let t : RecordPicture = record old { reader = Some now } in
@@ -31,8 +31,8 @@ returns-in_default-last_entry-clause-ok g c =
     let read : words_read record_grammar (words_of c.args.line.now) old.reader ≡ Ok (Some now) = c.in-Ok.ensures ∙ ap (λ (o : Option Progress). Ok o) c.in-Some.is in
     λ before past first stands. ends_quiet c.args.line.now before (Some now) old t past first _ _ c.requires.short stands read (quiet_is_cleared now says) refl refl refl refl none
 
-pub returns-in_default-clause-ok : goal.returns-in_default-clause-ok
-returns-in_default-clause-ok g c =
+pub returns-in_default-clause-drawn : goal.returns-in_default-clause-drawn
+returns-in_default-clause-drawn g c =
     let old : RecordPicture = c.args.self.now in
     let t : RecordPicture = record old { reader = c.read_any_line.new.read } in
     let read : words_read record_grammar (words_of c.args.line.now) old.reader ≡ Ok None = c.in-Ok.ensures ∙ ap (λ (o : Option Progress). Ok o) c.in_default.is in

@@ -5,8 +5,8 @@ use Rattle.draw.specs.{DrawsPast, EndsAsked}
 use Rattle.draw.proofs.Sheeted.{draws_of, same_some}
 use Rattle.draw.proofs.records.sheet.RecordPicture.end.Goals as goal
 
-pub returns-clause-ok : goal.returns-clause-ok
-returns-clause-ok g c = λ p past first some stands.
+pub returns-clause-drawn : goal.returns-clause-drawn
+returns-clause-drawn g c = λ p past first some stands.
     let t = c.args.self.now in
     let found : Progress = c.in-Some.reader in
     let same : found ≡ p = same_some t.reader found p c.in-Some.is some in

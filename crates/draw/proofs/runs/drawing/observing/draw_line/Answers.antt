@@ -7,8 +7,8 @@ use Rattle.draw.proofs.RunEnds.{failures_by}
 use Rattle.draw.proofs.Turning.{run_none}
 use Rattle.draw.proofs.runs.drawing.observing.draw_line.Goals as goal
 
-pub returns-clause-ok : goal.returns-clause-ok
-returns-clause-ok g c = ok_then c.play.result (λ plays view run follows counts recalls.
+pub returns-clause-drawn : goal.returns-clause-drawn
+returns-clause-drawn g c = ok_then c.play.result (λ plays view run follows counts recalls.
     let s = c.args.scenario_run.now.world.setup in
     let old = c.args.run.now in
     let taken = g.W.Sink.taken c.args.output.now in
@@ -20,17 +20,17 @@ returns-clause-ok g c = ok_then c.play.result (λ plays view run follows counts 
       drawn = subst (λ w. HasDrawnRun view s (parts_of s run.happened) (kept old.drawing.canvas) taken after c.run-1.given.0 (g.W.Sink.taken w)) (sym (c.output-1.given.1 (sym played.observes.0)))
           (subst (λ (d : RunDrawing). HasDrawnRun view s (parts_of s run.happened) (kept old.drawing.canvas) taken after d (g.W.Sink.taken c.play.new.observer.output.now)) (sym (c.run-1.given.1 (sym played.observes.1)))
           (played.observes.4 view (parts_of s run.happened) (kept old.drawing.canvas) taken (run_none view s run.happened old taken counts recalls)));
-    }) c.play.ensures.ok
+    }) c.play.ensures.observed
 
 pub returns-clause-source : goal.returns-clause-source
 returns-clause-source g c =
     let (run, follows) = c.play.ensures.runs in
-    ok_then c.play.result (λ plays. ap (λ (d : RunDrawing). d.drawing.source) (c.run-1.given.1 (sym (plays run follows).observes.1)) ∙ (plays run follows).observes.2) c.play.ensures.ok
+    ok_then c.play.result (λ plays. ap (λ (d : RunDrawing). d.drawing.source) (c.run-1.given.1 (sym (plays run follows).observes.1)) ∙ (plays run follows).observes.2) c.play.ensures.observed
 
 pub returns-clause-room : goal.returns-clause-room
 returns-clause-room g c =
     let (run, follows) = c.play.ensures.runs in
-    ok_then c.play.result (λ both more has. subst (λ (d : RunDrawing). CanCount (tally d) more) (sym (c.run-1.given.1 (sym (both.0 run follows).observes.1))) (both.1 more (has, c.requires.writes)).0) (ok_with c.play.result _ _ c.play.ensures.ok c.play.ensures.room)
+    ok_then c.play.result (λ both more has. subst (λ (d : RunDrawing). CanCount (tally d) more) (sym (c.run-1.given.1 (sym (both.0 run follows).observes.1))) (both.1 more (has, c.requires.writes)).0) (ok_with c.play.result _ _ c.play.ensures.observed c.play.ensures.room)
 
 pub returns-clause-fault : goal.returns-clause-fault
 returns-clause-fault g c =
@@ -41,5 +41,5 @@ pub returns-clause-failures : goal.returns-clause-failures
 returns-clause-failures g c =
     let (run, follows) = c.play.ensures.runs in
     failures_by c.play.result (g.W.Sink.failures c.args.output.now) (g.W.Sink.failures c.output-1.given.0)
-    (ok_then c.play.result (λ plays. ap g.W.Sink.failures (c.output-1.given.1 (sym (plays run follows).observes.0)) ∙ (plays run follows).observes.3) c.play.ensures.ok)
+    (ok_then c.play.result (λ plays. ap g.W.Sink.failures (c.output-1.given.1 (sym (plays run follows).observes.0)) ∙ (plays run follows).observes.3) c.play.ensures.observed)
     (if_err c.play.result (λ fault cut. ap g.W.Sink.failures (c.output-1.given.1 (sym (cut run follows).0)) ∙ (cut run follows).2) c.play.ensures.cut)

@@ -11,7 +11,7 @@ returns-then-self-len g c =
     let i = c.self.inside in
     let all = coming c.args.self.now.given (g.R.Source.to_come c.args.input.now) in
     record {
-      some = λ _. subst (λ (a : Held). 0 < length a.given.bytes) c.self.view_is (some_remaining i.block.items i.at (omega (arith, c.if-self-len.true, c.len.ensures, i.block.ok.0)));
+      nonempty = λ _. subst (λ (a : Held). 0 < length a.given.bytes) c.self.view_is (some_remaining i.block.items i.at (omega (arith, c.if-self-len.true, c.len.ensures, i.block.ok.0)));
       stays = λ _. stays all;
       end = λ e. absurd {A = ComesToEnd all all} (false≢true (sym e));
       ended = λ e. absurd (false≢true (sym e));
@@ -29,7 +29,7 @@ returns-then-self g c =
     let to_come = g.R.Source.to_come c.args.input.now in
     let all = coming c.args.self.now.given to_come in
     record {
-      some = λ e. absurd (false≢true e);
+      nonempty = λ e. absurd (false≢true e);
       stays = λ e. absurd {A = Stays all all} (false≢true e);
       end = λ _. subst (λ (a : Held). ComesToEnd (coming a.given to_come) (coming a.given to_come)) c.self.view_is (none_remaining i.block.items i.at i.ended to_come c.if-self.true (omega (arith, c.if-self-len.false, c.len.ensures, i.block.ok.0)));
       ended = λ _. subst (λ (a : Held). a.given.ended ≡ true) c.self.view_is c.if-self.true;
@@ -52,7 +52,7 @@ returns-in-Ok-eq0 g c =
     let is = c.in-Ok-eq0.is ∙ ap Ok c.in-Ok-eq0.field-0-test in
     let room : 0 < length c.next_bytes.new.buffer = omega arith in
     record {
-      some = λ e. absurd (false≢true e);
+      nonempty = λ e. absurd (false≢true e);
       stays = λ e. absurd {A = Stays (coming c.args.self.now.given to_come) remaining} (false≢true e);
       end = λ _. subst (λ (a : Held). ComesToEnd (coming a.given to_come) remaining) c.self.view_is (none_come i.block.items i.at i.ended to_come rest c.next_bytes.result c.next_bytes.new.buffer c.if-self.false none is room c.next_bytes.ensures.bytes);
       ended = λ _. refl;
@@ -80,7 +80,7 @@ returns-after-extend_from_slice g c =
           let longer : block ≡ c.clear.new.self.items ++ take c.in-Ok.count c.next_bytes.new.buffer = search (rules, w.in-Ok-extend_from_slice.ensures.items) in
           let moved : block ≡ take c.in-Ok.count c.next_bytes.new.buffer = longer ∙ ap (λ l. l ++ take c.in-Ok.count c.next_bytes.new.buffer) c.clear.ensures.items in
           rw w.result-is (record {
-            some = λ _. some_came c.next_bytes.new.buffer block c.next_bytes.result c.in-Ok.count c.in-Ok.is c.next_bytes.ensures.count c.in-Ok.count-test.1 moved;
+            nonempty = λ _. some_came c.next_bytes.new.buffer block c.next_bytes.result c.in-Ok.count c.in-Ok.is c.next_bytes.ensures.count c.in-Ok.count-test.1 moved;
             stays = λ _. subst (λ (a : Held). Stays (coming a.given to_come) remaining) c.self.view_is (more_come i.block.items i.at i.ended to_come rest c.next_bytes.result c.next_bytes.new.buffer block c.in-Ok.count open_still none c.in-Ok.is c.next_bytes.ensures.bytes moved);
             end = λ e. absurd {A = ComesToEnd all remaining} (false≢true (sym e));
             ended = λ e. absurd (false≢true (sym e));
@@ -91,7 +91,7 @@ returns-after-extend_from_slice g c =
             failures = c.in-Ok.ensures.failures;
           })
       | in-Err-extend_from_slice w ↦ rw w.result-is (record {
-        some = tt;
+        nonempty = tt;
         stays = tt;
         end = tt;
         ended = tt;
@@ -108,7 +108,7 @@ pub returns-in-Err : goal.returns-in-Err
 returns-in-Err g c =
     let open_yet : c.args.self.now.given.ended ≡ false = subst (λ (a : Held). a.given.ended ≡ false) c.self.view_is c.if-self.false in
     record {
-      some = tt;
+      nonempty = tt;
       stays = tt;
       end = tt;
       ended = tt;

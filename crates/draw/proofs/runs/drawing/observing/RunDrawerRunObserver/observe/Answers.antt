@@ -4,8 +4,8 @@ use Rattle.draw.proofs.RunEnds.{err_whole, ok_whole}
 use Rattle.draw.proofs.Turning.{reported_drawn}
 use Rattle.draw.proofs.runs.drawing.observing.RunDrawerRunObserver.observe.Goals as goal
 
-pub returns-clause-ok : goal.returns-clause-ok
-returns-clause-ok g c =
+pub returns-clause-observed : goal.returns-clause-observed
+returns-clause-observed g c =
     let old = c.args.self.now in
     let answer = c.args.reported.now in
     ok_whole c.draw_reported.result (g.W.Sink.failures old.output.now) (g.W.Sink.failures c.draw_reported.new.output) (λ both whole s before this happens. (

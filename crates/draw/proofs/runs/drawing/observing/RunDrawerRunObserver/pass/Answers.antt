@@ -4,8 +4,8 @@ use Rattle.draw.specs.{Drawing}
 use Rattle.draw.proofs.Turning.{run_passed}
 use Rattle.draw.proofs.runs.drawing.observing.RunDrawerRunObserver.pass.Goals as goal
 
-pub returns-clause-ok : goal.returns-clause-ok
-returns-clause-ok g c = λ none s before after newest is passed. (
+pub returns-clause-observed : goal.returns-clause-observed
+returns-clause-observed g c = λ none s before after newest is passed. (
   refl,
   refl,
   ap (λ (d : Drawing). d.source) c.pass.ensures,
