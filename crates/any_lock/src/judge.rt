@@ -78,7 +78,8 @@ impl AnyLockJudge {
         ensures entries { self.new.entries ≡ self.old.entries }
         ensures observed { Finds self.old number (entry_by process access.now marks.now) result }
         ensures reasons { ReportsReasons self.old (entry_by process access.now marks.now) self.new }
-        ensures goes_on { ObserveOn self.old (entry_by process access.now marks.now) result self.new }
+        ensures goes_on { ObserveOn self.old (entry_by process access.now marks.now) result
+            self.new }
     {
         let _nested: NestedTypes = None;
         let is_safe = self.monitor.observe(access);

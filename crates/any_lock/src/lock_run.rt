@@ -148,7 +148,8 @@ impl LockRun {
 
     /// Returns the lowest other process that is inside.
     pub fn other_inside(&self, process: u8) -> Option<u8>
-        ensures { OfPast self.now (λ s past. result ≡ lowest_inside (passage_in past) s.processes process) }
+        ensures { OfPast self.now
+            (λ s past. result ≡ lowest_inside (passage_in past) s.processes process) }
     {
         other_inside(&self.process_views, self.processes(), process)
     }
@@ -156,7 +157,8 @@ impl LockRun {
     /// Returns the lowest process that is ahead of this one.
     pub fn other_ahead(&self, process: u8) -> Option<u8>
         requires { process < self.now.setup.processes }
-        ensures { OfPast self.now (λ s past. result ≡ lowest_ahead (passage_in past) s.processes process) }
+        ensures { OfPast self.now
+            (λ s past. result ≡ lowest_ahead (passage_in past) s.processes process) }
     {
         other_ahead(&self.process_views, self.processes(), process)
     }
@@ -164,7 +166,8 @@ impl LockRun {
     /// Returns of each process that is ahead of this one the entry with which it began to wait.
     pub fn ahead_since(&self, process: u8) -> [Option<u64>; MOST_PROCESSES]
         requires { process < self.now.setup.processes }
-        ensures { OfPast self.now (λ s past. AreSince result (wait_ahead (passage_in past) s.processes process)) }
+        ensures { OfPast self.now
+            (λ s past. AreSince result (wait_ahead (passage_in past) s.processes process)) }
     {
         ahead_since(&self.process_views, self.processes(), process)
     }

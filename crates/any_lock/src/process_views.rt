@@ -155,7 +155,8 @@ impl ProcessView {
 
     /// Updates the stage of a process that stops waiting and does not enter.
     fn stop_at(&mut self, stage: Stage)
-        ensures { self.new ≡ record self.old { stage = stage; passage = without_wait self.old.passage } }
+        ensures { self.new
+            ≡ record self.old { stage = stage; passage = without_wait self.old.passage } }
     {
         self.stage = stage;
         self.passage.stop_waiting();

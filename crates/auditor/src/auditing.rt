@@ -71,7 +71,8 @@ fn is_safe(
 ) -> Result<bool, AllocError>
     requires good { checked setup.now ≡ Ok tt }
     requires kept { AllKeep setup.now (reverse before.now) }
-    ensures { IfOk result (λ reported. ReportsSafe reported setup.now (reverse before.now) entry.now) }
+    ensures { IfOk result
+        (λ reported. ReportsSafe reported setup.now (reverse before.now) entry.now) }
 {
     let mut monitor = SafeMonitor::new(alloc, setup)?;
     for earlier in before {

@@ -71,7 +71,8 @@ impl Auditor {
     #[inline]
     pub fn observe(&mut self, process: u8, access: &Option<Access>, marks: &[Mark]) -> Option<Law>
         ensures setup { result ≡ None → self.new.core.setup ≡ self.old.core.setup }
-        ensures observed { Observes self.old (entry_by process access.now marks.now) self.new result }
+        ensures observed { Observes self.old (entry_by process access.now marks.now) self.new
+            result }
         ensures unchanged { (law : Named) → result ≡ Some law → self.new ≡ self.old }
     {
         match access {
@@ -164,7 +165,8 @@ impl Auditor {
     fn observe_step(&mut self, process: u8, access: &Option<Access>, marks: &[Mark]) -> Option<Law>
         requires { event_in (entry_by process access.now marks.now) ≡ None }
         ensures setup { result ≡ None → self.new.core.setup ≡ self.old.core.setup }
-        ensures observed { Observes self.old (entry_by process access.now marks.now) self.new result }
+        ensures observed { Observes self.old (entry_by process access.now marks.now) self.new
+            result }
         ensures unchanged { (law : Named) → result ≡ Some law → self.new ≡ self.old }
     {
         let flick = flick_in(access);

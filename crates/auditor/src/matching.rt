@@ -100,7 +100,8 @@ pub(crate) fn is_that(access: Access, that: Access) -> bool
 /// Returns whether the marks are those that a step leads to, except for positions.
 #[inline]
 fn are_reported(alloc: Global, marks: &[Mark], reported: &StepOutcome) -> bool
-    ensures { IsTrue result ↔ (map (placed 0) marks.now ≡ map (placed 0) (marks_reported reported.now)) }
+    ensures { IsTrue result
+        ↔ (map (placed 0) marks.now ≡ map (placed 0) (marks_reported reported.now)) }
 {
     match reported {
         StepOutcome::Nothing => marks.is_empty(),
@@ -112,7 +113,8 @@ fn are_reported(alloc: Global, marks: &[Mark], reported: &StepOutcome) -> bool
 /// and for the others no room should be made for marks.
 #[inline(never)]
 fn are_those_of(alloc: Global, marks: &[Mark], reported: &StepOutcome) -> bool
-    ensures { IsTrue result ↔ (map (placed 0) marks.now ≡ map (placed 0) (marks_reported reported.now)) }
+    ensures { IsTrue result
+        ↔ (map (placed 0) marks.now ≡ map (placed 0) (marks_reported reported.now)) }
 {
     are_alike(marks, &step_marks(alloc, reported, 0))
 }

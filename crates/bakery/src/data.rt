@@ -166,7 +166,9 @@ fn version(
     image: Field,
 ) -> Result<(Register, Register), AllocError>
     requires { checked setup.now ≡ Ok tt }
-    ensures { IfOk result (λ version. version ≡ (register_from zero_cell setup.now 0 stamp, register_from zero_cell setup.now 0 image)) }
+    ensures { IfOk result
+        (λ version. version
+        ≡ (register_from zero_cell setup.now 0 stamp, register_from zero_cell setup.now 0 image)) }
 {
     let stamp = register(alloc, setup, stamp)?;
     Ok((stamp, register(alloc, setup, image)?))

@@ -72,7 +72,8 @@ impl Door {
         ensures door { self.new ≡ stepped self.old flick (value_of result.0.how) }
         ensures any_door { CallGoesOn self.old (value_of result.0.how) self.new }
         ensures progress { result.1 ≡ progress_on self.old self.new }
-        ensures marks { marks_reported (stage_doing self.old.doing) result.1 ≡ marks_on self.old flick (value_of result.0.how) }
+        ensures marks { marks_reported (stage_doing self.old.doing) result.1
+            ≡ marks_on self.old flick (value_of result.0.how) }
         ensures any_marks { MarksOfCall self.old (value_of result.0.how) result.1 }
         ensures going { is_going self.new ≡ goes_on result.1 }
         ensures waiting { is_waiting self.new ≡ reports_wait result.1 }

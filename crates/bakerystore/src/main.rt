@@ -256,7 +256,8 @@ fn reported_with_place<T: Eprint + AllocGlobal>(
 /// that of `judge` reads records and traces. The file's first word decides which it is.
 fn opened<R: Source + Drop>(alloc: Global, engine: Engine, source: R) -> Result<SniffedSource<R>, Fault>
     requires { R.failures source < 2 ^ 64 - 1 }
-    ensures { IfOk result (λ opened. ⟦<SniffedSource<R> as Source>⟧.failures opened ≡ R.failures source) }
+    ensures { IfOk result
+        (λ opened. ⟦<SniffedSource<R> as Source>⟧.failures opened ≡ R.failures source) }
 {
     match engine {
         Engine::State | Engine::Calls | Engine::Draw | Engine::DrawSvg | Engine::Judge => {

@@ -102,7 +102,8 @@ pub(crate) fn waits_by(
     read: Option<u32>,
 ) -> bool
     requires { checked setup.now ≡ Ok tt }
-    ensures { result ≡ waits_by setup.now process marks.now.ticket marks.now.wait_end access.now read }
+    ensures { result
+        ≡ waits_by setup.now process marks.now.ticket marks.now.wait_end access.now read }
 {
     match read {
         None => false,
@@ -117,7 +118,8 @@ pub(crate) fn waits_by(
 #[inline]
 fn reports_waiting(setup: &Setup, process: u8, marks: &Marked, access: &Access, number: u64) -> bool
     requires { checked setup.now ≡ Ok tt }
-    ensures { result ≡ reports_waiting setup.now process marks.now.ticket marks.now.wait_end access.now number }
+    ensures { result
+        ≡ reports_waiting setup.now process marks.now.ticket marks.now.wait_end access.now number }
 {
     let Some(ticket) = marks.ticket else {
         return false;
@@ -142,7 +144,8 @@ pub fn holds_up(process: u8, ticket: u32, owner: u8, field: Field, number: u64) 
 #[inline]
 pub fn ends_number(setup: &Setup, access: &Access) -> bool
     requires { checked setup.now ≡ Ok tt }
-    ensures { result ≡ ends_number (width setup.now access.now.field) access.now.bit access.now.how }
+    ensures { result
+        ≡ ends_number (width setup.now access.now.field) access.now.bit access.now.how }
 {
     match access.how {
         Move::EndRead(_) => usize::from(access.bit) + 1

@@ -47,8 +47,10 @@ impl CallState {
         marks: &[Mark],
     ) -> Option<Called>
         requires { checked setup.now ≡ Ok tt }
-        ensures observed { self.old.last.call < 2 ^ 64 - 1 → AreFew self.old.last.accesses → self.new ≡ observed setup.now number known.now access.now marks.now self.old }
-        ensures ended { result ≡ cond (self.old.calling && not self.new.calling) (Some self.new.last) None }
+        ensures observed { self.old.last.call < 2 ^ 64 - 1 → AreFew self.old.last.accesses →
+            self.new ≡ observed setup.now number known.now access.now marks.now self.old }
+        ensures ended { result
+            ≡ cond (self.old.calling && not self.new.calling) (Some self.new.last) None }
     {
         let was_calling = self.calling;
         self.go_on(setup, number, known, access, marks);
@@ -70,7 +72,8 @@ impl CallState {
         marks: &[Mark],
     )
         requires { checked setup.now ≡ Ok tt }
-        ensures { self.old.last.call < 2 ^ 64 - 1 → AreFew self.old.last.accesses → self.new ≡ observed setup.now number known.now access.now marks.now self.old }
+        ensures { self.old.last.call < 2 ^ 64 - 1 → AreFew self.old.last.accesses →
+            self.new ≡ observed setup.now number known.now access.now marks.now self.old }
     {
         let _nested: NestedTypes = None;
         if let Some(command) = called_in(marks) {
@@ -102,7 +105,8 @@ impl CallState {
     #[inline]
     fn access(&mut self, setup: &Setup, number: u64, known: &EntryFacts, access: &Access)
         requires { checked setup.now ≡ Ok tt }
-        ensures { AreFew self.old.last.accesses → self.new ≡ accessed setup.now number known.now access.now self.old }
+        ensures { AreFew self.old.last.accesses →
+            self.new ≡ accessed setup.now number known.now access.now self.old }
     {
         let process = self.last.process;
         let marks = &self.last.marks;
@@ -115,7 +119,8 @@ impl CallState {
     /// `overlapped` reads that ended were overlapped. The process has not failed in its call.
     #[inline(always)]
     pub fn pass(&mut self, number: u64, reads: u64, writes: u64, overlapped: u32)
-        ensures { HaveRoom self.old.last.accesses reads writes overlapped → self.new ≡ passed number reads writes overlapped self.old }
+        ensures { HaveRoom self.old.last.accesses reads writes overlapped →
+            self.new ≡ passed number reads writes overlapped self.old }
     {
         self.last.accesses.pass(number, reads, writes, overlapped);
     }
@@ -169,7 +174,9 @@ impl Accesses {
         access: &Access,
     )
         requires { checked setup.now ≡ Ok tt }
-        ensures { AreFew self.old → self.new ≡ with_access setup.now process number known.now marks.now access.now self.old }
+        ensures { AreFew self.old →
+            self.new
+            ≡ with_access setup.now process number known.now marks.now access.now self.old }
     {
         let itself = marks.failed.is_none();
         self.doorway = first_if(self.doorway, itself, number);
@@ -186,7 +193,8 @@ impl Accesses {
     /// Adds `reads` reads and `writes` writes of a process that has not failed. The entry with this number is the first of them.
     #[inline(always)]
     fn pass(&mut self, number: u64, reads: u64, writes: u64, overlapped: u32)
-        ensures { HaveRoom self.old reads writes overlapped → self.new ≡ with_passed number reads writes overlapped self.old }
+        ensures { HaveRoom self.old reads writes overlapped →
+            self.new ≡ with_passed number reads writes overlapped self.old }
     {
         if self.doorway.is_none() {
             self.doorway = Some(number);

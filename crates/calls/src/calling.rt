@@ -54,8 +54,10 @@ fn table_scenario<W: Sink, L: ProgressObserver>(
     progress_observer: &mut L,
 ) -> Result<(), Fault>
     requires { W.failures output.old < 2 ^ 64 - 1 }
-    ensures written { OnOk result (Appends (W.taken output.old) (W.taken output.new) (tabled (script scenario.now))) }
-    ensures front { WritesFront (W.taken output.old) (W.taken output.new) (tabled (script scenario.now)) }
+    ensures written { OnOk result
+        (Appends (W.taken output.old) (W.taken output.new) (tabled (script scenario.now))) }
+    ensures front { WritesFront (W.taken output.old) (W.taken output.new)
+        (tabled (script scenario.now)) }
     ensures fault { IfErr result IsWriteFault }
     ensures failures { W.failures output.new ≡ W.failures output.old + failed_write result }
 {
@@ -91,8 +93,11 @@ fn write_open<W: Sink>(
 ) -> Result<(), Fault>
     requires writes { W.failures output.old < 2 ^ 64 - 1 }
     requires setup { table.now.setup ≡ setup.now }
-    ensures written { OnOk result ((past : Past) → HasObserved table.now past → Appends (W.taken output.old) (W.taken output.new) (open_lines setup.now past)) }
-    ensures front { (past : Past) → HasObserved table.now past → WritesFront (W.taken output.old) (W.taken output.new) (open_lines setup.now past) }
+    ensures written { OnOk result
+        ((past : Past) → HasObserved table.now past →
+        Appends (W.taken output.old) (W.taken output.new) (open_lines setup.now past)) }
+    ensures front { (past : Past) → HasObserved table.now past →
+        WritesFront (W.taken output.old) (W.taken output.new) (open_lines setup.now past) }
     ensures fault { IfErr result IsWriteFault }
     ensures failures { W.failures output.new ≡ W.failures output.old + failed_write result }
 {
@@ -111,8 +116,13 @@ fn write_open_call<W: Sink>(
 ) -> Result<(), Fault>
     requires writes { W.failures output.old < 2 ^ 64 - 1 }
     requires process { process < table.now.setup.processes }
-    ensures written { OnOk result ((past : Past) → HasObserved table.now past → Appends (W.taken output.old) (W.taken output.new) (line_of (length past - 1) (open_call table.now.setup process past))) }
-    ensures front { (past : Past) → HasObserved table.now past → WritesFront (W.taken output.old) (W.taken output.new) (line_of (length past - 1) (open_call table.now.setup process past)) }
+    ensures written { OnOk result
+        ((past : Past) → HasObserved table.now past →
+        Appends (W.taken output.old) (W.taken output.new)
+        (line_of (length past - 1) (open_call table.now.setup process past))) }
+    ensures front { (past : Past) → HasObserved table.now past →
+        WritesFront (W.taken output.old) (W.taken output.new)
+        (line_of (length past - 1) (open_call table.now.setup process past)) }
     ensures fault { IfErr result IsWriteFault }
     ensures failures { W.failures output.new ≡ W.failures output.old + failed_write result }
 {

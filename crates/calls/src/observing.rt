@@ -75,7 +75,10 @@ impl<'a, W: Sink> RunObserver for CallsWriter<'a, W> {
 #[inline(never)]
 fn observe_step(made: &UnmarkedStep, table: &mut CallTable)
     requires { table.old.entries < 2 ^ 64 - 1 }
-    ensures observed { (past : Past) (e : Noted) → e.process ≡ made.now.process → e.access ≡ Some made.now.access → e.marks ≡ [] → HasObserved table.old past → ComesInTurn table.old.setup past e (known_step made.now) → HasObserved table.new (e ∷ past) }
+    ensures observed { (past : Past) (e : Noted) → e.process ≡ made.now.process →
+        e.access ≡ Some made.now.access → e.marks ≡ [] → HasObserved table.old past →
+        ComesInTurn table.old.setup past e (known_step made.now) →
+        HasObserved table.new (e ∷ past) }
     ensures setup { table.new.setup ≡ table.old.setup }
     ensures entries { table.new.entries ≡ table.old.entries + 1 }
 {
@@ -95,8 +98,10 @@ fn observe_reported<W: Sink>(
 ) -> Result<(), Fault>
     requires writes { W.failures output.old < 2 ^ 64 - 1 }
     requires entries { table.old.entries < 2 ^ 64 - 1 }
-    ensures observed { OnOk result (Reports reported.now table.old table.new (W.taken output.old) (W.taken output.new)) }
-    ensures cut { OnErr result (CutsReported reported.now table.old (W.taken output.old) (W.taken output.new)) }
+    ensures observed { OnOk result
+        (Reports reported.now table.old table.new (W.taken output.old) (W.taken output.new)) }
+    ensures cut { OnErr result
+        (CutsReported reported.now table.old (W.taken output.old) (W.taken output.new)) }
     ensures setup { table.new.setup ≡ table.old.setup }
     ensures entries { table.new.entries < table.old.entries + 2 }
     ensures fault { IfErr result IsWriteFault }
@@ -139,9 +144,20 @@ fn observe<W: Sink>(
 ) -> Result<(), Fault>
     requires writes { W.failures output.old < 2 ^ 64 - 1 }
     requires entries { table.old.entries < 2 ^ 64 - 1 }
-    ensures observed { (past : Past) (e : Noted) → e.process ≡ process → e.access ≡ access.now → e.marks ≡ marks.now → HasObserved table.old past → ComesInTurn table.old.setup past e known.now → HasObserved table.new (e ∷ past) }
-    ensures written { OnOk result ((past : Past) (e : Noted) → e.process ≡ process → e.access ≡ access.now → e.marks ≡ marks.now → HasObserved table.old past → ComesInTurn table.old.setup past e known.now → Appends (W.taken output.old) (W.taken output.new) (line_of (length past) (ended_call table.old.setup past e))) }
-    ensures front { (past : Past) (e : Noted) → e.process ≡ process → e.access ≡ access.now → e.marks ≡ marks.now → HasObserved table.old past → ComesInTurn table.old.setup past e known.now → WritesFront (W.taken output.old) (W.taken output.new) (line_of (length past) (ended_call table.old.setup past e)) }
+    ensures observed { (past : Past) (e : Noted) → e.process ≡ process → e.access ≡ access.now →
+        e.marks ≡ marks.now → HasObserved table.old past →
+        ComesInTurn table.old.setup past e known.now → HasObserved table.new (e ∷ past) }
+    ensures written { OnOk result
+        ((past : Past) (e : Noted) → e.process ≡ process → e.access ≡ access.now →
+        e.marks ≡ marks.now → HasObserved table.old past →
+        ComesInTurn table.old.setup past e known.now →
+        Appends (W.taken output.old) (W.taken output.new)
+        (line_of (length past) (ended_call table.old.setup past e))) }
+    ensures front { (past : Past) (e : Noted) → e.process ≡ process → e.access ≡ access.now →
+        e.marks ≡ marks.now → HasObserved table.old past →
+        ComesInTurn table.old.setup past e known.now →
+        WritesFront (W.taken output.old) (W.taken output.new)
+        (line_of (length past) (ended_call table.old.setup past e)) }
     ensures setup { table.new.setup ≡ table.old.setup }
     ensures entries { table.new.entries ≡ table.old.entries + 1 }
     ensures fault { IfErr result IsWriteFault }
@@ -160,8 +176,10 @@ pub(crate) fn write_if<W: Sink>(
     output: &mut W,
 ) -> Result<(), Fault>
     requires { W.failures output.old < 2 ^ 64 - 1 }
-    ensures written { OnOk result (Appends (W.taken output.old) (W.taken output.new) (line_of newest called.now)) }
-    ensures front { WritesFront (W.taken output.old) (W.taken output.new) (line_of newest called.now) }
+    ensures written { OnOk result
+        (Appends (W.taken output.old) (W.taken output.new) (line_of newest called.now)) }
+    ensures front { WritesFront (W.taken output.old) (W.taken output.new)
+        (line_of newest called.now) }
     ensures fault { IfErr result IsWriteFault }
     ensures failures { W.failures output.new ≡ W.failures output.old + failed_write result }
 {
@@ -180,8 +198,10 @@ fn write_call<W: Sink>(
     output: &mut W,
 ) -> Result<(), Fault>
     requires { W.failures output.old < 2 ^ 64 - 1 }
-    ensures written { OnOk result (Appends (W.taken output.old) (W.taken output.new) (call_line newest called.now)) }
-    ensures front { WritesFront (W.taken output.old) (W.taken output.new) (call_line newest called.now) }
+    ensures written { OnOk result
+        (Appends (W.taken output.old) (W.taken output.new) (call_line newest called.now)) }
+    ensures front { WritesFront (W.taken output.old) (W.taken output.new)
+        (call_line newest called.now) }
     ensures fault { IfErr result IsWriteFault }
     ensures failures { W.failures output.new ≡ W.failures output.old + failed_write result }
 {

@@ -34,7 +34,8 @@ impl OverlapMonitor {
     /// Returns whether the next entry, of this process and with this access, ends a read that a write overlapped.
     #[inline(always)]
     pub fn overlaps(&self, process: u8, access: &Option<Access>) -> bool
-        ensures { (s : Given) (past : Past) (marks : List Marking) → Monitors s past self.now → process < s.processes →
+        ensures { (s : Given) (past : Past) (marks : List Marking) → Monitors s past self.now →
+            process < s.processes →
             result ≡ overlaps_in s past (entry_with process access.now marks) }
     {
         match access {

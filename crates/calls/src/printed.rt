@@ -46,7 +46,9 @@ fn push_head(alloc: Global, line: &mut Vec<u8>, called: &Called) -> Result<(), A
 
 /// Returns the process and the number of a call, each followed by a comma.
 fn head(alloc: Global, process: u8, call: u64) -> Result<String, AllocError>
-    ensures { IfOk result (λ text. string_bytes text ≡ decimal process ++ (codes "," ++ (decimal call ++ codes ","))) }
+    ensures { IfOk result
+        (λ text. string_bytes text
+        ≡ decimal process ++ (codes "," ++ (decimal call ++ codes ","))) }
 {
     format!(in alloc; "{process},{call},")
 }

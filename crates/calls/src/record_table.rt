@@ -76,7 +76,8 @@ impl RecordCalls {
         marks: &[Mark],
     ) -> Result<(), AllocError>
         requires { self.old.table.entries < 2 ^ 64 - 1 }
-        ensures { OnOk result ((s : Given) (entries : List Noted) → HasListedAll self.old s entries →
+        ensures { OnOk result
+            ((s : Given) (entries : List Noted) → HasListedAll self.old s entries →
             HasListedAll self.new s (entries ++ entry_with process access.now marks.now ∷ [])) }
     {
         let overlapped = self.reads.overlaps(process, access);

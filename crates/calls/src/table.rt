@@ -72,8 +72,13 @@ impl CallTable {
         requires { self.old.entries < 2 ^ 64 - 1 }
         ensures setup { self.new.setup ≡ self.old.setup }
         ensures count { self.new.entries ≡ self.old.entries + 1 }
-        ensures ended { (past : Past) (e : Noted) → e.process ≡ process → e.access ≡ access.now → e.marks ≡ marks.now → HasObserved self.old past → ComesInTurn self.old.setup past e known.now → result ≡ ended_call self.old.setup past e }
-        ensures observed { (past : Past) (e : Noted) → e.process ≡ process → e.access ≡ access.now → e.marks ≡ marks.now → HasObserved self.old past → ComesInTurn self.old.setup past e known.now → HasObserved self.new (e ∷ past) }
+        ensures ended { (past : Past) (e : Noted) → e.process ≡ process → e.access ≡ access.now →
+            e.marks ≡ marks.now → HasObserved self.old past →
+            ComesInTurn self.old.setup past e known.now →
+            result ≡ ended_call self.old.setup past e }
+        ensures observed { (past : Past) (e : Noted) → e.process ≡ process → e.access ≡ access.now →
+            e.marks ≡ marks.now → HasObserved self.old past →
+            ComesInTurn self.old.setup past e known.now → HasObserved self.new (e ∷ past) }
     {
         self.go_on(process, known, access, marks)
     }
@@ -86,7 +91,10 @@ impl CallTable {
         requires room { self.old.entries + steps < 2 ^ 64 }
         ensures setup { self.new.setup ≡ self.old.setup }
         ensures count { self.new.entries ≡ self.old.entries + steps }
-        ensures observed { (past after : Past) (access : AccessMade) → access.how ≡ newest → Passes self.old.setup process steps access overlapped past after → process < self.old.setup.processes → HasNotFailed process past → HasObserved self.old past → HasObserved self.new after }
+        ensures observed { (past after : Past) (access : AccessMade) → access.how ≡ newest →
+            Passes self.old.setup process steps access overlapped past after →
+            process < self.old.setup.processes → HasNotFailed process past →
+            HasObserved self.old past → HasObserved self.new after }
     {
         // This test comes first: where the caller's move is known, the compiler keeps only one of the two calls.
         if is_of_read(newest) {
@@ -102,7 +110,8 @@ impl CallTable {
         requires { self.old.entries + steps < 2 ^ 64 }
         ensures setup { self.new.setup ≡ self.old.setup }
         ensures count { self.new.entries ≡ self.old.entries + steps }
-        ensures passed { (before : Stood) → slice_get self.old.call_states process ≡ Some before → GoesBy self.old process reads writes overlapped before self.new.call_states }
+        ensures passed { (before : Stood) → slice_get self.old.call_states process ≡ Some before →
+            GoesBy self.old process reads writes overlapped before self.new.call_states }
     {
         let _nested: NestedTypes = None;
         let number = self.entries;
@@ -126,8 +135,11 @@ impl CallTable {
         requires { self.old.entries < 2 ^ 64 - 1 }
         ensures setup { self.new.setup ≡ self.old.setup }
         ensures count { self.new.entries ≡ self.old.entries + 1 }
-        ensures step { (before : Stood) → slice_get self.old.call_states process ≡ Some before → GoesOn self.old process known.now access.now marks.now before result self.new.call_states }
-        ensures stray { self.old.setup.processes ≤ process → (result ≡ None) × (self.new.call_states ≡ self.old.call_states) }
+        ensures step { (before : Stood) → slice_get self.old.call_states process ≡ Some before →
+            GoesOn self.old process known.now access.now marks.now before result
+            self.new.call_states }
+        ensures stray { self.old.setup.processes ≤ process →
+            (result ≡ None) × (self.new.call_states ≡ self.old.call_states) }
     {
         let _nested: NestedTypes = None;
         let number = self.entries;
@@ -164,7 +176,8 @@ impl CallTable {
     /// Returns the call of a process, if it has not ended.
     pub fn open_call(&self, process: u8) -> Option<Called>
         requires { process < self.now.setup.processes }
-        ensures { (past : Past) → HasObserved self.now past → result ≡ open_call self.now.setup process past }
+        ensures { (past : Past) → HasObserved self.now past →
+            result ≡ open_call self.now.setup process past }
     {
         let call_state = &self.call_states[usize::from(process)];
         if call_state.calling {

@@ -32,9 +32,12 @@ impl<R: Source + Drop> SniffedSource<R> {
     #[tactic(auto, using(crate::proofs::Opening::keeps_none, crate::proofs::Opening::keeps_both))]
     pub fn new(alloc: Global, unseen: R) -> Result<SniffedSource<R>, Fault>
         requires { R.failures unseen < 2 ^ 64 - 1 }
-        ensures word { IfOk result (λ opened. IfSome (R.to_come unseen) (λ text. opened.first_word ≡ first_word_of text)) }
-        ensures bytes { IfOk result (λ opened. Keeps (R.to_come unseen) (⟦<SniffedSource<R> as Source>⟧.to_come opened)) }
-        ensures failures { IfOk result (λ opened. ⟦<SniffedSource<R> as Source>⟧.failures opened ≡ R.failures unseen) }
+        ensures word { IfOk result
+            (λ opened. IfSome (R.to_come unseen) (λ text. opened.first_word ≡ first_word_of text)) }
+        ensures bytes { IfOk result
+            (λ opened. Keeps (R.to_come unseen) (⟦<SniffedSource<R> as Source>⟧.to_come opened)) }
+        ensures failures { IfOk result
+            (λ opened. ⟦<SniffedSource<R> as Source>⟧.failures opened ≡ R.failures unseen) }
         ensures fault { IfErr result IsReadFault }
     {
         let mut source = unseen;
@@ -107,8 +110,11 @@ fn put_front(bytes: &[u8], buffer: &mut [u8]) -> usize
 #[tactic(auto, using(crate::proofs::Opening::looked, crate::proofs::Opening::none_looked))]
 fn look<R: Source>(source: &mut R, front: &mut Vec<u8>) -> Result<bool, Fault>
     requires { R.failures source.old < 2 ^ 64 - 1 }
-    ensures bytes { IfOk result (λ _. Keeps (prepend_known front.old.items (R.to_come source.old)) (prepend_known front.new.items (R.to_come source.new))) }
-    ensures more { IfOk result (λ some. length front.old.items + cond some 1 0 ≤ length front.new.items) }
+    ensures bytes { IfOk result
+        (λ _. Keeps (prepend_known front.old.items (R.to_come source.old))
+        (prepend_known front.new.items (R.to_come source.new))) }
+    ensures more { IfOk result
+        (λ some. length front.old.items + cond some 1 0 ≤ length front.new.items) }
     ensures end { IfOk result (λ some. some ≡ false → IsAtEnd (R.to_come source.new)) }
     ensures fault { IfErr result IsReadFault }
     ensures failures { R.failures source.new ≡ R.failures source.old + failed_reading result }
@@ -126,7 +132,9 @@ fn look<R: Source>(source: &mut R, front: &mut Vec<u8>) -> Result<bool, Fault>
 
 /// Returns whether a file that begins with these bytes has the same first word, whatever follows them.
 fn is_reported(alloc: Global, front: &[u8]) -> Result<bool, Fault>
-    ensures reported { IfOk result (λ reported. reported ≡ true → (rest : List ℕ) → first_word_of (front.now ++ rest) ≡ first_word_of front.now) }
+    ensures reported { IfOk result
+        (λ reported. reported ≡ true → (rest : List ℕ) →
+        first_word_of (front.now ++ rest) ≡ first_word_of front.now) }
     ensures not_yet { IfOk result (λ reported. reported ≡ false → length front.now < input_limit) }
     ensures fault { IfErr result IsReadFault }
     ensures failures { failed_reading result ≡ 0 }
@@ -141,7 +149,9 @@ fn is_reported(alloc: Global, front: &[u8]) -> Result<bool, Fault>
 /// a long front take no longer than a few looks at it.
 fn reports_now(alloc: Global, front: &[u8], goal: &mut usize) -> Result<bool, Fault>
     requires { goal.old ≤ input_limit }
-    ensures reported { IfOk result (λ reported. reported ≡ true → (rest : List ℕ) → first_word_of (front.now ++ rest) ≡ first_word_of front.now) }
+    ensures reported { IfOk result
+        (λ reported. reported ≡ true → (rest : List ℕ) →
+        first_word_of (front.now ++ rest) ≡ first_word_of front.now) }
     ensures not_yet { IfOk result (λ reported. reported ≡ false → length front.now < input_limit) }
     ensures goal { goal.new ≤ input_limit }
     ensures fault { IfErr result IsReadFault }
@@ -159,7 +169,9 @@ fn reports_now(alloc: Global, front: &[u8], goal: &mut usize) -> Result<bool, Fa
 
 /// Returns the lines whose end is in the front.
 fn ended_lines(front: &[u8]) -> &[u8]
-    ensures { (more : List ℕ) → lines (front.now ++ more) ≡ lines result.now ++ lines (drop (length result.now) front.now ++ more) }
+    ensures { (more : List ℕ) →
+        lines (front.now ++ more)
+        ≡ lines result.now ++ lines (drop (length result.now) front.now ++ more) }
 {
     match front.rfind_byte(b'\n') {
         Some(at) => &front[..at + 1],

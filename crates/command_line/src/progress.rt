@@ -86,7 +86,8 @@ impl<'a, S: Source + Drop, T: Clock + Eprint> CountedInput<'a, S, T> {
     /// Creates it before a source. Nothing is shown unless `shows` is true.
     pub fn new(source: S, rt: &'a T, shows: bool) -> CountedInput<'a, S, T>
         ensures to_come { ⟦<CountedInput<'a, S, T> as Source>⟧.to_come result ≡ S.to_come source }
-        ensures failures { ⟦<CountedInput<'a, S, T> as Source>⟧.failures result ≡ S.failures source }
+        ensures failures { ⟦<CountedInput<'a, S, T> as Source>⟧.failures result
+            ≡ S.failures source }
     {
         let progress = if shows { ShownProgress::new(rt) } else { None };
         CountedInput {

@@ -13,7 +13,8 @@ const MOST_TRIES: u64 = u64::MAX;
 /// Reads once, and again whenever a signal interrupts the read.
 pub fn read_again<R: Read>(reader: &mut R, buffer: &mut [u8]) -> io::Result<usize>
     ensures bound { ReadsAtMost result buffer.new }
-    ensures bytes { ReadConsumes (R.remaining reader.old) (R.remaining reader.new) result buffer.new }
+    ensures bytes { ReadConsumes (R.remaining reader.old) (R.remaining reader.new) result
+        buffer.new }
     ensures again { IfErr result (λ error. error_kind error ≢ ErrorKind.Interrupted) }
 {
     for _ in 0..MOST_TRIES {
@@ -60,7 +61,8 @@ impl<R: Read + Drop> Read for Uninterrupted<R> {
 
     fn read(&mut self, buffer: &mut [u8]) -> io::Result<usize>
         ensures bound { ReadsAtMost result buffer.new }
-        ensures bytes { ReadConsumes (R.remaining self.old.reader) (R.remaining self.new.reader) result buffer.new }
+        ensures bytes { ReadConsumes (R.remaining self.old.reader) (R.remaining self.new.reader)
+            result buffer.new }
         ensures again { IfErr result (λ error. error_kind error ≢ ErrorKind.Interrupted) }
     {
         read_again(&mut self.reader, buffer)

@@ -78,7 +78,8 @@ pub fn read_words<'a>(alloc: Global, words: &'a [String]) -> Result<Invocation<'
     ensures memory { IfErr result (λ n. takes bakery (map string_bytes words.now) ≡ true
         → (a : _) → meaning (map string_bytes words.now) ≡ Some a
         → kind_of n.error ≡ ErrorKind.OutOfMemory) }
-    ensures kinds { IfErr result (λ n. HasKind (fault_of bakery (map string_bytes words.now)) n.error
+    ensures kinds { IfErr result
+        (λ n. HasKind (fault_of bakery (map string_bytes words.now)) n.error
         ⊎ (meaning (map string_bytes words.now) ≡ None)) }
 {
     Ok(parse(alloc, words)?)

@@ -273,7 +273,8 @@ pub(crate) fn refused_operand(
     fault: FaultKind,
 ) -> Option<(usize, Operand)>
     ensures item { IfSome result (λ r. slice_get form.now r.0 ≡ Some (FormItem.Operand r.1)) }
-    ensures word { IfSome result (λ r. fault_at version r.1 (slice_index_or (texts words.now) r.0 []) ≡ Some fault) }
+    ensures word { IfSome result
+        (λ r. fault_at version r.1 (slice_index_or (texts words.now) r.0 []) ≡ Some fault) }
 {
     for place in 0..form.len().min(words.len()) {
         if let FormItem::Operand(operand) = form[place] {
@@ -292,7 +293,8 @@ pub(crate) fn refused_trace_operand(
     fault: FaultKind,
 ) -> Option<(usize, TraceOperand)>
     ensures item { IfSome result (λ r. slice_get form.now r.0 ≡ Some (FormItem.OfTrace r.1)) }
-    ensures word { IfSome result (λ r. trace_fault_at r.1 (slice_index_or (texts words.now) r.0 []) ≡ Some fault) }
+    ensures word { IfSome result
+        (λ r. trace_fault_at r.1 (slice_index_or (texts words.now) r.0 []) ≡ Some fault) }
 {
     for place in 0..form.len().min(words.len()) {
         if let FormItem::OfTrace(operand) = form[place] {

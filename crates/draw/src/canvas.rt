@@ -54,7 +54,8 @@ impl Canvas {
         requires { checked setup.now ≡ Ok tt }
         ensures kept { IsAfterMarks setup.now [] store.now →
             IfOk result (λ canvas. kept canvas ≡ kept_at_first (plan_of form window setup.now)) }
-        ensures observes { IfOk result (λ canvas. ObservesAll reads setup.now [] [] canvas.overlaps) }
+        ensures observes { IfOk result
+            (λ canvas. ObservesAll reads setup.now [] [] canvas.overlaps) }
     {
         let overlaps = OverlapsObserved::new(alloc, setup, reads)?;
         let opening = words_by_pairs(alloc, &store.store)?;
@@ -119,9 +120,10 @@ impl Canvas {
         overlapped: bool,
     ) -> Result<(), AllocError>
         ensures kept { kept self.new ≡ kept self.old }
-        ensures observes { OnOk result ((mode : Mode) (s : Given) (past : Past) (reads : List Ended) (e : Entry) →
-            e.access ≡ access → ObservesAll mode s past reads self.old.overlaps → number ≡ length past →
-            ReportsEnd mode s past access overlapped →
+        ensures observes { OnOk result
+            ((mode : Mode) (s : Given) (past : Past) (reads : List Ended) (e : Entry) →
+            e.access ≡ access → ObservesAll mode s past reads self.old.overlaps →
+            number ≡ length past → ReportsEnd mode s past access overlapped →
             ObservesAll mode s (e ∷ past) (reads ++ overlapped_by s past e) self.new.overlaps) }
     {
         match &mut self.overlaps {
@@ -186,7 +188,9 @@ impl Canvas {
     /// Draws the overlapped reads that have ended since the last line and then a line, and writes each band that is full.
     pub fn draw<W: Sink>(&mut self, line: RunLine, output: &mut W) -> Result<(), Fault>
         requires { W.failures output.old < 2 ^ 64 - 1 }
-        ensures drawn { OnOk result (DrawsLines self.old self.new (W.taken output.old) (W.taken output.new) line.source line.at (says_of line.line_content ∷ [])) }
+        ensures drawn { OnOk result
+            (DrawsLines self.old self.new (W.taken output.old) (W.taken output.new) line.source
+            line.at (says_of line.line_content ∷ [])) }
         ensures fault { IfErr result IsWriteFault }
         ensures failures { W.failures output.new ≡ W.failures output.old + failed_write result }
     {
@@ -198,7 +202,11 @@ impl Canvas {
     /// Draws the overlapped reads that have ended since the last line. A read is not a line.
     fn draw_reads<W: Sink>(&mut self, output: &mut W) -> Result<(), Fault>
         requires { W.failures output.old < 2 ^ 64 - 1 }
-        ensures drawn { OnOk result ((mode : Mode) (s : Given) (past : Past) (reads : List Ended) → ObservesAll mode s past reads self.old.overlaps → DrawsOn (kept self.old) (kept self.new) (W.taken output.old) (W.taken output.new) (map GivesRead (shown_of mode reads)) × ObservesAll mode s past [] self.new.overlaps) }
+        ensures drawn { OnOk result
+            ((mode : Mode) (s : Given) (past : Past) (reads : List Ended) →
+            ObservesAll mode s past reads self.old.overlaps →
+            DrawsOn (kept self.old) (kept self.new) (W.taken output.old) (W.taken output.new)
+            (map GivesRead (shown_of mode reads)) × ObservesAll mode s past [] self.new.overlaps) }
         ensures fault { IfErr result IsWriteFault }
         ensures failures { W.failures output.new ≡ W.failures output.old + failed_write result }
     {
@@ -212,7 +220,9 @@ impl Canvas {
     /// Draws a read, and writes the band before it if the band has no room for the read.
     fn draw_read<W: Sink>(&mut self, read: &OverlappedRead, output: &mut W) -> Result<(), Fault>
         requires { W.failures output.old < 2 ^ 64 - 1 }
-        ensures drawn { OnOk result (DrawsOn (kept self.old) (kept self.new) (W.taken output.old) (W.taken output.new) (GivesRead read.now ∷ [])) }
+        ensures drawn { OnOk result
+            (DrawsOn (kept self.old) (kept self.new) (W.taken output.old) (W.taken output.new)
+            (GivesRead read.now ∷ [])) }
         ensures overlaps { self.new.overlaps ≡ self.old.overlaps }
         ensures fault { IfErr result IsWriteFault }
         ensures failures { W.failures output.new ≡ W.failures output.old + failed_write result }
@@ -257,8 +267,10 @@ impl Canvas {
         output: &mut W,
     ) -> Result<(), Fault>
         requires { W.failures output.old < 2 ^ 64 - 1 }
-        ensures drawn { OnOk result ((s : Given) (limit : Limit) (past : Past) (marks : List Marked) →
-            HasMonitored monitor.old s limit past → number ≡ length past → drops marks ≡ drops_read →
+        ensures drawn { OnOk result
+            ((s : Given) (limit : Limit) (past : Past) (marks : List Marked) →
+            HasMonitored monitor.old s limit past → number ≡ length past →
+            drops marks ≡ drops_read →
             DrawsOn (kept self.old) (kept self.new) (W.taken output.old) (W.taken output.new)
             (gives_access (shown_access s limit past (entry_with process access.now marks)))
             × HasMonitored monitor.new s limit (entry_with process access.now marks ∷ past)) }
@@ -282,8 +294,9 @@ impl Canvas {
     /// Returns [`Fault::Write`] if a call of the sink fails, and [`Fault::Memory`] if memory is lacking.
     pub fn end<W: Sink>(&mut self, line: RunLine, reported: &[u8], output: &mut W) -> Result<u64, Fault>
         requires { W.failures output.old < 2 ^ 64 - 1 }
-        ensures drawn { IfOk result (λ height. DrawsLast self.old (W.taken output.old) (W.taken output.new)
-            line.source line.at reported.now (says_of line.line_content) height) }
+        ensures drawn { IfOk result
+            (λ height. DrawsLast self.old (W.taken output.old) (W.taken output.new) line.source
+            line.at reported.now (says_of line.line_content) height) }
         ensures fault { IfErr result IsWriteFault }
         ensures failures { W.failures output.new ≡ W.failures output.old + failed_write result }
     {
@@ -302,8 +315,9 @@ impl Canvas {
         output: &mut W,
     ) -> Result<Option<ShownVerdict>, Fault>
         requires { W.failures output.old < 2 ^ 64 - 1 }
-        ensures drawn { IfOk result (λ verdict. DrawsUpToVerdict self.old self.new
-            (W.taken output.old) (W.taken output.new) line.source line.at reported.now (says_of line.line_content) verdict) }
+        ensures drawn { IfOk result
+            (λ verdict. DrawsUpToVerdict self.old self.new (W.taken output.old) (W.taken output.new)
+            line.source line.at reported.now (says_of line.line_content) verdict) }
         ensures fault { IfErr result IsWriteFault }
         ensures failures { W.failures output.new ≡ W.failures output.old + failed_write result }
     {

@@ -221,9 +221,11 @@ impl Drawing {
     /// Returns [`Fault::Write`] if a call of the sink fails, and [`Fault::Memory`] if memory is lacking.
     pub fn draw_line<W: Sink>(&mut self, line_content: LineContent, output: &mut W) -> Result<(), Fault>
         requires { W.failures output.old < 2 ^ 64 - 1 }
-        ensures drawn { OnOk result (DrawsLines self.old.canvas self.new.canvas
-            (W.taken output.old) (W.taken output.new) self.old.source self.old.entries (says_of line_content ∷ [])) }
-        ensures part { OnOk result ((view : Seen) (s : Given) (parts : List Part) → Recalls view s parts self.old →
+        ensures drawn { OnOk result
+            (DrawsLines self.old.canvas self.new.canvas (W.taken output.old) (W.taken output.new)
+            self.old.source self.old.entries (says_of line_content ∷ [])) }
+        ensures part { OnOk result
+            ((view : Seen) (s : Given) (parts : List Part) → Recalls view s parts self.old →
             DrawsPart view s parts (PartLine (says_of line_content)) self.old self.new
             (W.taken output.old) (W.taken output.new)) }
         ensures store { self.new.store ≡ self.old.store }
@@ -249,8 +251,9 @@ impl Drawing {
         output: &mut W,
     ) -> Result<u64, Fault>
         requires { W.failures output.old < 2 ^ 64 - 1 }
-        ensures drawn { IfOk result (DrawsLast self.old.canvas
-            (W.taken output.old) (W.taken output.new) self.old.source self.old.entries reported.now (says_of line_content)) }
+        ensures drawn { IfOk result
+            (DrawsLast self.old.canvas (W.taken output.old) (W.taken output.new) self.old.source
+            self.old.entries reported.now (says_of line_content)) }
         ensures fault { IfErr result IsWriteFault }
         ensures failures { W.failures output.new ≡ W.failures output.old + failed_write result }
     {
@@ -271,7 +274,9 @@ impl Drawing {
 
     /// Returns the next line.
     fn line(&self, line_content: LineContent) -> RunLine
-        ensures { result ≡ record { source = self.now.source; at = self.now.entries; line_content = line_content } }
+        ensures { result
+            ≡ record { source = self.now.source; at = self.now.entries;
+            line_content = line_content } }
     {
         RunLine {
             source: self.source,

@@ -87,8 +87,15 @@ impl OverlapsObserved {
     fn keep(&mut self, number: u64, access: Access, overlapped: bool) -> Result<(), AllocError>
         ensures setup { self.new.setup ≡ self.old.setup }
         ensures room { OnOk result (length self.old.begun ≡ 16 → length self.new.begun ≡ 16) }
-        ensures begun { OnOk result ((s : Given) (past : Past) (reads : List Ended) (e : Entry) (p : ℕ) → e.access ≡ Some access → number ≡ length past → Observes s past reads self.old → p < 16 → get_or self.new.begun p None ≡ read_begun p (e ∷ past)) }
-        ensures ended { OnOk result ((s : Given) (past : Past) (reads : List Ended) (e : Entry) → e.access ≡ Some access → number ≡ length past → Observes s past reads self.old → ReportsOver s past access overlapped → self.new.ended.items ≡ first_three (reads ++ overlapped_by s past e)) }
+        ensures begun { OnOk result
+            ((s : Given) (past : Past) (reads : List Ended) (e : Entry) (p : ℕ) →
+            e.access ≡ Some access → number ≡ length past → Observes s past reads self.old →
+            p < 16 → get_or self.new.begun p None ≡ read_begun p (e ∷ past)) }
+        ensures ended { OnOk result
+            ((s : Given) (past : Past) (reads : List Ended) (e : Entry) → e.access ≡ Some access →
+            number ≡ length past → Observes s past reads self.old →
+            ReportsOver s past access overlapped →
+            self.new.ended.items ≡ first_three (reads ++ overlapped_by s past e)) }
     {
         match access.how {
             Move::BeginRead => {
@@ -105,7 +112,10 @@ impl OverlapsObserved {
 
     /// Records that a process begins a read.
     fn begin(&mut self, entry: u64, access: Access)
-        ensures { self.new ≡ record self.old { begun = set self.old.begun access.reader (Some (record { entry = entry; access = access })) } }
+        ensures { self.new
+            ≡ record self.old
+            { begun = set self.old.begun access.reader
+            (Some (record { entry = entry; access = access })) } }
     {
         let place = usize::from(access.reader);
         if place < self.begun.len() {
@@ -132,7 +142,11 @@ impl OverlapsObserved {
         access: &Access,
         value: bool,
     ) -> Option<OverlappedRead>
-        ensures reads { checked self.now.setup ≡ Ok tt → access.now.how ≡ EndRead value → option_to_list result ≡ cond is_overlapped (ended_of self.now.setup number access.now (get_or self.now.begun access.now.reader None)) [] }
+        ensures reads { checked self.now.setup ≡ Ok tt → access.now.how ≡ EndRead value →
+            option_to_list result
+            ≡ cond is_overlapped
+            (ended_of self.now.setup number access.now
+            (get_or self.now.begun access.now.reader None)) [] }
         ensures alone { IfSome result (λ read. read.more ≡ 0) }
     {
         if !is_overlapped {
@@ -147,7 +161,8 @@ impl OverlapsObserved {
 
     /// Returns the read that an access ends with this value and that began with the entry `begin`.
     fn read_of(&self, begin: u64, end: u64, access: &Access, value: bool) -> OverlappedRead
-        ensures read { checked self.now.setup ≡ Ok tt → access.now.how ≡ EndRead value → result ≡ read_ended self.now.setup begin end access.now }
+        ensures read { checked self.now.setup ≡ Ok tt → access.now.how ≡ EndRead value →
+            result ≡ read_ended self.now.setup begin end access.now }
         ensures alone { result.more ≡ 0 }
     {
         OverlappedRead {
@@ -171,7 +186,9 @@ impl OverlapsObserved {
     fn add(&mut self, read: OverlappedRead) -> Result<(), AllocError>
         ensures setup { self.new.setup ≡ self.old.setup }
         ensures begun { self.new.begun ≡ self.old.begun }
-        ensures ended { OnOk result ((reads : List Ended) → self.old.ended.items ≡ first_three reads → read.more ≡ 0 → self.new.ended.items ≡ first_three (reads ++ read ∷ [])) }
+        ensures ended { OnOk result
+            ((reads : List Ended) → self.old.ended.items ≡ first_three reads → read.more ≡ 0 →
+            self.new.ended.items ≡ first_three (reads ++ read ∷ [])) }
     {
         if let Some(last) = self.ended.get_mut(MOST_SHOWN - 1) {
             last.more = last.more.saturating_add(1);
@@ -183,8 +200,10 @@ impl OverlapsObserved {
 
 /// Removes the overlapped reads since the last line and returns them.
 pub(crate) fn take_ended(alloc: Global, overlaps: &mut Option<OverlapsObserved>) -> Vec<OverlappedRead>
-    ensures reads { (mode : Mode) (s : Given) (past : Past) (reads : List Ended) → ObservesAll mode s past reads overlaps.old → result.items ≡ shown_of mode reads }
-    ensures none { (mode : Mode) (s : Given) (past : Past) (reads : List Ended) → ObservesAll mode s past reads overlaps.old → ObservesAll mode s past [] overlaps.new }
+    ensures reads { (mode : Mode) (s : Given) (past : Past) (reads : List Ended) →
+        ObservesAll mode s past reads overlaps.old → result.items ≡ shown_of mode reads }
+    ensures none { (mode : Mode) (s : Given) (past : Past) (reads : List Ended) →
+        ObservesAll mode s past reads overlaps.old → ObservesAll mode s past [] overlaps.new }
 {
     match overlaps {
         Some(overlaps) => std::mem::replace(&mut overlaps.ended, Vec::new(alloc)),

@@ -15,8 +15,11 @@ pub(crate) fn apply<S: Store>(
     command: &Command,
     caller: Caller,
 ) -> Result<Option<TakenChange>, AllocError>
-    ensures change { IfOk result (λ change. option_map changed change ≡ change_by (S.contents store.old) command.now caller) }
-    ensures store { OnOk result (S.contents store.new ≡ after (S.contents store.old) command.now caller) }
+    ensures change { IfOk result
+        (λ change. option_map changed change
+        ≡ change_by (S.contents store.old) command.now caller) }
+    ensures store { OnOk result
+        (S.contents store.new ≡ after (S.contents store.old) command.now caller) }
 {
     let _nested: NestedTypes = None;
     let changes = would_change(store, command);
@@ -33,7 +36,10 @@ fn change_shown<S: Store>(
     store: &S,
     command: &Command,
 ) -> Result<TakenChange, AllocError>
-    ensures { IfOk result (λ change. changed change ≡ record { pair = pair_words (S.contents store.now).pairs (name_of command.now); store = words_of_store (S.contents store.now) }) }
+    ensures { IfOk result
+        (λ change. changed change
+        ≡ record { pair = pair_words (S.contents store.now).pairs (name_of command.now);
+            store = words_of_store (S.contents store.now) }) }
 {
     Ok(TakenChange {
         pair: pair(alloc, store, command)?,
@@ -51,7 +57,9 @@ fn would_change<S: Store>(store: &S, command: &Command) -> bool
 
 /// Returns the pair of the command's name, as `NAME=VALUE`, or nothing if the name has no value.
 fn pair<S: Store>(alloc: Global, store: &S, command: &Command) -> Result<String, AllocError>
-    ensures { IfOk result (λ words. string_bytes words ≡ pair_words (S.contents store.now).pairs (name_of command.now)) }
+    ensures { IfOk result
+        (λ words. string_bytes words
+        ≡ pair_words (S.contents store.now).pairs (name_of command.now)) }
 {
     let _nested: NestedTypes = None;
     if let Some(name) = command.name()

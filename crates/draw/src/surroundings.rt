@@ -22,7 +22,8 @@ pub fn around_picture(
     height: u64,
     reads: Reads,
 ) -> Result<(Markup, Markup), AllocError>
-    ensures front { IfOk result (λ around. around.0 ≡ picture_front subject setup.now height reads) }
+    ensures front { IfOk result
+        (λ around. around.0 ≡ picture_front subject setup.now height reads) }
     ensures back { IfOk result (λ around. around.1 ≡ picture_back height reads) }
     ensures elements { IfOk result (λ around. IsAround picture_names around.0 around.1) }
 {

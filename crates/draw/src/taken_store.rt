@@ -76,10 +76,12 @@ impl TakenStore {
         process: u8,
         mark: &Mark,
     ) -> Result<Option<TakenChange>, AllocError>
-        ensures change { IfOk result (λ change. (s : Given) (before : List (ℕ × Noted)) →
-            IsAfterMarks s before self.old → option_map changed change ≡ change_of s before process mark.now) }
-        ensures after { OnOk result ((s : Given) (before : List (ℕ × Noted)) →
-            IsAfterMarks s before self.old → IsAfterMarks s ((process, mark.now) ∷ before) self.new) }
+        ensures change { IfOk result
+            (λ change. (s : Given) (before : List (ℕ × Noted)) → IsAfterMarks s before self.old →
+            option_map changed change ≡ change_of s before process mark.now) }
+        ensures after { OnOk result
+            ((s : Given) (before : List (ℕ × Noted)) → IsAfterMarks s before self.old →
+            IsAfterMarks s ((process, mark.now) ∷ before) self.new) }
     {
         let _nested: NestedTypes = None;
         self.taken = taken_with(self.taken, mark);

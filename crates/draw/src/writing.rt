@@ -17,7 +17,9 @@ use scenario::{Fault, Sink, write_all};
 pub fn write_markup<W: Sink>(markup: &Markup, output: &mut W) -> Result<(), Fault>
     requires { W.failures output.old < 2 ^ 64 - 1 }
     ensures written { OnOk result (Writes (W.taken output.old) (W.taken output.new) markup.now) }
-    ensures drawn { OnOk result (EndsAll markup.now → Draws (W.taken output.old) (W.taken output.new) markup.now (lines_in markup.now)) }
+    ensures drawn { OnOk result
+        (EndsAll markup.now →
+        Draws (W.taken output.old) (W.taken output.new) markup.now (lines_in markup.now)) }
     ensures fault { IfErr result IsWriteFault }
     ensures failures { W.failures output.new ≡ W.failures output.old + failed_write result }
 {
@@ -28,7 +30,10 @@ pub fn write_markup<W: Sink>(markup: &Markup, output: &mut W) -> Result<(), Faul
 #[tactic(auto, using(crate::proofs::Drawn::draws_no_band))]
 pub(crate) fn write_band<W: Sink>(band: &Option<Markup>, output: &mut W) -> Result<(), Fault>
     requires { W.failures output.old < 2 ^ 64 - 1 }
-    ensures drawn { OnOk result (IfSome band.now EndsAll → Draws (W.taken output.old) (W.taken output.new) (band_text band.now) (lines_of_band band.now)) }
+    ensures drawn { OnOk result
+        (IfSome band.now EndsAll →
+        Draws (W.taken output.old) (W.taken output.new) (band_text band.now)
+        (lines_of_band band.now)) }
     ensures fault { IfErr result IsWriteFault }
     ensures failures { W.failures output.new ≡ W.failures output.old + failed_write result }
 {
@@ -45,7 +50,10 @@ pub(crate) fn write_last<W: Sink>(
     output: &mut W,
 ) -> Result<(), Fault>
     requires { W.failures output.old < 2 ^ 64 - 1 }
-    ensures drawn { OnOk result (IfSome band.now EndsAll → EndsAll last.now → Draws (W.taken output.old) (W.taken output.new) (band_text band.now ++ last.now) (lines_of_band band.now ++ lines_in last.now)) }
+    ensures drawn { OnOk result
+        (IfSome band.now EndsAll → EndsAll last.now →
+        Draws (W.taken output.old) (W.taken output.new) (band_text band.now ++ last.now)
+        (lines_of_band band.now ++ lines_in last.now)) }
     ensures fault { IfErr result IsWriteFault }
     ensures failures { W.failures output.new ≡ W.failures output.old + failed_write result }
 {

@@ -149,7 +149,8 @@ fn push_lines(
     text: &mut String,
 ) -> Result<(), AllocError>
     requires { run.old ≡ run_at_start scenario.now.setup }
-    ensures { OnOk result (string_bytes text.new ≡ string_bytes text.old ++ printed (script scenario.now)) }
+    ensures { OnOk result
+        (string_bytes text.new ≡ string_bytes text.old ++ printed (script scenario.now)) }
 {
     for line in &scenario.lines {
         let printed = run.line(alloc, &scenario.setup, line)?;

@@ -145,7 +145,8 @@ impl<'a, W: Sink> RunObserver for RecordWriter<'a, W> {
 #[inline]
 fn write_step<W: Sink>(made: UnmarkedStep, printed: &mut StepLine, output: &mut W) -> Result<(), Fault>
     requires { W.failures output.old < 2 ^ 64 - 1 }
-    ensures written { Wrote W.taken result output.old output.new (step_line made.process made.access) }
+    ensures written { Wrote W.taken result output.old output.new
+        (step_line made.process made.access) }
     ensures front { WroteFront W.taken output.old output.new (step_line made.process made.access) }
     ensures fault { IfErr result IsWriteFault }
     ensures failures { W.failures output.new ≡ W.failures output.old + failed_write result }

@@ -106,7 +106,8 @@ fn sweep_run<L: ProgressObserver>(
 
 /// Returns the accepted calls of a scenario's run, in their order, and the number of its events.
 fn calls_of(alloc: Global, scenario: &Scenario) -> Result<Calls, AllocError>
-    ensures calls { IfOk result (λ observed. observed.calls.items ≡ accepted_calls (script scenario.now)) }
+    ensures calls { IfOk result
+        (λ observed. observed.calls.items ≡ accepted_calls (script scenario.now)) }
     ensures bounded { IfOk result (λ observed. length observed.calls.items ≤ 2 ^ 56) }
 {
     let mut scenario_run = ScenarioRun::new(alloc, &scenario.setup)?;
@@ -197,7 +198,8 @@ impl RunObserver for Calls {
 
 /// Adds the call of this turn, if it is one and was accepted.
 fn keep_reported(reported: &TurnReport, calls: &mut Vec<(u8, Command)>) -> Result<(), AllocError>
-    ensures { OnOk result (calls.new.items ≡ calls.old.items ++ calls_in (event_reported reported.now)) }
+    ensures { OnOk result
+        (calls.new.items ≡ calls.old.items ++ calls_in (event_reported reported.now)) }
 {
     let _nested: NestedTypes = None;
     if let TurnReport::Accepted(made) = reported {

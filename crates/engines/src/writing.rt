@@ -13,7 +13,8 @@ use std::alloc::{AllocError, Global};
 /// Writes the lines of a turn, before which `number` events were accepted.
 fn write_reported<W: Sink>(alloc: Global, number: u64, reported: &TurnReport, output: &mut W) -> Result<(), Fault>
     requires { W.failures output.old < 2 ^ 64 - 1 }
-    ensures written { Wrote W.taken result output.old output.new (reported_text number reported.now) }
+    ensures written { Wrote W.taken result output.old output.new
+        (reported_text number reported.now) }
     ensures front { WroteFront W.taken output.old output.new (reported_text number reported.now) }
     ensures fault { IfErr result IsWriteFault }
     ensures failures { W.failures output.new ≡ W.failures output.old + failed_write result }
@@ -44,7 +45,8 @@ fn write_marks<W: Sink>(
     output: &mut W,
 ) -> Result<(), Fault>
     requires { W.failures output.old < 2 ^ 64 - 1 }
-    ensures written { Wrote W.taken result output.old output.new (mark_lines event process marks.now) }
+    ensures written { Wrote W.taken result output.old output.new
+        (mark_lines event process marks.now) }
     ensures front { WroteFront W.taken output.old output.new (mark_lines event process marks.now) }
     ensures fault { IfErr result IsWriteFault }
     ensures failures { W.failures output.new ≡ W.failures output.old + failed_write result }
@@ -126,7 +128,8 @@ pub(crate) fn write_turn<W: Sink>(
     requires writes { W.failures output.old < 2 ^ 64 - 1 }
     requires events { summary.old.events < 2 ^ 64 - 1 }
     requires refused { summary.old.refused < 2 ^ 64 - 1 }
-    ensures written { Wrote W.taken result output.old output.new (text_next summary.old reported.now) }
+    ensures written { Wrote W.taken result output.old output.new
+        (text_next summary.old reported.now) }
     ensures count { OnOk result (summary.new ≡ counted reported.now summary.old) }
     ensures front { WroteFront W.taken output.old output.new (text_next summary.old reported.now) }
     ensures fault { IfErr result IsWriteFault }

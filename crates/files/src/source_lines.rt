@@ -114,9 +114,11 @@ impl Lines {
     fn take<R: Source>(&mut self, input: &mut R) -> Result<bool, Fault>
         requires { R.failures input.old < 2 ^ 64 - 1 }
         ensures taken { self.new.taken ≡ self.old.taken }
-        ensures line { TakesShort result self.old.ahead (R.to_come input.old) self.new.ahead (R.to_come input.new) self.new.line }
+        ensures line { TakesShort result self.old.ahead (R.to_come input.old) self.new.ahead
+            (R.to_come input.new) self.new.line }
         ensures long { TakesLong result self.old.ahead (R.to_come input.old) self.new.line }
-        ensures end { NoneCome result self.old.ahead (R.to_come input.old) self.new.ahead (R.to_come input.new) }
+        ensures end { NoneCome result self.old.ahead (R.to_come input.old) self.new.ahead
+            (R.to_come input.new) }
         ensures ended { IfOk result (λ some. some ≡ false → self.new.ahead.ended ≡ true) }
         ensures holds { LinesKeepEnd self.old (R.to_come input.old) self.new (R.to_come input.new) }
         ensures stays_ended { self.old.ahead.ended ≡ true → self.new.ahead.ended ≡ true }
@@ -157,11 +159,14 @@ impl Lines {
 #[inline(never)]
 fn take_line<R: Source>(input: &mut R, ahead: &mut ReadAhead, line: &mut Vec<u8>) -> Result<bool, Fault>
     requires { R.failures input.old < 2 ^ 64 - 1 }
-    ensures line { TakesShort result ahead.old.given (R.to_come input.old) ahead.new.given (R.to_come input.new) line.new.items }
+    ensures line { TakesShort result ahead.old.given (R.to_come input.old) ahead.new.given
+        (R.to_come input.new) line.new.items }
     ensures long { TakesLong result ahead.old.given (R.to_come input.old) line.new.items }
-    ensures end { NoneCome result ahead.old.given (R.to_come input.old) ahead.new.given (R.to_come input.new) }
+    ensures end { NoneCome result ahead.old.given (R.to_come input.old) ahead.new.given
+        (R.to_come input.new) }
     ensures ended { IfOk result (λ some. some ≡ false → ahead.new.given.ended ≡ true) }
-    ensures holds { KeepsEnd ahead.old.given (R.to_come input.old) ahead.new.given (R.to_come input.new) }
+    ensures holds { KeepsEnd ahead.old.given (R.to_come input.old) ahead.new.given
+        (R.to_come input.new) }
     ensures stays_ended { ahead.old.given.ended ≡ true → ahead.new.given.ended ≡ true }
     ensures left_alone { ahead.old.given.ended ≡ true → input.new ≡ input.old }
     ensures fault { IfErr result IsReadFault }

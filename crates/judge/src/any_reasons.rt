@@ -20,7 +20,8 @@ pub(crate) fn push_reasons(
     reasons: &Reasons,
     text: &mut Vec<u8>,
 ) -> Result<(), AllocError>
-    ensures { OnOk result (text.new.items ≡ text.old.items ++ lines_of number entry.now reasons.now) }
+    ensures { OnOk result
+        (text.new.items ≡ text.old.items ++ lines_of number entry.now reasons.now) }
 {
     let _nested: NestedTypes = None;
     push_bad(alloc, number, entry, text)?;
@@ -73,13 +74,16 @@ fn push_refused(
 }
 
 fn access_text(alloc: Global, refusal: &AccessRefusal) -> Result<String, AllocError>
-    ensures { IfOk result (λ line. string_bytes line ≡ word_line (codes "refused") (access_refusal_text refusal.now)) }
+    ensures { IfOk result
+        (λ line. string_bytes line
+        ≡ word_line (codes "refused") (access_refusal_text refusal.now)) }
 {
     format!(in alloc; "refused {refusal}\n")
 }
 
 fn mark_text(alloc: Global, refusal: &MarkRefusal) -> Result<String, AllocError>
-    ensures { IfOk result (λ line. string_bytes line ≡ word_line (codes "refused") (mark_refusal_text refusal.now)) }
+    ensures { IfOk result
+        (λ line. string_bytes line ≡ word_line (codes "refused") (mark_refusal_text refusal.now)) }
 {
     format!(in alloc; "refused {refusal}\n")
 }

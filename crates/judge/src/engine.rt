@@ -44,7 +44,9 @@ fn observe_file<H: EntryObserver, R: Source>(
     input: &mut R,
 ) -> Result<H, Fault>
     requires { R.failures input.old < 2 ^ 64 - 1 }
-    ensures observed { IfOk result (λ observer. IfSome (R.to_come input.old) (IsOfRecord (HasObservedFirsts limit H.HasObserved observer))) }
+    ensures observed { IfOk result
+        (λ observer. IfSome (R.to_come input.old)
+        (IsOfRecord (HasObservedFirsts limit H.HasObserved observer))) }
     ensures end { IfOk result (λ _. IsAtEnd (R.to_come input.new)) }
     ensures fault { IfErr result (λ fault. IsInputFault fault (R.to_come input.old)) }
     ensures failures { R.failures input.new ≡ R.failures input.old + failed_reading result }

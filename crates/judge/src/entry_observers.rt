@@ -47,7 +47,11 @@ pub trait EntryObserver: Sized + Drop {
         marks: &[Mark],
     ) -> Result<(), AllocError>
         requires { count self.old < 2 ^ 64 - 1 }
-        ensures { OnOk result ((s : Given) (entries : List Noted) (numbers : List ℕ) → HasObserved self.old s entries numbers → HasObserved self.new s (entries ++ entry_by process access.now marks.now ∷ []) (numbers ++ number ∷ [])) };
+        ensures { OnOk result
+            ((s : Given) (entries : List Noted) (numbers : List ℕ) →
+            HasObserved self.old s entries numbers →
+            HasObserved self.new s (entries ++ entry_by process access.now marks.now ∷ [])
+            (numbers ++ number ∷ [])) };
 
     /// Returns the number of entries that it has observed.
     fn entries(&self) -> u64
@@ -55,7 +59,10 @@ pub trait EntryObserver: Sized + Drop {
 
     /// Returns the report on the entries so far. Fails only if an allocation fails.
     fn report(&self, alloc: Global) -> Result<Reporting, AllocError>
-        ensures { IfOk result (λ reporting. (s : Given) (entries : List Noted) (numbers : List ℕ) → HasObserved self.now s entries numbers → Reports s entries numbers reporting.text.items reporting.status) };
+        ensures { IfOk result
+            (λ reporting. (s : Given) (entries : List Noted) (numbers : List ℕ) →
+            HasObserved self.now s entries numbers →
+            Reports s entries numbers reporting.text.items reporting.status) };
 
     ghost counts: { (observer : Self) (s : Given) (entries : List Noted) (numbers : List ℕ) → HasObserved observer s entries numbers → count observer ≡ length entries };
 }

@@ -51,7 +51,9 @@ fn stepped_line(
     flick: bool,
     auditor: &Auditor,
 ) -> Result<Vec<u8>, AllocError>
-    ensures line { IfOk result (λ line. Writes auditor.now (λ s past. line_of_may (entry_of s past (Step process flick))) [] line.items) }
+    ensures line { IfOk result
+        (λ line. Writes auditor.now (λ s past. line_of_may (entry_of s past (Step process flick)))
+        [] line.items) }
 {
     may_line(alloc, &auditor.stepped(process, flick))
 }

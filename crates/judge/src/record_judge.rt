@@ -45,15 +45,18 @@ pub trait RecordJudge: Sized + Drop {
     /// Observes one more entry, which may be any, by its parts. It does not allocate.
     fn observe(&mut self, process: u8, access: &Option<Access>, marks: &[Mark])
         requires { count self.old < 2 ^ 64 - 1 }
-        ensures observed { (s : Given) (entries : List Noted) → HasJudged self.old s entries → HasJudged self.new s (entries ++ entry_by process access.now marks.now ∷ []) }
+        ensures observed { (s : Given) (entries : List Noted) → HasJudged self.old s entries →
+            HasJudged self.new s (entries ++ entry_by process access.now marks.now ∷ []) }
         ensures count { count self.new ≡ count self.old + 1 };
 
     /// Returns the verdict on the entries so far, and their number.
     fn judged(&self) -> Audited<Self::Law>
         ensures now { result.verdict ≡ verdict self.now }
         ensures count { result.entries ≡ count self.now }
-        ensures verdict { (s : Given) (entries : List Noted) → HasJudged self.now s entries → IsVerdict s entries result.verdict }
-        ensures entries { (s : Given) (entries : List Noted) → HasJudged self.now s entries → result.entries ≡ length entries };
+        ensures verdict { (s : Given) (entries : List Noted) → HasJudged self.now s entries →
+            IsVerdict s entries result.verdict }
+        ensures entries { (s : Given) (entries : List Noted) → HasJudged self.now s entries →
+            result.entries ≡ length entries };
 
     /// Returns whether each entry so far keeps all laws.
     fn is_good(&self) -> bool
@@ -65,7 +68,9 @@ pub trait RecordJudge: Sized + Drop {
     ///
     /// Returns [`AllocError`] if memory runs out.
     fn reasons(&self, alloc: Global, number: u64, entry: &Entry) -> Result<Vec<u8>, AllocError>
-        ensures { IfOk result (λ lines. GivesReasons HasJudged verdict AreReasons self.now number entry.now lines.items) };
+        ensures { IfOk result
+            (λ lines. GivesReasons HasJudged verdict AreReasons self.now number entry.now
+            lines.items) };
 
     ghost counts: { (judge : Self) (s : Given) (entries : List Noted) → HasJudged judge s entries → count judge ≡ length entries };
 

@@ -71,8 +71,10 @@ impl ThisLockJudge {
         ensures entries { self.new.entries ≡ self.old.entries }
         ensures setup { self.new.auditor.core.setup ≡ self.old.auditor.core.setup }
         ensures observed { IsNextVerdict self.old (entry_by process access.now marks.now) result }
-        ensures goes_on { BothObserveOneMore self.old (entry_by process access.now marks.now) result self.new }
-        ensures stays { StaysBefore self.old (entry_by process access.now marks.now) result self.new }
+        ensures goes_on { BothObserveOneMore self.old (entry_by process access.now marks.now) result
+            self.new }
+        ensures stays { StaysBefore self.old (entry_by process access.now marks.now) result
+            self.new }
     {
         let is_safe = self.monitor.observe(access);
         let law = self.auditor.observe(process, access, marks);

@@ -41,7 +41,10 @@ impl<H: EntryObserver> Trial<H> {
     pub fn line(&mut self, number: u64, line: &[u8]) -> Result<(), FaultKind>
         requires short { length line.now ≤ 128 }
         requires bounded { count_in H.count self.old.observer < 2 ^ 64 - 1 }
-        ensures { (before : Option Progress) (entries : List Noted) (numbers : List ℕ) → Stands H.HasObserved self.old.reader self.old.observer before entries numbers → LineEnds H.HasObserved result number line.now before self.new.reader self.new.observer entries numbers }
+        ensures { (before : Option Progress) (entries : List Noted) (numbers : List ℕ) →
+            Stands H.HasObserved self.old.reader self.old.observer before entries numbers →
+            LineEnds H.HasObserved result number line.now before self.new.reader self.new.observer
+            entries numbers }
     {
         if self.observes_step(number, line)? {
             return Ok(());
@@ -61,8 +64,10 @@ impl<H: EntryObserver> Trial<H> {
         requires short { length line.now ≤ 128 }
         requires bounded { count_in H.count self.old.observer < 2 ^ 64 - 1 }
         ensures { (before : Option Progress) (entries : List Noted) (numbers : List ℕ) →
-            Stands (HasObservedFirsts limit H.HasObserved) self.old.reader self.old.observer before entries numbers →
-            LineEnds (HasObservedFirsts limit H.HasObserved) result number line.now before self.new.reader self.new.observer entries numbers }
+            Stands (HasObservedFirsts limit H.HasObserved) self.old.reader self.old.observer before
+            entries numbers →
+            LineEnds (HasObservedFirsts limit H.HasObserved) result number line.now before
+            self.new.reader self.new.observer entries numbers }
     {
         let Some(limit) = limit else {
             return self.line(number, line);
@@ -88,8 +93,10 @@ impl<H: EntryObserver> Trial<H> {
         requires short { length line.now ≤ 128 }
         requires full { limit ≤ count_in H.count self.old.observer }
         ensures { (before : Option Progress) (entries : List Noted) (numbers : List ℕ) →
-            Stands (HasObservedFirsts (Some limit) H.HasObserved) self.old.reader self.old.observer before entries numbers →
-            LineEnds (HasObservedFirsts (Some limit) H.HasObserved) result number line.now before self.new.reader self.new.observer entries numbers }
+            Stands (HasObservedFirsts (Some limit) H.HasObserved) self.old.reader self.old.observer
+            before entries numbers →
+            LineEnds (HasObservedFirsts (Some limit) H.HasObserved) result number line.now before
+            self.new.reader self.new.observer entries numbers }
     {
         let _nested: NestedTypes = None;
         if self.observer.is_some() && read_step(line).is_some() {
@@ -110,7 +117,12 @@ impl<H: EntryObserver> Trial<H> {
     fn observes_step(&mut self, number: u64, line: &[u8]) -> Result<bool, AllocError>
         requires short { length line.now ≤ 128 }
         requires bounded { count_in H.count self.old.observer < 2 ^ 64 - 1 }
-        ensures observed { IfOk result (λ observed. observed ≡ true → (before : Option Progress) (entries : List Noted) (numbers : List ℕ) → Stands H.HasObserved self.old.reader self.old.observer before entries numbers → GoesOn H.HasObserved number line.now before self.new.reader self.new.observer entries numbers) }
+        ensures observed { IfOk result
+            (λ observed. observed ≡ true →
+            (before : Option Progress) (entries : List Noted) (numbers : List ℕ) →
+            Stands H.HasObserved self.old.reader self.old.observer before entries numbers →
+            GoesOn H.HasObserved number line.now before self.new.reader self.new.observer entries
+            numbers) }
         ensures same { IfOk result (λ observed. observed ≡ false → self.new ≡ self.old) }
     {
         let Some(observer) = &mut self.observer else {
@@ -127,7 +139,10 @@ impl<H: EntryObserver> Trial<H> {
     fn any_line(&mut self, number: u64, line: &[u8]) -> Result<(), FaultKind>
         requires short { length line.now ≤ 128 }
         requires bounded { count_in H.count self.old.observer < 2 ^ 64 - 1 }
-        ensures { (before : Option Progress) (entries : List Noted) (numbers : List ℕ) → Stands H.HasObserved self.old.reader self.old.observer before entries numbers → LineEnds H.HasObserved result number line.now before self.new.reader self.new.observer entries numbers }
+        ensures { (before : Option Progress) (entries : List Noted) (numbers : List ℕ) →
+            Stands H.HasObserved self.old.reader self.old.observer before entries numbers →
+            LineEnds H.HasObserved result number line.now before self.new.reader self.new.observer
+            entries numbers }
     {
         let _nested: NestedTypes = None;
         read_any_line(self.alloc, line, &mut self.reader)?;
@@ -146,8 +161,11 @@ impl<H: EntryObserver> Trial<H> {
     ///
     /// Returns [`AllocError`] if memory runs out.
     pub fn into_observer(self) -> Result<Option<H>, AllocError>
-        ensures { IfOk result (λ observed. (limit : Option ℕ) (before : Option Progress) (entries : List Noted) (numbers : List ℕ) →
-            Stands (HasObservedFirsts limit H.HasObserved) self.reader self.observer before entries numbers →
+        ensures { IfOk result
+            (λ observed. (limit : Option ℕ) (before : Option Progress) (entries : List Noted)
+            (numbers : List ℕ) →
+            Stands (HasObservedFirsts limit H.HasObserved) self.reader self.observer before entries
+            numbers →
             IsObserved (HasObservedFirsts limit H.HasObserved) observed before entries numbers) }
     {
         let Trial {
@@ -188,7 +206,11 @@ fn observe<H: EntryObserver>(
     requires good { checked setup.now ≡ Ok tt }
     requires bounded { count_in H.count observer.old < 2 ^ 64 - 1 }
     ensures present { OnOk result (IsSome observer.new) }
-    ensures observed { OnOk result ((entries : List Noted) (numbers : List ℕ) → Observes H.HasObserved observer.old setup.now entries numbers → Observes H.HasObserved observer.new setup.now (entries ++ entry.now ∷ []) (numbers ++ number ∷ [])) }
+    ensures observed { OnOk result
+        ((entries : List Noted) (numbers : List ℕ) →
+        Observes H.HasObserved observer.old setup.now entries numbers →
+        Observes H.HasObserved observer.new setup.now (entries ++ entry.now ∷ [])
+        (numbers ++ number ∷ [])) }
 {
     if observer.is_none() {
         begin(alloc, setup, observer)?;
@@ -210,9 +232,12 @@ fn pass_entry<H: EntryObserver>(
     requires good { checked setup.now ≡ Ok tt }
     requires full { limit ≤ count_in H.count observer.old }
     ensures present { OnOk result (IsSome observer.new) }
-    ensures observed { OnOk result ((e : Noted) (number : ℕ) (entries : List Noted) (numbers : List ℕ) →
-        Observes (HasObservedFirsts (Some limit) H.HasObserved) observer.old setup.now entries numbers →
-        Observes (HasObservedFirsts (Some limit) H.HasObserved) observer.new setup.now (entries ++ e ∷ []) (numbers ++ number ∷ [])) }
+    ensures observed { OnOk result
+        ((e : Noted) (number : ℕ) (entries : List Noted) (numbers : List ℕ) →
+        Observes (HasObservedFirsts (Some limit) H.HasObserved) observer.old setup.now entries
+        numbers →
+        Observes (HasObservedFirsts (Some limit) H.HasObserved) observer.new setup.now
+        (entries ++ e ∷ []) (numbers ++ number ∷ [])) }
 {
     if observer.is_none() {
         begin(alloc, setup, observer)?;

@@ -24,7 +24,8 @@ pub trait HasPassage {
 /// Returns the lowest process that is inside, other than this one, of the first `processes` of these states.
 pub fn other_inside<S: HasPassage>(states: &[S], processes: u8, process: u8) -> Option<u8>
     requires { processes ≤ length states.now }
-    ensures { OfPassages S.passage_of states.now (λ passage. result ≡ lowest_inside passage processes process) }
+    ensures { OfPassages S.passage_of states.now
+        (λ passage. result ≡ lowest_inside passage processes process) }
 {
     for other in 0..processes {
         if is_other_inside(states, process, other) {
@@ -37,7 +38,8 @@ pub fn other_inside<S: HasPassage>(states: &[S], processes: u8, process: u8) -> 
 /// Returns whether `other` is another process, and inside.
 fn is_other_inside<S: HasPassage>(states: &[S], process: u8, other: u8) -> bool
     requires { other < length states.now }
-    ensures { (passage : ℕ → Passed) → Has S.passage_of states.now passage other → result ≡ inside passage process other }
+    ensures { (passage : ℕ → Passed) → Has S.passage_of states.now passage other →
+        result ≡ inside passage process other }
 {
     other != process && states[usize::from(other)].passage().inside
 }
@@ -46,7 +48,8 @@ fn is_other_inside<S: HasPassage>(states: &[S], process: u8, other: u8) -> bool
 pub fn other_ahead<S: HasPassage>(states: &[S], processes: u8, process: u8) -> Option<u8>
     requires processes { processes ≤ length states.now }
     requires process { process < length states.now }
-    ensures { OfPassages S.passage_of states.now (λ passage. result ≡ lowest_ahead passage processes process) }
+    ensures { OfPassages S.passage_of states.now
+        (λ passage. result ≡ lowest_ahead passage processes process) }
 {
     for other in 0..processes {
         if is_ahead(states, process, other) {
@@ -60,8 +63,8 @@ pub fn other_ahead<S: HasPassage>(states: &[S], processes: u8, process: u8) -> O
 fn is_ahead<S: HasPassage>(states: &[S], process: u8, other: u8) -> bool
     requires other { other < length states.now }
     requires process { process < length states.now }
-    ensures { (passage : ℕ → Passed) → Has S.passage_of states.now passage other → Has S.passage_of states.now passage process
-        → result ≡ ahead passage process other }
+    ensures { (passage : ℕ → Passed) → Has S.passage_of states.now passage other →
+        Has S.passage_of states.now passage process → result ≡ ahead passage process other }
 {
     other != process
         && waits_before(
@@ -88,7 +91,8 @@ pub fn inside_since<S: HasPassage>(
     process: u8,
 ) -> [Option<u64>; MOST_PROCESSES]
     requires { processes ≤ length states.now }
-    ensures { OfPassages S.passage_of states.now (λ passage. AreSince result (enter_inside passage processes process)) }
+    ensures { OfPassages S.passage_of states.now
+        (λ passage. AreSince result (enter_inside passage processes process)) }
 {
     let mut entries = [None; MOST_PROCESSES];
     for other in 0..MOST_PROCESSES {
@@ -100,7 +104,8 @@ pub fn inside_since<S: HasPassage>(
 /// Returns the entry with which `other` entered, if it is another process that is inside.
 fn enter_inside<S: HasPassage>(states: &[S], processes: u8, process: u8, other: u8) -> Option<u64>
     requires { processes ≤ length states.now }
-    ensures { OfPassages S.passage_of states.now (λ passage. result ≡ enter_inside passage processes process other) }
+    ensures { OfPassages S.passage_of states.now
+        (λ passage. result ≡ enter_inside passage processes process other) }
 {
     if other < processes && is_other_inside(states, process, other) {
         states[usize::from(other)].passage().enters
@@ -117,7 +122,8 @@ pub fn ahead_since<S: HasPassage>(
 ) -> [Option<u64>; MOST_PROCESSES]
     requires processes { processes ≤ length states.now }
     requires process { process < length states.now }
-    ensures { OfPassages S.passage_of states.now (λ passage. AreSince result (wait_ahead passage processes process)) }
+    ensures { OfPassages S.passage_of states.now
+        (λ passage. AreSince result (wait_ahead passage processes process)) }
 {
     let mut entries = [None; MOST_PROCESSES];
     for other in 0..MOST_PROCESSES {
@@ -130,7 +136,8 @@ pub fn ahead_since<S: HasPassage>(
 fn wait_ahead<S: HasPassage>(states: &[S], processes: u8, process: u8, other: u8) -> Option<u64>
     requires processes { processes ≤ length states.now }
     requires process { process < length states.now }
-    ensures { OfPassages S.passage_of states.now (λ passage. result ≡ wait_ahead passage processes process other) }
+    ensures { OfPassages S.passage_of states.now
+        (λ passage. result ≡ wait_ahead passage processes process other) }
 {
     if other < processes && is_ahead(states, process, other) {
         states[usize::from(other)].passage().waits

@@ -79,7 +79,9 @@ impl LockStages {
         marks: &[LockMark],
     ) -> Option<LockMarkRefusal>
         requires { process < 16 }
-        ensures { OfObserved self.now (λ past. result ≡ refusal_of_marks past is_open (lock_entry process accesses marks.now)) }
+        ensures { OfObserved self.now
+            (λ past. result
+            ≡ refusal_of_marks past is_open (lock_entry process accesses marks.now)) }
     {
         if calls(marks) && (accesses || marks.len() != 1) {
             return Some(LockMarkRefusal::NotAlone);
@@ -89,7 +91,9 @@ impl LockStages {
 
     /// Returns whether a process enters with these marks while another is inside.
     pub fn breaks_together(&self, process: u8, accesses: bool, marks: &[LockMark]) -> bool
-        ensures { OfObserved self.now (λ past. result ≡ breaks_together self.now.processes past (lock_entry process accesses marks.now)) }
+        ensures { OfObserved self.now
+            (λ past. result
+            ≡ breaks_together self.now.processes past (lock_entry process accesses marks.now)) }
     {
         enters(marks) && other_inside(&self.states, self.processes, process).is_some()
     }
@@ -97,14 +101,18 @@ impl LockStages {
     /// Returns whether a process enters with these marks while another is ahead of it.
     pub fn breaks_overtaken(&self, process: u8, accesses: bool, marks: &[LockMark]) -> bool
         requires { process < 16 }
-        ensures { OfObserved self.now (λ past. result ≡ breaks_overtaken self.now.processes past (lock_entry process accesses marks.now)) }
+        ensures { OfObserved self.now
+            (λ past. result
+            ≡ breaks_overtaken self.now.processes past (lock_entry process accesses marks.now)) }
     {
         enters(marks) && other_ahead(&self.states, self.processes, process).is_some()
     }
 
     /// Returns of each other process that is inside the entry with which it entered.
     pub fn inside_since(&self, process: u8) -> [Option<u64>; MOST_PROCESSES]
-        ensures { OfObserved self.now (λ past. AreSince result (enter_inside (lock_passage past) self.now.processes process)) }
+        ensures { OfObserved self.now
+            (λ past. AreSince result
+            (enter_inside (lock_passage past) self.now.processes process)) }
     {
         inside_since(&self.states, self.processes, process)
     }
@@ -112,7 +120,8 @@ impl LockStages {
     /// Returns of each process that is ahead the entry with which it began to wait.
     pub fn ahead_since(&self, process: u8) -> [Option<u64>; MOST_PROCESSES]
         requires { process < 16 }
-        ensures { OfObserved self.now (λ past. AreSince result (wait_ahead (lock_passage past) self.now.processes process)) }
+        ensures { OfObserved self.now
+            (λ past. AreSince result (wait_ahead (lock_passage past) self.now.processes process)) }
     {
         ahead_since(&self.states, self.processes, process)
     }
@@ -123,7 +132,8 @@ impl LockStages {
         requires bounded { self.old.entries < 2 ^ 64 - 1 }
         ensures processes { self.new.processes ≡ self.old.processes }
         ensures entries { self.new.entries ≡ self.old.entries + 1 }
-        ensures observed { OfObserved self.old (λ past. HasObserved self.new (lock_entry process accesses marks.now ∷ past)) }
+        ensures observed { OfObserved self.old
+            (λ past. HasObserved self.new (lock_entry process accesses marks.now ∷ past)) }
     {
         let mut state = self.state(process);
         state.take(self.entries, accesses, marks);

@@ -102,7 +102,8 @@ impl Markup {
         attributes: &[Attribute],
         text: &[u8],
     ) -> Result<(), AllocError>
-        ensures draws { OnOk result (self.new ≡ self.old ++ text_element tag attributes.now text.now) }
+        ensures draws { OnOk result
+            (self.new ≡ self.old ++ text_element tag attributes.now text.now) }
         ensures read { OnOk result (reading self.new ≡ reading self.old) }
     {
         self.add_parts(&[
@@ -201,7 +202,8 @@ impl Markup {
     pub(crate) fn add_parts(&mut self, parts: &[TagPart]) -> Result<(), AllocError>
         requires { is_at_rest (tags_of (parts_text parts.now)) ≡ true }
         ensures draws { OnOk result (self.new ≡ self.old ++ parts_text parts.now) }
-        ensures read { OnOk result (reading self.new ≡ followed_by (parts_text parts.now) (reading self.old)) }
+        ensures read { OnOk result
+            (reading self.new ≡ followed_by (parts_text parts.now) (reading self.old)) }
     {
         let mut bytes = Vec::new(self.alloc);
         push_parts(self.alloc, &mut bytes, parts)?;

@@ -41,7 +41,8 @@ impl Band {
     ) -> Result<(), AllocError>
         ensures draws { Draws result markup.old markup.new
             (band_shapes (seen_band self.now) (seen_accesses accesses.now)) }
-        ensures read { ReportsLines result markup.old markup.new (all_reported self.now.columns.items) }
+        ensures read { ReportsLines result markup.old markup.new
+            (all_reported self.now.columns.items) }
     {
         self.draw_shades(markup)?;
         self.draw_guides(markup)?;
@@ -59,7 +60,8 @@ impl Band {
 
     /// Draws all lanes.
     fn draw_lanes(&self, alloc: Global, markup: &mut Markup) -> Result<(), AllocError>
-        ensures draws { Draws result markup.old markup.new (for_each (lane_shapes (seen_band self.now)) self.now.before.processes) }
+        ensures draws { Draws result markup.old markup.new
+            (for_each (lane_shapes (seen_band self.now)) self.now.before.processes) }
         ensures read { OnOk result (reading markup.new ≡ reading markup.old) }
     {
         for process in 0..self.before.processes {
@@ -70,7 +72,8 @@ impl Band {
 
     /// Draws the links between lanes.
     fn draw_all_links(&self, alloc: Global, markup: &mut Markup) -> Result<(), AllocError>
-        ensures draws { Draws result markup.old markup.new (flat_map (links (seen_band self.now)) (map seen self.now.columns.items)) }
+        ensures draws { Draws result markup.old markup.new
+            (flat_map (links (seen_band self.now)) (map seen self.now.columns.items)) }
         ensures read { OnOk result (reading markup.new ≡ reading markup.old) }
     {
         for column in &self.columns {
@@ -135,7 +138,8 @@ impl Band {
 
     /// Draws the words in the bars of the lanes with columns.
     fn draw_all_words(&self, alloc: Global, markup: &mut Markup) -> Result<(), AllocError>
-        ensures draws { Draws result markup.old markup.new (for_each (lane_words (seen_band self.now)) self.now.before.processes) }
+        ensures draws { Draws result markup.old markup.new
+            (for_each (lane_words (seen_band self.now)) self.now.before.processes) }
         ensures read { OnOk result (reading markup.new ≡ reading markup.old) }
     {
         for process in 0..self.before.processes {
@@ -149,8 +153,10 @@ impl Band {
 
     /// Draws all columns.
     fn draw_columns(&self, alloc: Global, markup: &mut Markup) -> Result<(), AllocError>
-        ensures draws { Draws result markup.old markup.new (flat_map (column_shapes (seen_band self.now)) (map seen self.now.columns.items)) }
-        ensures read { ReportsLines result markup.old markup.new (all_reported self.now.columns.items) }
+        ensures draws { Draws result markup.old markup.new
+            (flat_map (column_shapes (seen_band self.now)) (map seen self.now.columns.items)) }
+        ensures read { ReportsLines result markup.old markup.new
+            (all_reported self.now.columns.items) }
     {
         for column in &self.columns {
             self.draw_column(alloc, column, markup)?;

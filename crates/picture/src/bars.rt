@@ -19,7 +19,8 @@ impl Band {
         process: u8,
         markup: &mut Markup,
     ) -> Result<(), AllocError>
-        ensures draws { Draws result markup.old markup.new (lane_shapes (seen_band self.now) process) }
+        ensures draws { Draws result markup.old markup.new
+            (lane_shapes (seen_band self.now) process) }
         ensures read { OnOk result (reading markup.new ≡ reading markup.old) }
     {
         let lane = self.layout.lane(process);

@@ -17,7 +17,9 @@ const MIDDLE: u32 = 14;
 impl Band {
     /// Shades all lanes while a process is inside.
     pub(crate) fn draw_shades(&self, markup: &mut Markup) -> Result<(), AllocError>
-        ensures draws { Draws result markup.old markup.new (shades self.now.layout.chain self.now.layout.end (first_inside self.now.before) (map seen self.now.columns.items)) }
+        ensures draws { Draws result markup.old markup.new
+            (shades self.now.layout.chain self.now.layout.end (first_inside self.now.before)
+            (map seen self.now.columns.items)) }
         ensures read { OnOk result (reading markup.new ≡ reading markup.old) }
     {
         let mut from = self.shade_start();
@@ -47,7 +49,8 @@ impl Band {
         to: u16,
         markup: &mut Markup,
     ) -> Result<(), AllocError>
-        ensures draws { Draws result markup.old markup.new (shade_up_to self.now.layout.chain from is_inside to) }
+        ensures draws { Draws result markup.old markup.new
+            (shade_up_to self.now.layout.chain from is_inside to) }
         ensures read { OnOk result (reading markup.new ≡ reading markup.old) }
     {
         match from {
@@ -57,7 +60,8 @@ impl Band {
     }
 
     fn shade(&self, from: u16, to: u16, markup: &mut Markup) -> Result<(), AllocError>
-        ensures draws { Draws result markup.old markup.new (shade_of self.now.layout.chain from to ∷ []) }
+        ensures draws { Draws result markup.old markup.new
+            (shade_of self.now.layout.chain from to ∷ []) }
         ensures read { OnOk result (reading markup.new ≡ reading markup.old) }
     {
         let corner = Point::at(u32::from(from), u32::from(AXIS));
@@ -68,7 +72,8 @@ impl Band {
 
     /// Draws the axis, with the numbers of events between columns, and what it counts.
     pub(crate) fn draw_axis(&self, alloc: Global, markup: &mut Markup) -> Result<(), AllocError>
-        ensures draws { Draws result markup.old markup.new (axis self.now.subject self.now.layout.end 52 (map seen self.now.columns.items)) }
+        ensures draws { Draws result markup.old markup.new
+            (axis self.now.subject self.now.layout.end 52 (map seen self.now.columns.items)) }
         ensures read { OnOk result (reading markup.new ≡ reading markup.old) }
     {
         let mut from = LEFT;
@@ -120,7 +125,8 @@ impl Band {
 
     /// Draws the name of the lowest lane, if it is a history.
     fn draw_name(&self, markup: &mut Markup) -> Result<(), AllocError>
-        ensures draws { Draws result markup.old markup.new (history_name (has_history self.now.subject) (knot_of self.now.layout)) }
+        ensures draws { Draws result markup.old markup.new
+            (history_name (has_history self.now.subject) (knot_of self.now.layout)) }
         ensures read { OnOk result (reading markup.new ≡ reading markup.old) }
     {
         if !self.subject.has_history() {
@@ -131,7 +137,8 @@ impl Band {
 
     /// Draws the words of the opening store.
     fn draw_opening(&self, markup: &mut Markup) -> Result<(), AllocError>
-        ensures draws { Draws result markup.old markup.new (opening_words (knot_of self.now.layout) self.now.opens.items) }
+        ensures draws { Draws result markup.old markup.new
+            (opening_words (knot_of self.now.layout) self.now.opens.items) }
         ensures read { OnOk result (reading markup.new ≡ reading markup.old) }
     {
         if self.opens.is_empty() {

@@ -18,7 +18,8 @@ impl Band {
         column: &Column,
         markup: &mut Markup,
     ) -> Result<(), AllocError>
-        ensures draws { Draws result markup.old markup.new (links (seen_band self.now) (seen column.now)) }
+        ensures draws { Draws result markup.old markup.new
+            (links (seen_band self.now) (seen column.now)) }
         ensures read { OnOk result (reading markup.new ≡ reading markup.old) }
     {
         let Some(process) = column.lane else {
@@ -36,7 +37,8 @@ impl Band {
 
     /// Draws the line from a column to its knot, if it has one.
     fn draw_drop(&self, from: Point, column: &Column, markup: &mut Markup) -> Result<(), AllocError>
-        ensures draws { Draws result markup.old markup.new (drop_line self.now.layout from (seen column.now)) }
+        ensures draws { Draws result markup.old markup.new
+            (drop_line self.now.layout from (seen column.now)) }
         ensures read { OnOk result (reading markup.new ≡ reading markup.old) }
     {
         if column.taken().is_none() {
@@ -52,7 +54,8 @@ impl Band {
         frees: Option<u8>,
         markup: &mut Markup,
     ) -> Result<(), AllocError>
-        ensures draws { Draws result markup.old markup.new (freed_arrow self.now.layout from frees) }
+        ensures draws { Draws result markup.old markup.new
+            (freed_arrow self.now.layout from frees) }
         ensures read { OnOk result (reading markup.new ≡ reading markup.old) }
     {
         let Some(freed) = frees else {

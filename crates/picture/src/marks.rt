@@ -22,7 +22,8 @@ impl Band {
         column: &Column,
         markup: &mut Markup,
     ) -> Result<(), AllocError>
-        ensures draws { Draws result markup.old markup.new (column_shapes (seen_band self.now) (seen column.now)) }
+        ensures draws { Draws result markup.old markup.new
+            (column_shapes (seen_band self.now) (seen column.now)) }
         ensures read { ReportsLines result markup.old markup.new (texts column.now.lines.items) }
     {
         let Some(process) = column.lane else {
@@ -43,7 +44,9 @@ impl Band {
         foot: Point,
         markup: &mut Markup,
     ) -> Result<(), AllocError>
-        ensures draws { Draws result markup.old markup.new (lines_shapes (seen_band self.now) (seen column.now) head foot 0 column.now.lines.items) }
+        ensures draws { Draws result markup.old markup.new
+            (lines_shapes (seen_band self.now) (seen column.now) head foot 0
+            column.now.lines.items) }
         ensures read { ReportsLines result markup.old markup.new (texts column.now.lines.items) }
     {
         for (place, line) in column.lines.iter().enumerate() {
@@ -62,7 +65,8 @@ impl Band {
         foot: Point,
         markup: &mut Markup,
     ) -> Result<(), AllocError>
-        ensures draws { Draws result markup.old markup.new (line_shapes (seen_band self.now) (seen column.now) head foot place line.now) }
+        ensures draws { Draws result markup.old markup.new
+            (line_shapes (seen_band self.now) (seen column.now) head foot place line.now) }
         ensures read { ReportsLines result markup.old markup.new (text_of line.now ∷ []) }
     {
         let alloc = markup.alloc();
@@ -82,7 +86,8 @@ impl Band {
         foot: Point,
         markup: &mut Markup,
     ) -> Result<(), AllocError>
-        ensures draws { Draws result markup.old markup.new (foot_shapes (seen_band self.now) (seen column.now) line.now foot) }
+        ensures draws { Draws result markup.old markup.new
+            (foot_shapes (seen_band self.now) (seen column.now) line.now foot) }
         ensures read { OnOk result (reading markup.new ≡ reading markup.old) }
     {
         if line.place().is_none() {
@@ -97,7 +102,8 @@ impl Band {
 
     /// Draws a line in the lane of the history.
     fn draw_note(&self, column: &Column, markup: &mut Markup) -> Result<(), AllocError>
-        ensures draws { Draws result markup.old markup.new (flat_map (note_shapes (seen_band self.now) (seen column.now)) column.now.lines.items) }
+        ensures draws { Draws result markup.old markup.new
+            (flat_map (note_shapes (seen_band self.now) (seen column.now)) column.now.lines.items) }
         ensures read { ReportsLines result markup.old markup.new (texts column.now.lines.items) }
     {
         for line in &column.lines {
@@ -113,7 +119,8 @@ impl Band {
         line: &RunLine,
         markup: &mut Markup,
     ) -> Result<(), AllocError>
-        ensures draws { Draws result markup.old markup.new (note_shapes (seen_band self.now) (seen column.now) line.now) }
+        ensures draws { Draws result markup.old markup.new
+            (note_shapes (seen_band self.now) (seen column.now) line.now) }
         ensures read { ReportsLines result markup.old markup.new (text_of line.now ∷ []) }
     {
         let alloc = markup.alloc();
@@ -129,7 +136,8 @@ impl Band {
 
 /// Draws the pair that the command of a line changed, below its knot.
 fn draw_pair(line: &RunLine, knot: Point, markup: &mut Markup) -> Result<(), AllocError>
-    ensures draws { Draws result markup.old markup.new (pair_words (change_reported line.now.line_content) knot) }
+    ensures draws { Draws result markup.old markup.new
+        (pair_words (change_reported line.now.line_content) knot) }
     ensures read { OnOk result (reading markup.new ≡ reading markup.old) }
 {
     match line.change() {
@@ -193,8 +201,10 @@ fn begin_mark(
     is_last: bool,
     markup: &mut Markup,
 ) -> Result<(), AllocError>
-    ensures draws { Draws result markup.old markup.new (mark_shape (seen column.now) line.now is_last ∷ []) }
-    ensures read { OnOk result (reading markup.new ≡ with_mark (text_of line.now) (reading markup.old)) }
+    ensures draws { Draws result markup.old markup.new
+        (mark_shape (seen column.now) line.now is_last ∷ []) }
+    ensures read { OnOk result
+        (reading markup.new ≡ with_mark (text_of line.now) (reading markup.old)) }
 {
     let queue = numbers(alloc, column)?;
     let text = line.text(alloc)?;
@@ -217,7 +227,8 @@ fn mark_line(
     title: &[u8],
     markup: &mut Markup,
 ) -> Result<(), AllocError>
-    ensures draws { Draws result markup.old markup.new (Mark (mark_said x line.now is_last queue.now) title.now ∷ []) }
+    ensures draws { Draws result markup.old markup.new
+        (Mark (mark_said x line.now is_last queue.now) title.now ∷ []) }
     ensures read { OnOk result (reading markup.new ≡ with_mark title.now (reading markup.old)) }
 {
     let place = number(Key::Place, u64::from(x));
@@ -253,7 +264,8 @@ fn draw_rows(
     at: Point,
     markup: &mut Markup,
 ) -> Result<(), AllocError>
-    ensures draws { Draws result markup.old markup.new (rows_of_line (seen column.now) place is_refusal at) }
+    ensures draws { Draws result markup.old markup.new
+        (rows_of_line (seen column.now) place is_refusal at) }
     ensures read { OnOk result (reading markup.new ≡ reading markup.old) }
 {
     let is_alone = column.lines.len() == 1;

@@ -79,7 +79,8 @@ impl Band {
         markup: &mut Markup,
     ) -> Result<(), AllocError>
         ensures draws { Draws result markup.old markup.new
-            (flat_map (outline_of (seen_band self.now) (seen_accesses accesses.now) verdict.now.bad edge)
+            (flat_map
+            (outline_of (seen_band self.now) (seen_accesses accesses.now) verdict.now.bad edge)
             (map seen_line verdict.now.lines.items)) }
         ensures read { OnOk result (reading markup.new ≡ reading markup.old) }
     {
@@ -126,7 +127,8 @@ impl Band {
     ) -> Result<(), AllocError>
         requires { from < to }
         ensures draws { Draws result markup.old markup.new
-            (outline (seen_band self.now) (seen_accesses accesses.now) bad pointer pointer.kind from to) }
+            (outline (seen_band self.now) (seen_accesses accesses.now) bad pointer pointer.kind from
+            to) }
         ensures read { OnOk result (reading markup.new ≡ reading markup.old) }
     {
         let lane = self.layout.lane(pointer.process);
@@ -174,7 +176,8 @@ impl Band {
 
     /// Returns whether the band shows accesses in the lane of a process.
     fn shows_accesses(&self, accesses: &AccessState, process: u8) -> bool
-        ensures { result ≡ shows_accesses (seen_band self.now) (seen_accesses accesses.now) process }
+        ensures { result
+            ≡ shows_accesses (seen_band self.now) (seen_accesses accesses.now) process }
     {
         let is_open = accesses.open_access(process).is_some();
         is_open || has_access(self.columns.as_slice(), process)

@@ -100,10 +100,13 @@ impl Page {
     ///
     /// Returns [`AllocError`] if memory is lacking.
     pub fn pass(&mut self, line: &RunLine) -> Result<(), AllocError>
-        ensures page { OnOk result (Passes (Reports line.now) (seen_page self.old) (seen_page self.new)) }
+        ensures page { OnOk result
+            (Passes (Reports line.now) (seen_page self.old) (seen_page self.new)) }
         ensures lines { OnOk result (held_back self.new ≡ held_back self.old) }
-        ensures stages { OnOk result (stages_kept self.new
-            ≡ stages_reported self.old.state.processes (stages_kept self.old) line.now.line_content) }
+        ensures stages { OnOk result
+            (stages_kept self.new
+            ≡ stages_reported self.old.state.processes (stages_kept self.old)
+            line.now.line_content) }
         ensures processes { self.new.state.processes ≡ self.old.state.processes }
     {
         self.state.take(self.alloc, line)?;
@@ -120,7 +123,8 @@ impl Page {
     ///
     /// Returns [`AllocError`] if memory is lacking.
     pub fn pass_access(&mut self, access: ShownAccess) -> Result<(), AllocError>
-        ensures page { OnOk result (Passes (Accesses access) (seen_page self.old) (seen_page self.new)) }
+        ensures page { OnOk result
+            (Passes (Accesses access) (seen_page self.old) (seen_page self.new)) }
         ensures lines { OnOk result (held_back self.new ≡ held_back self.old) }
         ensures state { self.new.state ≡ self.old.state }
     {
@@ -131,7 +135,8 @@ impl Page {
 
     /// Sets the words of the store at the left edge. The page has no items yet.
     fn set_opening(&mut self, words: &[u8]) -> Result<(), AllocError>
-        ensures page { OnOk result (SetsOpening words.now (seen_page self.old) (seen_page self.new)) }
+        ensures page { OnOk result
+            (SetsOpening words.now (seen_page self.old) (seen_page self.new)) }
         ensures lines { OnOk result (held_back self.new ≡ held_back self.old) }
         ensures state { self.new.state ≡ self.old.state }
     {
@@ -152,10 +157,14 @@ impl Page {
     /// held back, are the lines that were held back before, and this one. In the band each element that begins ends. The line
     /// changes the stages.
     pub fn take(&mut self, line: RunLine) -> Result<Option<Markup>, AllocError>
-        ensures page { IfOk result (λ full. TakesItem (Reports line) (seen_page self.old) full (seen_page self.new)) }
-        ensures lines { GivesLines result (held_back self.new) (held_back self.old ++ text_of line ∷ []) }
+        ensures page { IfOk result
+            (λ full. TakesItem (Reports line) (seen_page self.old) full (seen_page self.new)) }
+        ensures lines { GivesLines result (held_back self.new)
+            (held_back self.old ++ text_of line ∷ []) }
         ensures ended { IfOk result (λ full. IfSome full EndsAll) }
-        ensures stages { OnOk result (stages_kept self.new ≡ stages_reported self.old.state.processes (stages_kept self.old) line.line_content) }
+        ensures stages { OnOk result
+            (stages_kept self.new
+            ≡ stages_reported self.old.state.processes (stages_kept self.old) line.line_content) }
         ensures processes { self.new.state.processes ≡ self.old.state.processes }
     {
         let frees = self.state.take(self.alloc, &line)?;
@@ -174,8 +183,10 @@ impl Page {
         line: RunLine,
         frees: Option<u8>,
     ) -> Result<Option<Markup>, AllocError>
-        ensures page { IfOk result (λ full. BeginsColumn line frees (seen_page self.old) full (seen_page self.new)) }
-        ensures lines { GivesLines result (held_back self.new) (held_back self.old ++ text_of line ∷ []) }
+        ensures page { IfOk result
+            (λ full. BeginsColumn line frees (seen_page self.old) full (seen_page self.new)) }
+        ensures lines { GivesLines result (held_back self.new)
+            (held_back self.old ++ text_of line ∷ []) }
         ensures ended { IfOk result (λ full. IfSome full EndsAll) }
         ensures state { self.new.state ≡ self.old.state }
     {
@@ -189,7 +200,8 @@ impl Page {
     /// Adds a read that a write overlapped, and returns the band before it, if that is full. A read is not a
     /// line.
     pub fn take_read(&mut self, read: OverlappedRead) -> Result<Option<Markup>, AllocError>
-        ensures page { IfOk result (λ full. TakesItem (Reads read) (seen_page self.old) full (seen_page self.new)) }
+        ensures page { IfOk result
+            (λ full. TakesItem (Reads read) (seen_page self.old) full (seen_page self.new)) }
         ensures lines { GivesLines result (held_back self.new) (held_back self.old) }
         ensures ended { IfOk result (λ full. IfSome full EndsAll) }
         ensures stages { OnOk result (stages_kept self.new ≡ stages_kept self.old) }
@@ -236,7 +248,8 @@ impl Page {
         ensures page { IfOk result
             (λ bands. GivesLast verdict (seen_page self.old) bands.0 bands.1 (seen_page self.new)) }
         ensures lines { IfOk result
-            (λ bands. lines_of_band bands.0 ++ lines_in bands.1 ≡ held_back self.old ++ titles_if verdict) }
+            (λ bands. lines_of_band bands.0 ++ lines_in bands.1
+            ≡ held_back self.old ++ titles_if verdict) }
         ensures full { IfOk result (λ bands. IfSome bands.0 EndsAll) }
         ensures last { IfOk result (λ bands. EndsAll bands.1) }
     {
@@ -250,7 +263,8 @@ impl Page {
         ensures page { IfOk result (λ full. Places (seen_page self.old) full (seen_page self.new)) }
         ensures placed { OnOk result (self.new.pending ≡ None) }
         ensures state { self.new.state ≡ self.old.state }
-        ensures lines { GivesLines result (all_reported self.new.columns.items) (held_back self.old) }
+        ensures lines { GivesLines result (all_reported self.new.columns.items)
+            (held_back self.old) }
         ensures ended { IfOk result (λ full. IfSome full EndsAll) }
     {
         let Some(column) = self.pending.take() else {
@@ -263,10 +277,12 @@ impl Page {
 
     /// Draws the band and begins another, if a column has no room in it.
     fn make_room(&mut self, column: &Column) -> Result<Option<Markup>, AllocError>
-        ensures page { IfOk result (λ full. MakesRoom (seen column.now) (seen_page self.old) full (seen_page self.new)) }
+        ensures page { IfOk result
+            (λ full. MakesRoom (seen column.now) (seen_page self.old) full (seen_page self.new)) }
         ensures pending { OnOk result (self.new.pending ≡ self.old.pending) }
         ensures state { self.new.state ≡ self.old.state }
-        ensures lines { GivesLines result (all_reported self.new.columns.items) (all_reported self.old.columns.items) }
+        ensures lines { GivesLines result (all_reported self.new.columns.items)
+            (all_reported self.old.columns.items) }
         ensures ended { IfOk result (λ full. IfSome full EndsAll) }
     {
         let place = self.placing.place(self.alloc, column)?;
@@ -281,7 +297,9 @@ impl Page {
         ensures page { OnOk result (Puts (seen column) (seen_page self.old) (seen_page self.new)) }
         ensures pending { OnOk result (self.new.pending ≡ self.old.pending) }
         ensures state { self.new.state ≡ self.old.state }
-        ensures lines { OnOk result (all_reported self.new.columns.items ≡ all_reported self.old.columns.items ++ reported_in column) }
+        ensures lines { OnOk result
+            (all_reported self.new.columns.items
+            ≡ all_reported self.old.columns.items ++ reported_in column) }
     {
         let mut column = column;
         let place = self.placing.place(self.alloc, &column)?;
@@ -336,7 +354,8 @@ impl Page {
     fn markup_of(&self, band: &Band) -> Result<Markup, AllocError>
         ensures draws { FramesBand result self.now.form self.now band.now }
         ensures lines { IfOk result
-            (λ markup. lines_in markup ≡ all_reported band.now.columns.items ++ titles_if band.now.verdict) }
+            (λ markup. lines_in markup
+            ≡ all_reported band.now.columns.items ++ titles_if band.now.verdict) }
         ensures ended { IfOk result EndsAll }
     {
         match self.form {
@@ -349,7 +368,8 @@ impl Page {
     fn picture_of(&self, band: &Band) -> Result<Markup, AllocError>
         ensures draws { FramesBand result form_variants.Page self.now band.now }
         ensures lines { IfOk result
-            (λ markup. lines_in markup ≡ all_reported band.now.columns.items ++ titles_if band.now.verdict) }
+            (λ markup. lines_in markup
+            ≡ all_reported band.now.columns.items ++ titles_if band.now.verdict) }
         ensures ended { IfOk result EndsAll }
     {
         let mut markup = Markup::new(self.alloc);
@@ -364,7 +384,8 @@ impl Page {
     fn group_of(&self, band: &Band, top: u64) -> Result<Markup, AllocError>
         ensures draws { FramesBand result (form_variants.Picture top) self.now band.now }
         ensures lines { IfOk result
-            (λ markup. lines_in markup ≡ all_reported band.now.columns.items ++ titles_if band.now.verdict) }
+            (λ markup. lines_in markup
+            ≡ all_reported band.now.columns.items ++ titles_if band.now.verdict) }
         ensures ended { IfOk result EndsAll }
     {
         let mut markup = Markup::new(self.alloc);

@@ -69,7 +69,8 @@ impl Band {
         x: u32,
         markup: &mut Markup,
     ) -> Result<(), AllocError>
-        ensures draws { Draws result markup.old markup.new (open_shapes (seen_band self.now) read.now x) }
+        ensures draws { Draws result markup.old markup.new
+            (open_shapes (seen_band self.now) read.now x) }
         ensures read { OnOk result (reading markup.new ≡ reading markup.old) }
     {
         let reader = self.layout.lane(read.reader).bar();

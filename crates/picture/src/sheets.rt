@@ -27,7 +27,8 @@ pub fn page_head(
     printed: &[u8],
     reads: Reads,
 ) -> Result<Markup, AllocError>
-    ensures draws { IfOk result (λ markup. markup ≡ page_front subject setup.now printed.now reads) }
+    ensures draws { IfOk result
+        (λ markup. markup ≡ page_front subject setup.now printed.now reads) }
     ensures lines { IfOk result (λ markup. lines_in markup ≡ []) }
     ensures elements { IfOk result (λ markup. opens_in markup (Some []) ≡ Some page_names) }
 {
@@ -55,7 +56,8 @@ pub(crate) fn add_page_front(
     markup: &mut Markup,
 ) -> Result<(), AllocError>
     requires fresh { markup.old ≡ [] }
-    ensures draws { OnOk result (markup.new ≡ page_front_by subject processes heading.now printed.now reads) }
+    ensures draws { OnOk result
+        (markup.new ≡ page_front_by subject processes heading.now printed.now reads) }
     ensures lines { OnOk result (lines_in markup.new ≡ []) }
     ensures elements { OnOk result (opens_in markup.new (Some []) ≡ Some page_names) }
 {
@@ -87,7 +89,8 @@ fn begin_body(
     reads: Reads,
     markup: &mut Markup,
 ) -> Result<(), AllocError>
-    ensures draws { OnOk result (markup.new ≡ markup.old ++ body_front subject heading.now printed.now reads) }
+    ensures draws { OnOk result
+        (markup.new ≡ markup.old ++ body_front subject heading.now printed.now reads) }
     ensures lines { OnOk result (lines_in markup.new ≡ lines_in markup.old) }
     ensures elements { OnOk result (opens_in markup.old (Some []) ≡ Some page_names
         → opens_in markup.new (Some []) ≡ Some page_names) }

@@ -95,7 +95,8 @@ impl Subject {
     /// Ends the legend of a page, and begins the list of lines.
     pub(crate) fn begin_list(self, markup: &mut Markup) -> Result<(), AllocError>
         ensures draws { OnOk result (markup.new ≡ markup.old ++ list_begun self) }
-        ensures read { OnOk result (reading markup.new ≡ with_tags (opens_in (list_begun self)) (reading markup.old)) }
+        ensures read { OnOk result
+            (reading markup.new ≡ with_tags (opens_in (list_begun self)) (reading markup.old)) }
     {
         match self {
             Subject::Run => {
@@ -113,7 +114,8 @@ impl Subject {
     /// Adds the script of a page.
     pub(crate) fn add_script(self, markup: &mut Markup) -> Result<(), AllocError>
         ensures draws { OnOk result (markup.new ≡ markup.old ++ script_of self) }
-        ensures read { OnOk result (reading markup.new ≡ with_tags (opens_in (script_of self)) (reading markup.old)) }
+        ensures read { OnOk result
+            (reading markup.new ≡ with_tags (opens_in (script_of self)) (reading markup.old)) }
     {
         match self {
             Subject::Run | Subject::Record => markup.frame(SCRIPT),

@@ -53,7 +53,8 @@ impl Band {
         markup: &mut Markup,
     ) -> Result<(), AllocError>
         ensures draws { Draws result markup.old markup.new
-            (verdict_shapes (seen_verdict verdict.now) (seen_band self.now) (seen_accesses accesses.now)) }
+            (verdict_shapes (seen_verdict verdict.now) (seen_band self.now)
+            (seen_accesses accesses.now)) }
         ensures read { ReportsLines result markup.old markup.new
             (verdict_titles (seen_verdict verdict.now)) }
     {
@@ -181,7 +182,8 @@ fn draw_line(
 
 /// Begins the mark of a line by its place, the line that it comes from, and its title.
 fn begin_line(edge: u16, source: u64, title: &[u8], markup: &mut Markup) -> Result<(), AllocError>
-    ensures draws { Draws result markup.old markup.new (Mark (line_said edge source) title.now ∷ []) }
+    ensures draws { Draws result markup.old markup.new
+        (Mark (line_said edge source) title.now ∷ []) }
     ensures read { OnOk result (reading markup.new ≡ with_mark title.now (reading markup.old)) }
 {
     let place = number(Key::Place, u64::from(edge));

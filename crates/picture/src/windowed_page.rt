@@ -137,7 +137,8 @@ impl WindowedPage {
     /// Returns [`AllocError`] if memory is lacking.
     pub fn take_access(&mut self, access: ShownAccess) -> Result<Option<Markup>, AllocError>
         ensures page { IfOk result
-            (λ full. GoesOn (Accesses access) (seen_windowed self.old) full (seen_windowed self.new)) }
+            (λ full. GoesOn (Accesses access) (seen_windowed self.old) full
+            (seen_windowed self.new)) }
         ensures lines { GivesLines result (held self.new) (held self.old) }
         ensures ended { IfOk result (λ full. IfSome full EndsAll) }
         ensures window { self.new.window ≡ self.old.window }

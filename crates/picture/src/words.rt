@@ -33,7 +33,8 @@ impl Band {
         process: u8,
         markup: &mut Markup,
     ) -> Result<(), AllocError>
-        ensures draws { Draws result markup.old markup.new (words_of_lane (seen_band self.now) process) }
+        ensures draws { Draws result markup.old markup.new
+            (words_of_lane (seen_band self.now) process) }
         ensures read { OnOk result (reading markup.new ≡ reading markup.old) }
     {
         let middle = self.layout.lane(process).bar() + 3;
@@ -102,7 +103,8 @@ impl Stretch {
         middle: u32,
         markup: &mut Markup,
     ) -> Result<bool, AllocError>
-        ensures draws { IfOk result (λ said. markup.new ≡ markup.old ++ drawings (stretch_word middle free to self.now)) }
+        ensures draws { IfOk result
+            (λ said. markup.new ≡ markup.old ++ drawings (stretch_word middle free to self.now)) }
         ensures says { IfOk result (λ said. said ≡ says_word free to self.now) }
         ensures read { OnOk result (reading markup.new ≡ reading markup.old) }
     {
@@ -138,7 +140,8 @@ fn words_of(alloc: Global, word: &BarWord) -> Result<Option<String>, AllocError>
 }
 
 fn behind(alloc: Global, group: &ProcessGroup) -> Result<String, AllocError>
-    ensures { IfOk result (λ text. string_bytes text ≡ codes "behind " ++ group_text (codes " others") group.now) }
+    ensures { IfOk result
+        (λ text. string_bytes text ≡ codes "behind " ++ group_text (codes " others") group.now) }
 {
     let mut text = String::from_str(alloc, "behind ")?;
     let group = group_words(alloc, group, " others")?;
@@ -147,7 +150,8 @@ fn behind(alloc: Global, group: &ProcessGroup) -> Result<String, AllocError>
 }
 
 fn awaits(alloc: Global, group: &ProcessGroup) -> Result<String, AllocError>
-    ensures { IfOk result (λ text. string_bytes text ≡ group_text [] group.now ++ codes " choosing") }
+    ensures { IfOk result
+        (λ text. string_bytes text ≡ group_text [] group.now ++ codes " choosing") }
 {
     let mut text = group_words(alloc, group, "")?;
     text.push_str(" choosing")?;
@@ -206,7 +210,9 @@ fn push_number(
     between: &str,
     number: u8,
 ) -> Result<(), AllocError>
-    ensures { OnOk result (string_bytes text.new ≡ string_bytes text.old ++ cond is_first [] between.now ++ decimal number) }
+    ensures { OnOk result
+        (string_bytes text.new
+        ≡ string_bytes text.old ++ cond is_first [] between.now ++ decimal number) }
 {
     if !is_first {
         text.push_str(between)?;

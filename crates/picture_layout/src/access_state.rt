@@ -54,7 +54,8 @@ impl AccessState {
     /// Returns [`AllocError`] if memory is lacking.
     pub fn pass(&mut self, alloc: Global, columns: &[Column]) -> Result<(), AllocError>
         ensures { OnOk result
-            (seen_accesses self.new ≡ accesses_after (seen_accesses self.old) (map seen columns.now)) }
+            (seen_accesses self.new
+            ≡ accesses_after (seen_accesses self.old) (map seen columns.now)) }
     {
         self.open_accesses = open_after_columns(self.open_accesses, columns);
         pass_waves(alloc, columns, &mut self.waves)

@@ -146,7 +146,8 @@ impl Column {
         frees: Option<u8>,
         after: State,
     ) -> Result<(), AllocError>
-        ensures reported { OnOk result (reported_in self.new ≡ reported_in self.old ++ text_of line ∷ []) }
+        ensures reported { OnOk result
+            (reported_in self.new ≡ reported_in self.old ++ text_of line ∷ []) }
         ensures whole { OnOk result (seen self.new ≡ joined (seen self.old) line frees after) }
     {
         self.lines.push(line)?;

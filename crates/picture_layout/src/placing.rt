@@ -206,7 +206,8 @@ fn place_between(event: u64, left: (u16, u64), right: (u16, u64)) -> u16
 ///
 /// Returns [`AllocError`] if an allocation fails.
 pub fn stretch(alloc: Global, columns: &mut [Column]) -> Result<(), AllocError>
-    ensures reported { OnOk result (flat_map reported_in columns.new ≡ flat_map reported_in columns.old) }
+    ensures reported { OnOk result
+        (flat_map reported_in columns.new ≡ flat_map reported_in columns.old) }
     ensures apart { OnOk result (map seen columns.new ≡ stretched_all (map seen columns.old)) }
 {
     let last = last_place(columns);

@@ -103,7 +103,8 @@ impl OverlappedRead {
 
 /// Appends a number after a sign.
 fn push_number(alloc: Global, sign: &str, number: u64, text: &mut String) -> Result<(), AllocError>
-    ensures { OnOk result (string_bytes text.new ≡ string_bytes text.old ++ (sign.now ++ decimal number)) }
+    ensures { OnOk result
+        (string_bytes text.new ≡ string_bytes text.old ++ (sign.now ++ decimal number)) }
 {
     text.push_str(sign)?;
     let digits = number.to_string(alloc)?;

@@ -137,7 +137,8 @@ impl State {
     ///
     /// Returns [`AllocError`] if an allocation fails.
     pub fn take(&mut self, alloc: Global, line: &RunLine) -> Result<Option<u8>, AllocError>
-        ensures stages { OnOk result (self.new.stages ≡ stages_next self.old line.now.line_content) }
+        ensures stages { OnOk result
+            (self.new.stages ≡ stages_next self.old line.now.line_content) }
         ensures processes { self.new.processes ≡ self.old.processes }
         ensures whole { OnOk result (self.new ≡ state_reported self.old line.now.line_content) }
         ensures frees { IfOk result (λ freed. freed ≡ freed_by self.old line.now.line_content) }
@@ -160,8 +161,10 @@ impl State {
         mark: &Mark,
     ) -> Result<Option<u8>, AllocError>
         ensures processes { self.new.processes ≡ self.old.processes }
-        ensures whole { OnOk result (self.new ≡ state_reported self.old (Marked process mark.now None)) }
-        ensures frees { IfOk result (λ freed. freed ≡ freed_by self.old (Marked process mark.now None)) }
+        ensures whole { OnOk result
+            (self.new ≡ state_reported self.old (Marked process mark.now None)) }
+        ensures frees { IfOk result
+            (λ freed. freed ≡ freed_by self.old (Marked process mark.now None)) }
     {
         if process >= self.processes {
             return Ok(None);

@@ -33,7 +33,8 @@ fn push_pair(
     name: &Name,
     value: &Value,
 ) -> Result<(), AllocError>
-    ensures { OnOk result (string_bytes words.new ≡ string_bytes words.old ++ next_pair (name.now, value.now)) }
+    ensures { OnOk result
+        (string_bytes words.new ≡ string_bytes words.old ++ next_pair (name.now, value.now)) }
 {
     let pair = pair_words(alloc, name, value)?;
     words.push_str(" ")?;

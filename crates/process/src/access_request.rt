@@ -42,7 +42,8 @@ pub(crate) fn image_field(commit: bool) -> Field
 pub(crate) fn newest_image(call: &ProcessCall, seen: &ValuesRead) -> (u8, Field)
     requires call { IsCall (call_of call.now) }
     requires room { HasRoom seen.now }
-    ensures register { read_at (call_of call.now) (AsksImage (versions_seen call.now.setup.processes seen.now)) ≡ result }
+    ensures register { read_at (call_of call.now)
+        (AsksImage (versions_seen call.now.setup.processes seen.now)) ≡ result }
     ensures in_range { result.0 < call.now.setup.processes }
 {
     let stamps = &seen.numbers[..usize::from(call.setup.processes)];
@@ -54,7 +55,8 @@ pub(crate) fn newest_image(call: &ProcessCall, seen: &ValuesRead) -> (u8, Field)
 pub(crate) fn other_commit(call: &ProcessCall, seen: &ValuesRead) -> bool
     requires call { IsCall (call_of call.now) }
     requires room { HasRoom seen.now }
-    ensures { result ≡ not (version_of (versions_seen call.now.setup.processes seen.now) call.now.process) }
+    ensures { result
+        ≡ not (version_of (versions_seen call.now.setup.processes seen.now) call.now.process) }
 {
     !seen.commits[usize::from(call.process)]
 }

@@ -21,7 +21,8 @@ fn choose(call: &ProcessCall, tickets: &[u32]) -> ProgramPoint
     requires call { IsCall (call_of call.now) }
     requires all { length tickets.now + 1 ≡ call.now.setup.processes }
     requires fits { greatest tickets.now ≤ max_of call.now.setup.ticket_bits }
-    ensures part { (seen : ValuesRead) → part_at (call_of call.now) seen result ≡ to_c (call_of call.now) tickets.now }
+    ensures part { (seen : ValuesRead) →
+        part_at (call_of call.now) seen result ≡ to_c (call_of call.now) tickets.now }
     ensures holds { (seen : ValuesRead) → Holds (call_of call.now) seen result }
 {
     let most = greatest(tickets);
@@ -38,7 +39,9 @@ fn ask_from(call: &ProcessCall, seen: &ValuesRead, first: u8) -> ProgramPoint
     requires room { HasRoom seen.now }
     requires first { first ≤ call.now.setup.processes }
     requires fits { Fit (others_below call.now.process first) call.now.setup.ticket_bits seen.now }
-    ensures part { part_at (call_of call.now) seen.now result ≡ to_b (call_of call.now) (others_of (call_of call.now) first) (tickets_seen call.now.process first seen.now) }
+    ensures part { part_at (call_of call.now) seen.now result
+        ≡ to_b (call_of call.now) (others_of (call_of call.now) first)
+        (tickets_seen call.now.process first seen.now) }
     ensures holds { Holds (call_of call.now) seen.now result }
 {
     match first_other(call, first) {
@@ -51,7 +54,9 @@ fn ask_from(call: &ProcessCall, seen: &ValuesRead, first: u8) -> ProgramPoint
 fn after_ticket(call: &ProcessCall, seen: &mut ValuesRead, owner: u8, number: u32) -> ProgramPoint
     requires keeps { KeepsPart (call_of call.now) seen.old (ProgramPoint.Asks owner) }
     requires fits { number ≤ max_of call.now.setup.ticket_bits }
-    ensures part { part_at (call_of call.now) seen.new result ≡ to_b (call_of call.now) (others_of (call_of call.now) (owner + 1)) (tickets_seen call.now.process owner seen.old ++ number ∷ []) }
+    ensures part { part_at (call_of call.now) seen.new result
+        ≡ to_b (call_of call.now) (others_of (call_of call.now) (owner + 1))
+        (tickets_seen call.now.process owner seen.old ++ number ∷ []) }
     ensures keeps { KeepsPart (call_of call.now) seen.new result }
 {
     seen.numbers[others_below(call, owner)] = number;
@@ -61,8 +66,11 @@ fn after_ticket(call: &ProcessCall, seen: &mut ValuesRead, owner: u8, number: u3
 /// Returns the part that reads the version of this process if it exists, and otherwise the image.
 pub(crate) fn version_from(call: &ProcessCall, first: u8) -> ProgramPoint
     requires first { first ≤ call.now.setup.processes }
-    ensures part { (seen : ValuesRead) → part_at (call_of call.now) seen result ≡ to_e (all_from (call_of call.now) first) (versions_seen first seen) }
-    ensures holds { (seen : ValuesRead) → Fit first call.now.setup.stamp_bits seen → Holds (call_of call.now) seen result }
+    ensures part { (seen : ValuesRead) →
+        part_at (call_of call.now) seen result
+        ≡ to_e (all_from (call_of call.now) first) (versions_seen first seen) }
+    ensures holds { (seen : ValuesRead) → Fit first call.now.setup.stamp_bits seen →
+        Holds (call_of call.now) seen result }
 {
     if first == call.setup.processes {
         ProgramPoint::AsksImage
@@ -75,7 +83,9 @@ pub(crate) fn version_from(call: &ProcessCall, first: u8) -> ProgramPoint
 fn await_from(call: &ProcessCall, ticket: u32, first: u8) -> ProgramPoint
     requires call { IsCall (call_of call.now) }
     requires first { first ≤ call.now.setup.processes }
-    ensures part { (seen : ValuesRead) → part_at (call_of call.now) seen result ≡ to_d (call_of call.now) ticket (waits_from (call_of call.now) first) }
+    ensures part { (seen : ValuesRead) →
+        part_at (call_of call.now) seen result
+        ≡ to_d (call_of call.now) ticket (waits_from (call_of call.now) first) }
     ensures holds { (seen : ValuesRead) → Holds (call_of call.now) seen result }
 {
     match first_other(call, first) {
@@ -94,7 +104,9 @@ fn after_stamp(
 ) -> ProgramPoint
     requires keeps { KeepsPart (call_of call.now) seen.old (ProgramPoint.AsksStamp of commit) }
     requires fits { number ≤ max_of call.now.setup.stamp_bits }
-    ensures part { part_at (call_of call.now) seen.new result ≡ to_e (all_from (call_of call.now) (of + 1)) (versions_seen of seen.old ++ (commit, number) ∷ []) }
+    ensures part { part_at (call_of call.now) seen.new result
+        ≡ to_e (all_from (call_of call.now) (of + 1))
+        (versions_seen of seen.old ++ (commit, number) ∷ []) }
     ensures keeps { KeepsPart (call_of call.now) seen.new result }
 {
     let place = usize::from(of);
@@ -111,7 +123,8 @@ pub(crate) fn after_image(call: &ProcessCall, seen: &ValuesRead) -> ProgramPoint
     requires fits { Fit call.now.setup.processes call.now.setup.stamp_bits seen.now }
     requires slots { seen.now.store.slots ≡ call.now.setup.slots }
     requires numbers { length seen.now.store.numbers ≡ callers_of call.now.setup }
-    ensures part { part_at (call_of call.now) seen.now result ≡ to_g (call_of call.now) (versions_seen call.now.setup.processes seen.now) seen.now.store }
+    ensures part { part_at (call_of call.now) seen.now result
+        ≡ to_g (call_of call.now) (versions_seen call.now.setup.processes seen.now) seen.now.store }
     ensures holds { Holds (call_of call.now) seen.now result }
 {
     if !is_change(call, &seen.store) {
@@ -136,7 +149,10 @@ fn lets_by(call: &ProcessCall, ticket: u32, owner: u8, number: u32) -> bool
 fn after_wait(call: &ProcessCall, ticket: u32, owner: u8, number: u32) -> ProgramPoint
     requires call { IsCall (call_of call.now) }
     requires owner { owner < call.now.setup.processes }
-    ensures part { (seen : ValuesRead) (bits : List Bool) → number_of_bits bits ≡ number → part_at (call_of call.now) seen result ≡ part_after (call_of call.now) (part_at (call_of call.now) seen (ProgramPoint.AwaitsTicket ticket owner)) bits }
+    ensures part { (seen : ValuesRead) (bits : List Bool) → number_of_bits bits ≡ number →
+        part_at (call_of call.now) seen result
+        ≡ part_after (call_of call.now)
+        (part_at (call_of call.now) seen (ProgramPoint.AwaitsTicket ticket owner)) bits }
     ensures holds { (seen : ValuesRead) → Holds (call_of call.now) seen result }
 {
     if lets_by(call, ticket, owner, number) {
@@ -155,8 +171,12 @@ pub(crate) fn part_after(
 ) -> ProgramPoint
     requires keeps { KeepsPart (call_of call.now) seen.old part.now }
     requires small { reads_image (part_at (call_of call.now) seen.old part.now) ≡ false }
-    requires number { (bits : List Bool) × IsOutcome (call_of call.now) (part_at (call_of call.now) seen.old part.now) bits number }
-    ensures part { (bits : List Bool) → IsOutcome (call_of call.now) (part_at (call_of call.now) seen.old part.now) bits number → part_at (call_of call.now) seen.new result ≡ part_after (call_of call.now) (part_at (call_of call.now) seen.old part.now) bits }
+    requires number { (bits : List Bool)
+        × IsOutcome (call_of call.now) (part_at (call_of call.now) seen.old part.now) bits number }
+    ensures part { (bits : List Bool) →
+        IsOutcome (call_of call.now) (part_at (call_of call.now) seen.old part.now) bits number →
+        part_at (call_of call.now) seen.new result
+        ≡ part_after (call_of call.now) (part_at (call_of call.now) seen.old part.now) bits }
     ensures keeps { KeepsPart (call_of call.now) seen.new result }
 {
     match *part {

@@ -53,7 +53,9 @@ impl CallPart {
     pub fn new(setup: &Setup, process: u8, command: Command, number: u16) -> CallPart
         requires good { checked setup.now ≡ Ok tt }
         requires process { process < setup.now.processes }
-        ensures { result ≡ record { call = record { setup = setup.now; process = process; command = command; number = number }; part = Raises } }
+        ensures { result
+            ≡ record { call = record { setup = setup.now; process = process; command = command;
+                number = number }; part = Raises } }
     {
         CallPart {
             call: ProcessCall {
@@ -73,7 +75,9 @@ impl CallPart {
 
     /// Begins another call of this process.
     pub fn start(&mut self, command: Command, number: u16)
-        ensures { self.new ≡ record { call = record self.old.call { command = command; number = number }; part = Raises } }
+        ensures { self.new
+            ≡ record { call = record self.old.call { command = command; number = number };
+            part = Raises } }
     {
         self.call.command = command;
         self.call.number = number;
@@ -82,7 +86,9 @@ impl CallPart {
 
     /// Begins another call of this process at the position where it enters the critical section.
     pub fn start_inside(&mut self, command: Command, number: u16)
-        ensures { self.new ≡ record { call = record self.old.call { command = command; number = number }; part = to_e (processes self.old.call.setup) [] } }
+        ensures { self.new
+            ≡ record { call = record self.old.call { command = command; number = number };
+            part = to_e (processes self.old.call.setup) [] } }
     {
         self.call.command = command;
         self.call.number = number;
@@ -143,7 +149,8 @@ impl CallPart {
     /// Returns whether this part reads the image; any other register that it reads has at most 32 bits.
     pub fn reads_image(&self) -> bool
         ensures image { result ≡ reads_image self.now.part }
-        ensures narrow { result ≡ false → is_read self.now.part ≡ true → width self.now.call.setup (read_at self.now.call self.now.part).1 ≤ 32 }
+        ensures narrow { result ≡ false → is_read self.now.part ≡ true →
+            width self.now.call.setup (read_at self.now.call self.now.part).1 ≤ 32 }
     {
         matches!(self.part, ProgramPoint::AsksImage)
     }
@@ -252,7 +259,8 @@ impl CallPart {
 
     /// Returns the greatest stamp that was read, while a change is being written.
     pub fn changes_pending(&self) -> Option<u32>
-        ensures { result ≡ option_map (λ (change : Change). change.1) (pending_at self.now.call self.now.part) }
+        ensures { result
+            ≡ option_map (λ (change : Change). change.1) (pending_at self.now.call self.now.part) }
     {
         match self.part {
             ProgramPoint::WritesImage | ProgramPoint::WritesStamp | ProgramPoint::WritesCommit => {
@@ -277,8 +285,12 @@ impl CallPart {
 
     /// Returns the new value of the commit bit, at which the command is taken, and the reply, while this bit is written.
     pub fn takes(&self) -> Option<(bool, Reply)>
-        ensures reply { reply_taken result ≡ taken_with (written_at self.now.call self.now.part).0 (pending_at self.now.call self.now.part) }
-        ensures commit { IfSome result (λ (taken : Bool × Reply). written_at self.now.call self.now.part ≡ (Field.Commit, taken.0 ∷ [])) }
+        ensures reply { reply_taken result
+            ≡ taken_with (written_at self.now.call self.now.part).0
+            (pending_at self.now.call self.now.part) }
+        ensures commit { IfSome result
+            (λ (taken : Bool × Reply). written_at self.now.call self.now.part
+            ≡ (Field.Commit, taken.0 ∷ [])) }
     {
         match self.part {
             ProgramPoint::WritesCommit => Some((
@@ -292,7 +304,8 @@ impl CallPart {
     /// Returns the store whose image it writes.
     pub fn image(&self) -> Image
         requires { writes_image self.now.part ≡ true }
-        ensures { bits_in (image_of result) (width self.now.call.setup Field.Image0) ≡ (written_at self.now.call self.now.part).1 }
+        ensures { bits_in (image_of result) (width self.now.call.setup Field.Image0)
+            ≡ (written_at self.now.call self.now.part).1 }
     {
         applied(&self.call, &self.seen.store).0
     }
@@ -310,9 +323,12 @@ impl CallPart {
         requires going { is_over self.old.part ≡ false }
         requires small { reads_image self.old.part ≡ false }
         requires number { (bits : List Bool) × IsOutcome self.old.call self.old.part bits number }
-        ensures part { (bits : List Bool) → IsOutcome self.old.call self.old.part bits number → self.new ≡ record self.old { part = part_after self.old.call self.old.part bits } }
-        ensures marks { (bits : List Bool) → IsOutcome self.old.call self.old.part bits number → marks_reported result ≡ last_marks self.old.call self.old.part bits }
-        ensures changes { IfSome (changes_reported result) (λ changes. changes ≡ changes_at self.old.part) }
+        ensures part { (bits : List Bool) → IsOutcome self.old.call self.old.part bits number →
+            self.new ≡ record self.old { part = part_after self.old.call self.old.part bits } }
+        ensures marks { (bits : List Bool) → IsOutcome self.old.call self.old.part bits number →
+            marks_reported result ≡ last_marks self.old.call self.old.part bits }
+        ensures changes { IfSome (changes_reported result)
+            (λ changes. changes ≡ changes_at self.old.part) }
     {
         let part = self.part;
         let changes = self.changes_read();
@@ -325,9 +341,12 @@ impl CallPart {
         requires image { reads_image self.old.part ≡ true }
         requires slots { store.now.slots ≡ self.old.call.setup.slots }
         requires numbers { length store.now.numbers ≡ callers_of self.old.call.setup }
-        ensures part { (bits : List Bool) → store_read self.old.call bits ≡ store.now → self.new ≡ record self.old { part = part_after self.old.call self.old.part bits } }
-        ensures marks { (bits : List Bool) → store_read self.old.call bits ≡ store.now → marks_reported result ≡ last_marks self.old.call self.old.part bits }
-        ensures changes { IfSome (changes_reported result) (λ changes. changes ≡ changes_at self.old.part) }
+        ensures part { (bits : List Bool) → store_read self.old.call bits ≡ store.now →
+            self.new ≡ record self.old { part = part_after self.old.call self.old.part bits } }
+        ensures marks { (bits : List Bool) → store_read self.old.call bits ≡ store.now →
+            marks_reported result ≡ last_marks self.old.call self.old.part bits }
+        ensures changes { IfSome (changes_reported result)
+            (λ changes. changes ≡ changes_at self.old.part) }
     {
         let part = self.part;
         let changes = self.changes_read();

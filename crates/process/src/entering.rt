@@ -52,7 +52,9 @@ pub(crate) fn enter(called: &CallPart, cursor: &mut Cursor)
 pub(crate) fn clear(called: &CallPart, cursor: &mut Cursor, field: Field)
     requires call { IsCall called.now.call }
     requires narrow { width called.now.call.setup field ≤ 32 }
-    ensures { cursor.new ≡ writing called.now.call.setup (record { owner = called.now.call.process; field = field }) (bits_of_number (width called.now.call.setup field) 0) }
+    ensures { cursor.new
+        ≡ writing called.now.call.setup (record { owner = called.now.call.process; field = field })
+        (bits_of_number (width called.now.call.setup field) 0) }
 {
     let setup = called.setup();
     let owner = called.process();
@@ -62,7 +64,8 @@ pub(crate) fn clear(called: &CallPart, cursor: &mut Cursor, field: Field)
 /// Returns the number that was read; 0 after a write.
 fn number_read(cursor: &Cursor) -> u32
     requires { cursor.now.run ≡ RegisterAccessKind.Reads → cursor.now.width ≤ 32 }
-    ensures reads { cursor.now.run ≡ RegisterAccessKind.Reads → result ≡ number_of_bits cursor.now.bits }
+    ensures reads { cursor.now.run ≡ RegisterAccessKind.Reads →
+        result ≡ number_of_bits cursor.now.bits }
     ensures writes { cursor.now.run ≡ RegisterAccessKind.Writes → result ≡ 0 }
 {
     match cursor.run() {
@@ -76,9 +79,12 @@ pub(crate) fn part_over(called: &mut CallPart, cursor: &Cursor) -> StepOutcome
     requires call { IsCall called.old.call }
     requires going { is_over called.old.part ≡ false }
     requires done { IsDone called.old.call called.old.part cursor.now }
-    ensures part { called.new ≡ record called.old { part = part_after called.old.call called.old.part cursor.now.bits } }
-    ensures marks { marks_reported result ≡ last_marks called.old.call called.old.part cursor.now.bits }
-    ensures changes { IfSome (changes_reported result) (λ changes. changes ≡ changes_at called.old.part) }
+    ensures part { called.new
+        ≡ record called.old { part = part_after called.old.call called.old.part cursor.now.bits } }
+    ensures marks { marks_reported result
+        ≡ last_marks called.old.call called.old.part cursor.now.bits }
+    ensures changes { IfSome (changes_reported result)
+        (λ changes. changes ≡ changes_at called.old.part) }
 {
     if called.reads_image() {
         let store = image_read(&called.setup(), &cursor.bytes());

@@ -13,7 +13,11 @@ use store_image::Image;
 /// they are not an image, it returns the empty store.
 pub(crate) fn image_read(setup: &Setup, bytes: &[u8; 216]) -> Image
     requires good { checked setup.now ≡ Ok tt }
-    ensures store { (bits : List Bool) → length bits ≡ 8 * image_bytes setup.now → ((k : ℕ) → k < length bits → bit_in bytes.now k ≡ slice_index_or bits k false) → result ≡ store_in setup.now.slots (callers_of setup.now) (bytes_of_bits (image_bytes setup.now) bits) }
+    ensures store { (bits : List Bool) → length bits ≡ 8 * image_bytes setup.now →
+        ((k : ℕ) → k < length bits → bit_in bytes.now k ≡ slice_index_or bits k false) →
+        result
+        ≡ store_in setup.now.slots (callers_of setup.now)
+        (bytes_of_bits (image_bytes setup.now) bits) }
     ensures slots { result.slots ≡ setup.now.slots }
     ensures numbers { length result.numbers ≡ callers_of setup.now }
 {

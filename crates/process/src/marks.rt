@@ -12,7 +12,8 @@ use plain_store::Answer;
 
 /// Returns the outcome of the last access of a part, before this next part. `changes` changes precede a command taken.
 pub(crate) fn outcome_before(part: &ProgramPoint, next: &ProgramPoint, changes: u32) -> StepOutcome
-    ensures marks { (c : Call) (seen then : ValuesRead) → marks_reported result ≡ marks_to (part_at c seen part.now) (part_at c then next.now) }
+    ensures marks { (c : Call) (seen then : ValuesRead) →
+        marks_reported result ≡ marks_to (part_at c seen part.now) (part_at c then next.now) }
     ensures changes { IfSome (changes_reported result) (λ reported. reported ≡ changes) }
 {
     match part {
@@ -32,7 +33,8 @@ pub(crate) fn outcome_before(part: &ProgramPoint, next: &ProgramPoint, changes: 
 
 /// Returns the outcome with which the doorway ends.
 fn outcome_of_lowering(ticket: u32, next: &ProgramPoint) -> StepOutcome
-    ensures marks { (c : Call) (then : ValuesRead) → marks_reported result ≡ marks_lowered ticket (part_at c then next.now) }
+    ensures marks { (c : Call) (then : ValuesRead) →
+        marks_reported result ≡ marks_lowered ticket (part_at c then next.now) }
     ensures changes { changes_reported result ≡ None }
 {
     match next {
@@ -45,7 +47,8 @@ fn outcome_of_lowering(ticket: u32, next: &ProgramPoint) -> StepOutcome
 
 /// Returns the outcome of an access that may take a command, after `changes` changes.
 fn outcome_of_taking(next: &ProgramPoint, changes: u32) -> StepOutcome
-    ensures marks { (c : Call) (then : ValuesRead) → marks_reported result ≡ marks_taken (part_at c then next.now) }
+    ensures marks { (c : Call) (then : ValuesRead) →
+        marks_reported result ≡ marks_taken (part_at c then next.now) }
     ensures changes { IfSome (changes_reported result) (λ reported. reported ≡ changes) }
 {
     match next {

@@ -130,7 +130,8 @@ impl Process {
     /// or fails, the owner of the memory drops its read of that register.
     pub fn reads(&self) -> Option<(u8, Field)>
         ensures register { result ≡ reads_of self.now.setup self.now.process self.now.doing }
-        ensures in_range { IfSome result (λ (register : ℕ × Field). register.0 < self.now.setup.processes) }
+        ensures in_range { IfSome result
+            (λ (register : ℕ × Field). register.0 < self.now.setup.processes) }
     {
         match self.work {
             Activity::Runs => register_read(&self.called),
@@ -178,8 +179,10 @@ impl Process {
 
 /// Returns the register that a part reads, with its owner.
 fn register_read(called: &CallPart) -> Option<(u8, Field)>
-    ensures register { result ≡ cond (is_read called.now.part) (Some (read_at called.now.call called.now.part)) None }
-    ensures in_range { IfSome result (λ (register : ℕ × Field). register.0 < called.now.call.setup.processes) }
+    ensures register { result
+        ≡ cond (is_read called.now.part) (Some (read_at called.now.call called.now.part)) None }
+    ensures in_range { IfSome result
+        (λ (register : ℕ × Field). register.0 < called.now.call.setup.processes) }
 {
     match called.asks() {
         AccessRequest::Reads { owner, field } => Some((owner, field)),

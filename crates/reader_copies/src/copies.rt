@@ -175,8 +175,11 @@ impl Copies {
         requires word { k % 64 + n ≤ 64 }
         requires in_range { k + n ≤ length self.old }
         ensures none { IfNone result (self.new ≡ self.old) }
-        ensures quiet { OnSome result ((j : ℕ) → j < n → (cell_in self.old (k + j)).writing ≡ false) }
-        ensures word { IfSome result (λ word. (j : ℕ) → j < n → flag_in word ((k + j) % 64) ≡ (cell_in self.old (k + j)).value) }
+        ensures quiet { OnSome result
+            ((j : ℕ) → j < n → (cell_in self.old (k + j)).writing ≡ false) }
+        ensures word { IfSome result
+            (λ word. (j : ℕ) → j < n →
+            flag_in word ((k + j) % 64) ≡ (cell_in self.old (k + j)).value) }
         ensures read { OnSome result (self.new ≡ over n (λ i c. after_read c) k self.old) }
     {
         let flags = &mut self.flags[k / 64];
@@ -206,7 +209,8 @@ impl Copies {
     /// Returns the word that contains bit `k`.
     pub fn word(&self, k: usize) -> u64
         requires { k < length self.now }
-        ensures { (i : ℕ) → i / 64 ≡ k / 64 → i < length self.now → flag_in result (i % 64) ≡ (cell_in self.now i).value }
+        ensures { (i : ℕ) → i / 64 ≡ k / 64 → i < length self.now →
+            flag_in result (i % 64) ≡ (cell_in self.now i).value }
     {
         self.flags[k / 64].value
     }

@@ -31,7 +31,8 @@ pub fn mask(from: usize, n: usize) -> u64
 /// Returns the bits of `ones` where `among` has a 1, and those of `zeros` where it has a 0.
 #[inline(always)]
 pub fn choose(among: u64, ones: u64, zeros: u64) -> u64
-    ensures { (i : ℕ) → flag_in result i ≡ (if flag_in among i then flag_in ones i else flag_in zeros i) }
+    ensures { (i : ℕ) →
+        flag_in result i ≡ (if flag_in among i then flag_in ones i else flag_in zeros i) }
 {
     zeros ^ ((zeros ^ ones) & among)
 }

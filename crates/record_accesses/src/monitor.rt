@@ -112,11 +112,13 @@ impl RecordAccessMonitor {
         access: &Option<Access>,
         drops_read: bool,
     ) -> Result<Option<ShownAccess>, AllocError>
-        ensures monitored { OnOk result ((s : Given) (limit : Limit) (past : Past) (marks : List Marked) →
+        ensures monitored { OnOk result
+            ((s : Given) (limit : Limit) (past : Past) (marks : List Marked) →
             HasMonitored self.old s limit past → number ≡ length past →
             is_dropping marks ≡ drops_read →
             HasMonitored self.new s limit (entry_with process access.now marks ∷ past)) }
-        ensures shown { IfOk result (λ shown. (s : Given) (limit : Limit) (past : Past) (marks : List Marked) →
+        ensures shown { IfOk result
+            (λ shown. (s : Given) (limit : Limit) (past : Past) (marks : List Marked) →
             HasMonitored self.old s limit past → number ≡ length past →
             is_dropping marks ≡ drops_read →
             option_map given_access shown
@@ -171,9 +173,11 @@ impl RecordAccessMonitor {
             HasBits self.old.setup self.new.bits (entry_with process access.now marks ∷ past)) }
         ensures waves { OnOk result (self.new.waves ≡ waves_after self.old.limit.from number
             self.new.bits.names access.now self.old.waves) }
-        ensures monitored { IfOk result (λ w. (past : Past) (marks : List Marked) →
-            HasTaken self.old past → number ≡ length past → is_dropping marks ≡ drops_read →
-            w ≡ monitored self.old.setup self.old.limit past (entry_with process access.now marks)) }
+        ensures monitored { IfOk result
+            (λ w. (past : Past) (marks : List Marked) → HasTaken self.old past →
+            number ≡ length past → is_dropping marks ≡ drops_read →
+            w
+            ≡ monitored self.old.setup self.old.limit past (entry_with process access.now marks)) }
     {
         match access {
             Some(access) => {
@@ -196,9 +200,10 @@ impl RecordAccessMonitor {
         ensures setup { self.new.setup ≡ self.old.setup }
         ensures limit { self.new.limit ≡ self.old.limit }
         ensures opened { self.new.opened ≡ self.old.opened }
-        ensures bits { OnOk result ((past : Past) (marks : List Marked) →
-            HasBits self.old.setup self.old.bits past →
-            HasBits self.old.setup self.new.bits (entry_with process (Some access.now) marks ∷ past)) }
+        ensures bits { OnOk result
+            ((past : Past) (marks : List Marked) → HasBits self.old.setup self.old.bits past →
+            HasBits self.old.setup self.new.bits
+            (entry_with process (Some access.now) marks ∷ past)) }
         ensures waves { OnOk result (self.new.waves ≡ waves_after self.old.limit.from number
             self.new.bits.names (Some access.now) self.old.waves) }
         ensures monitored { IfOk result (λ w. (past : Past) (marks : List Marked) →

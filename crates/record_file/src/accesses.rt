@@ -46,8 +46,10 @@ type CopyParts<'w> = (&'w [u8], &'w [u8], &'w [u8], &'w [u8]);
 /// Returns an access to a copy of a bit of this field, by the parts of its word.
 #[tactic(auto, unfolding(crate::specs::Reading::copy_of))]
 fn access_to(parts: CopyParts<'_>, field: Field, how: Move) -> Result<Access, FaultKind>
-    ensures { result ≡ copy_of
-        (parts.entry.0.now ∷ parts.entry.1.now ∷ parts.entry.2.now ∷ parts.entry.3.now ∷ []) field how }
+    ensures { result
+        ≡ copy_of
+        (parts.entry.0.now ∷ parts.entry.1.now ∷ parts.entry.2.now ∷ parts.entry.3.now ∷ []) field
+        how }
 {
     Ok(Access {
         owner: process(parts.0)?,

@@ -339,7 +339,8 @@ fn move_in(text: &[u8]) -> Option<Move>
 /// space: the number of bytes, the first four, and the last four. Three bits of the two letters determine the move.
 #[inline(always)]
 fn likely_move(second: u8, last: u8) -> (Move, usize, [u8; 4], [u8; 4])
-    ensures words { codes " " ++ spaced (move_words result.0) ≡ result.2 ++ drop (8 - result.1) result.3 }
+    ensures words { codes " " ++ spaced (move_words result.0)
+        ≡ result.2 ++ drop (8 - result.1) result.3 }
     ensures bounded { (4 ≤ result.1) × (result.1 ≤ 8) }
 {
     match (second & 5) | (last & 1) << 1 {

@@ -84,8 +84,10 @@ pub fn run_unit(
 ) -> UnitSteps
     requires going { may_step unit.old.doing ≡ true }
     requires runs { unit_goes most (settlement flick unit.old lock.old versions.old) ≡ true }
-    ensures lock { lock.new ≡ (unit_after most (settlement flick unit.old lock.old versions.old)).lock }
-    ensures versions { versions.new ≡ (unit_after most (settlement flick unit.old lock.old versions.old)).versions }
+    ensures lock { lock.new
+        ≡ (unit_after most (settlement flick unit.old lock.old versions.old)).lock }
+    ensures versions { versions.new
+        ≡ (unit_after most (settlement flick unit.old lock.old versions.old)).versions }
 {
     let mut steps = UnitSteps::none();
     let mut next = flick;

@@ -126,7 +126,8 @@ impl Cursor {
     pub fn begin_write(&mut self, setup: &Setup, register: RegisterName, number: u32)
         requires good { checked setup.now ≡ Ok tt }
         requires narrow { width setup.now register.field ≤ 32 }
-        ensures { self.new ≡ writing setup.now register (bits_of_number (width setup.now register.field) number) }
+        ensures { self.new
+            ≡ writing setup.now register (bits_of_number (width setup.now register.field) number) }
     {
         self.register = register;
         self.reader = 0;
@@ -143,7 +144,8 @@ impl Cursor {
     /// Begins a write of these bytes to a register.
     pub fn begin_write_bytes(&mut self, setup: &Setup, register: RegisterName, bytes: &[u8; 216])
         requires { checked setup.now ≡ Ok tt }
-        ensures { self.new ≡ writing setup.now register (bits_in bytes.now (width setup.now register.field)) }
+        ensures { self.new
+            ≡ writing setup.now register (bits_in bytes.now (width setup.now register.field)) }
     {
         self.register = register;
         self.reader = 0;
@@ -236,7 +238,8 @@ impl Cursor {
 
     /// Returns the bytes that were read or are written. After the register's bits they have no meaning.
     pub fn bytes(&self) -> [u8; 216]
-        ensures { (k : ℕ) → k < length self.now.bits → bit_in result k ≡ slice_index_or self.now.bits k false }
+        ensures { (k : ℕ) → k < length self.now.bits →
+            bit_in result k ≡ slice_index_or self.now.bits k false }
     {
         bytes_of(&self.words)
     }

@@ -49,7 +49,9 @@ impl BitMemory {
     pub fn new(alloc: Global, setup: &Setup, image: &[u64]) -> Result<BitMemory, AllocError>
         requires good { checked setup.now ≡ Ok tt }
         requires image { width setup.now Field.Image0 ≤ 64 * length image.now }
-        ensures { IfOk result (λ registers. registers ≡ opening_memory setup.now (bits_of_words image.now (width setup.now Field.Image0))) }
+        ensures { IfOk result
+            (λ registers. registers
+            ≡ opening_memory setup.now (bits_of_words image.now (width setup.now Field.Image0))) }
     {
         let processes = usize::from(setup.processes);
         let mut lanes = Vec::new(alloc);
@@ -67,10 +69,12 @@ impl BitMemory {
         requires nonzero { 0 < steps }
         requires within { steps ≤ rest_of cursor.old }
         requires fits { Fits self.old cursor.old }
-        ensures run { (cursor.new, self.new, flicks.new) ≡ run_of steps (cursor.old, self.old, flicks.old) }
+        ensures run { (cursor.new, self.new, flicks.new)
+            ≡ run_of steps (cursor.old, self.old, flicks.old) }
         ensures fits { Fits self.new cursor.new }
         ensures newest { result.newest ≡ newest_of steps (cursor.old, self.old, flicks.old) }
-        ensures overlapped { result.overlapped ≡ overlapped_of steps (cursor.old, self.old, flicks.old) }
+        ensures overlapped { result.overlapped
+            ≡ overlapped_of steps (cursor.old, self.old, flicks.old) }
     {
         let (mut made, mut overlapped) = (0, 0);
         'steps: loop {
@@ -101,7 +105,8 @@ impl BitMemory {
         requires fits { Fits self.old cursor.old }
         ensures inside { cursor.old.bit < cursor.old.width }
         ensures access { result.access ≡ next_answered cursor.old self.old (flick_of flicks.old) }
-        ensures overlapped { result.overlapped ≡ ends_overlapped cursor.old.copies self.old result.access }
+        ensures overlapped { result.overlapped
+            ≡ ends_overlapped cursor.old.copies self.old result.access }
         ensures cursor { cursor.new ≡ cursor_after cursor.old result.access.how }
         ensures memory { self.new ≡ applied cursor.old.copies self.old result.access }
         ensures flicks { flicks.new ≡ after_flick flicks.old }
@@ -127,7 +132,8 @@ impl BitMemory {
         requires going { cursor.old.bit < cursor.old.width }
         requires fits { Fits self.old cursor.old }
         ensures access { result.access ≡ next_answered cursor.old self.old (flick_of flicks.old) }
-        ensures overlapped { result.overlapped ≡ ends_overlapped cursor.old.copies self.old result.access }
+        ensures overlapped { result.overlapped
+            ≡ ends_overlapped cursor.old.copies self.old result.access }
         ensures cursor { cursor.new ≡ cursor_after cursor.old result.access.how }
         ensures memory { self.new ≡ applied cursor.old.copies self.old result.access }
         ensures flicks { flicks.new ≡ after_flick flicks.old }
@@ -214,7 +220,9 @@ impl BitMemory {
 fn open_lane(alloc: Global, setup: &Setup, image: &[u64], lane: usize) -> Result<Copies, AllocError>
     requires good { checked setup.now ≡ Ok tt }
     requires image { width setup.now Field.Image0 ≤ 64 * length image.now }
-    ensures { IfOk result (λ copies. copies ≡ opening_lane setup.now (bits_of_words image.now (width setup.now Field.Image0)) lane) }
+    ensures { IfOk result
+        (λ copies. copies
+        ≡ opening_lane setup.now (bits_of_words image.now (width setup.now Field.Image0)) lane) }
 {
     let register = lane / usize::from(setup.processes);
     if register == 5 {

@@ -73,7 +73,8 @@ fn text_by_first(
     text: &[u8],
 ) -> Result<Vec<u8>, AllocError>
     requires good { checked setup.now ≡ Ok tt }
-    requires text { text.now ≡ bits_text setup.now field (bits_read (width setup.now field) first.now) }
+    requires text { text.now
+        ≡ bits_text setup.now field (bits_read (width setup.now field) first.now) }
     ensures { IfOk result (λ text. text.items
         ≡ bits_text setup.now field (bits_read (width setup.now field) copy.now)) }
 {

@@ -69,8 +69,10 @@ impl ObservedRun {
         requires { self.old.entries < 2 ^ 64 - 1 }
         ensures setup { self.new.setup ≡ self.old.setup }
         ensures count { self.new.entries ≡ self.old.entries + 1 }
-        ensures observed { (past : Past) (e : Noted) → e.process ≡ process → is_some e.access ≡ steps → e.marks ≡ marks.now
-            → (marks.now ≡ [] → ⊥) → process < self.old.setup.processes → HasObserved self.old past → HasObserved self.new (e ∷ past) }
+        ensures observed { (past : Past) (e : Noted) → e.process ≡ process →
+            is_some e.access ≡ steps → e.marks ≡ marks.now → (marks.now ≡ [] → ⊥) →
+            process < self.old.setup.processes → HasObserved self.old past →
+            HasObserved self.new (e ∷ past) }
     {
         let _nested: NestedTypes = None;
         let number = self.entries;
@@ -88,9 +90,11 @@ impl ObservedRun {
         requires { self.old.entries < 2 ^ 64 - 1 }
         ensures setup { self.new.setup ≡ self.old.setup }
         ensures count { self.new.entries ≡ self.old.entries + 1 }
-        ensures observed { (past : Past) (e : Noted) → e.process ≡ process → e.access ≡ Some access.now → e.marks ≡ []
-            → ReportsNumber self.old.setup past process access.now read → process < self.old.setup.processes
-            → HasObserved self.old past → HasObserved self.new (e ∷ past) }
+        ensures observed { (past : Past) (e : Noted) → e.process ≡ process →
+            e.access ≡ Some access.now → e.marks ≡ [] →
+            ReportsNumber self.old.setup past process access.now read →
+            process < self.old.setup.processes → HasObserved self.old past →
+            HasObserved self.new (e ∷ past) }
     {
         let _nested: NestedTypes = None;
         let number = self.entries;
@@ -124,7 +128,8 @@ impl ObservedRun {
     /// Returns what is kept of a process.
     fn kept(&self, process: u8) -> ProcessSummary
         requires { process < self.now.setup.processes }
-        ensures { (past : Past) → HasObserved self.now past → result ≡ kept_of self.now.setup process past }
+        ensures { (past : Past) → HasObserved self.now past →
+            result ≡ kept_of self.now.setup process past }
     {
         self.kept[usize::from(process)]
     }
@@ -155,8 +160,9 @@ impl ObservedRun {
         text: &mut Vec<u8>,
     ) -> Result<(), AllocError>
         requires { core.now.setup ≡ self.now.setup }
-        ensures lines { OnOk result ((past : Past) → HasObservedWorld self.now core.now history.now past
-            → text.new.items ≡ text.old.items ++ state_lines self.now.setup past) }
+        ensures lines { OnOk result
+            ((past : Past) → HasObservedWorld self.now core.now history.now past →
+            text.new.items ≡ text.old.items ++ state_lines self.now.setup past) }
     {
         self.push_processes(alloc, core, history, text)?;
         push_registers(alloc, &self.setup, core, text)?;

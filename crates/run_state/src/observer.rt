@@ -126,7 +126,8 @@ impl StateObserver {
 
     /// Returns the entry of the newest event. It does not allocate.
     fn newest_entry(&self, core: &Core) -> Option<Entry>
-        ensures { InEachCorePast core.now (λ s past. HasSeen s past self.now → result ≡ newest_of past) }
+        ensures { InEachCorePast core.now
+            (λ s past. HasSeen s past self.now → result ≡ newest_of past) }
     {
         let _nested: NestedTypes = None;
         if self.reported == self.observed_run.entries() {

@@ -170,10 +170,13 @@ impl ProcessLines<'_> {
         text: &mut Vec<u8>,
     ) -> Result<(), AllocError>
         requires { AreGiven self.now }
-        ensures { OnOk result ((bits : List Bool) → length bits ≡ width self.now.setup.now next.now.field
-            → bytes.now ≡ register_bytes bits → text.new.items ≡ text.old.items
-            ++ process_line self.now.process (writes_words next.now progress
-            ++ shown self.now.setup.now next.now.field bits)) }
+        ensures { OnOk result
+            ((bits : List Bool) → length bits ≡ width self.now.setup.now next.now.field →
+            bytes.now ≡ register_bytes bits →
+            text.new.items
+            ≡ text.old.items
+            ++ process_line self.now.process
+            (writes_words next.now progress ++ shown self.now.setup.now next.now.field bits)) }
     {
         let words = writes_words(self.alloc, next, progress)?;
         let value = shown(self.alloc, self.setup, next.field, bytes)?;

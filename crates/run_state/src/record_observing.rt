@@ -80,9 +80,11 @@ impl RecordStateObserver {
         marks: &[Mark],
     ) -> Result<(), AllocError>
         requires { self.old.judge.entries < 2 ^ 64 - 1 }
-        ensures { OnOk result ((s : Given) (noted : List Noted) (numbers : List ℕ) →
+        ensures { OnOk result
+            ((s : Given) (noted : List Noted) (numbers : List ℕ) →
             HasObservedRecord self.old s noted numbers →
-            HasObservedRecord self.new s (noted ++ entry_by process access.now marks.now ∷ []) (numbers ++ line ∷ [])) }
+            HasObservedRecord self.new s (noted ++ entry_by process access.now marks.now ∷ [])
+            (numbers ++ line ∷ [])) }
     {
         let read = self.judge.core().number_read(process);
         let taken = self.taken_by(process, marks);

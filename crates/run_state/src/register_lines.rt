@@ -82,7 +82,8 @@ fn push_register(
 
 /// Returns the word `register` and the name of a register.
 fn register_words(alloc: Global, register: RegisterName) -> Result<String, AllocError>
-    ensures { IfOk result (λ words. string_bytes words ≡ register_words register.owner register.field) }
+    ensures { IfOk result
+        (λ words. string_bytes words ≡ register_words register.owner register.field) }
 {
     let owner = register.owner;
     let word = register.field.word();
@@ -161,8 +162,11 @@ fn push_readers(
     copy: &[u8],
     text: &mut Vec<u8>,
 ) -> Result<(), AllocError>
-    ensures { OnOk result (text.new.items ≡ text.old.items ++ flat_map
-        (reader_if (texts_in texts.now) copy.now) (range_with_len 0 (length (texts_in texts.now)))) }
+    ensures { OnOk result
+        (text.new.items
+        ≡ text.old.items
+        ++ flat_map (reader_if (texts_in texts.now) copy.now)
+        (range_with_len 0 (length (texts_in texts.now)))) }
 {
     for reader in 0..texts.len() {
         let has = is_same(&texts[reader], copy);

@@ -76,7 +76,8 @@ impl SafeMonitor {
     #[inline]
     pub fn observe(&mut self, access: &Option<Access>) -> bool
         ensures setup { self.new.setup ≡ self.old.setup }
-        ensures observed { OfObserved self.old access.now (λ _ past e. HasObserved self.new (e ∷ past)) }
+        ensures observed { OfObserved self.old access.now
+            (λ _ past e. HasObserved self.new (e ∷ past)) }
         ensures in_range { OfObserved self.old access.now (IfThere result) }
         ensures stray { PassesStray self.old.setup access.now result }
         ensures first { OfObserved self.old access.now (IfAllThere result) }
@@ -114,7 +115,8 @@ impl SafeMonitor {
     fn observe_there(&mut self, access: Access) -> bool
         requires { IsThere self.old.setup access }
         ensures setup { self.new.setup ≡ self.old.setup }
-        ensures observed { OfObserved self.old (Some access) (λ _ past e. HasObserved self.new (e ∷ past)) }
+        ensures observed { OfObserved self.old (Some access)
+            (λ _ past e. HasObserved self.new (e ∷ past)) }
         ensures answer { OfObserved self.old (Some access) (ReportsSafe result) }
     {
         let register = register_of(&access);

@@ -106,7 +106,8 @@ impl MonitoredBits {
     ///
     /// Returns [`AllocError`] if memory runs out.
     pub fn new(alloc: Global, len: usize) -> Result<MonitoredBits, AllocError>
-        ensures { IfOk result (λ monitored_bits. monitored_bits ≡ replicate len (monitored_after false [])) }
+        ensures { IfOk result
+            (λ monitored_bits. monitored_bits ≡ replicate len (monitored_after false [])) }
     {
         let bytes = vec![in alloc; 0u8; len.div_ceil(2)]?;
         Ok(MonitoredBits { bytes, len })

@@ -12,7 +12,8 @@ pub fn printed_scenarios_are_read_again()
 
 /// Scenarios with one text are equal, even if the numbers of their lines differ.
 pub fn scenarios_of_one_text_are_equal()
-    ensures { (s t : Script) → IsScenario s → IsScenario t → scenario_text s ≡ scenario_text t → s ≡ t }
+    ensures { (s t : Script) → IsScenario s → IsScenario t → scenario_text s ≡ scenario_text t →
+        s ≡ t }
 {}
 
 /// Each meaning has one spelling: the words of a line mean exactly the line for which they are printed.

@@ -105,9 +105,12 @@ impl ScenarioRun {
         requires bounded { self.old.remaining ≤ turns_of line.now }
         requires some_remaining { 0 < self.old.remaining }
         requires still { makes_steps line.now ≡ false }
-        ensures remaining { IfOk result (λ reported. room_wanted reported self.new.remaining ≤ self.old.remaining) }
-        ensures made { IfOk result (λ reported. InItsRun self.old (λ run.
-            Makes self.old run (turn_of self.old.world.setup line.now self.old.remaining run) reported self.new)) }
+        ensures remaining { IfOk result
+            (λ reported. room_wanted reported self.new.remaining ≤ self.old.remaining) }
+        ensures made { IfOk result
+            (λ reported. InItsRun self.old
+            (λ run. Makes self.old run
+                (turn_of self.old.world.setup line.now self.old.remaining run) reported self.new)) }
     {
         let _nested: NestedTypes = None;
         match line {
@@ -137,8 +140,10 @@ impl ScenarioRun {
         requires given { is_event event ≡ true }
         requires still { is_step event ≡ false }
         ensures remaining { self.new.remaining ≡ self.old.remaining - 1 }
-        ensures made { IfOk result (λ reported. InItsRun self.old (λ run.
-            Makes self.old run (happens (Tries event) (self.old.remaining - 1) run) reported self.new)) }
+        ensures made { IfOk result
+            (λ reported. InItsRun self.old
+            (λ run. Makes self.old run (happens (Tries event) (self.old.remaining - 1) run) reported
+                self.new)) }
     {
         self.remaining -= 1;
         let place = self.world.history().len() as u64;

@@ -17,7 +17,8 @@ use std::alloc::Global;
 ///
 /// Returns the [`Refusal`] of the first refused event.
 pub fn two_events(world: &mut World, first: Event, second: Event) -> Result<(Act, Act), Refusal>
-    ensures alone { IfOk result (λ acts. AreAlone (process_of first) acts.0 (process_of second) acts.1) }
+    ensures alone { IfOk result
+        (λ acts. AreAlone (process_of first) acts.0 (process_of second) acts.1) }
 {
     world.shown();
     let one = world.event(first)?;
@@ -37,7 +38,8 @@ pub fn printed_replies<R: Source, W: Sink>(
 ) -> Result<Summary, Fault>
     requires reads { R.failures input.old < 2 ^ 64 - 1 }
     requires writes { W.failures output.old < 2 ^ 64 - 1 }
-    ensures replies { OnOk result (InputPrintsTrueReplies (R.to_come input.old) (W.taken output.old) (W.taken output.new)) }
+    ensures replies { OnOk result
+        (InputPrintsTrueReplies (R.to_come input.old) (W.taken output.old) (W.taken output.new)) }
 {
     replay(alloc, input, output, &mut NoObserver)
 }

@@ -22,7 +22,8 @@ pub fn verdict_of(
     report: &[u8],
     last: &[u8],
 ) -> Result<ShownVerdict, AllocError>
-    ensures { IfOk result (λ verdict. seen_verdict verdict ≡ verdict_of source (report_lines report.now) last.now) }
+    ensures { IfOk result
+        (λ verdict. seen_verdict verdict ≡ verdict_of source (report_lines report.now) last.now) }
 {
     let bad = bad_entry(report);
     Ok(ShownVerdict {
@@ -40,7 +41,9 @@ fn lines_of(
     report: &[u8],
     last: &[u8],
 ) -> Result<Vec<VerdictLine>, AllocError>
-    ensures { IfOk result (λ lines. map seen_line lines.items ≡ lines_of_verdict bad (report_lines report.now) last.now) }
+    ensures { IfOk result
+        (λ lines. map seen_line lines.items
+        ≡ lines_of_verdict bad (report_lines report.now) last.now) }
 {
     let mut lines = Vec::new(alloc);
     for words in report.lines() {

@@ -199,7 +199,8 @@ fn observe_step(
     place: u64,
 ) -> Option<Law>
     ensures setup { result ≡ None → auditor.new.core.setup ≡ auditor.old.core.setup }
-    ensures observed { Observes auditor.old (step_reported place process access reported.now) auditor.new result }
+    ensures observed { Observes auditor.old (step_reported place process access reported.now)
+        auditor.new result }
 {
     if matches!(reported, StepOutcome::Nothing) {
         return auditor.observe(process, &Some(access), &[]);

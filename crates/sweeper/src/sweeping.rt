@@ -103,9 +103,11 @@ impl Sweeper {
 
     /// Returns the result of the runs so far.
     pub fn found(&self) -> Swept
-        ensures found { OfSweep self.now (λ s calls before. IsFound s (cuts s calls before) result) }
+        ensures found { OfSweep self.now
+            (λ s calls before. IsFound s (cuts s calls before) result) }
         ensures good { OfSweep self.now (λ s calls before. AreAllGood result) }
-        ensures headline { OfSweep self.now (λ s calls before. KeepHeadline s (cuts s calls before)) }
+        ensures headline { OfSweep self.now
+            (λ s calls before. KeepHeadline s (cuts s calls before)) }
         ensures down { OfSweep self.now (λ s calls before. AreDownInTime s before) }
     {
         self.found

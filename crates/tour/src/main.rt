@@ -79,7 +79,10 @@ fn make<T: Print>(rt: &T, world: &mut World, event: Event) -> Result<Act>
 
 /// Makes steps of a process up to this stage. If it is then inside, no other process is: the main theorem's first sentence.
 fn go<T: Print>(rt: &T, world: &mut World, process: u8, flick: bool, stage: Stage) -> Result<()>
-    ensures alone { OnOk result ((events : List Happening) → Shows world.new events → stage_in world.new.setup (past_of world.new.setup events) process ≡ Some Inside → (other : ℕ) → IsTrue (inside other (past_of world.new.setup events)) → other ≡ process) }
+    ensures alone { OnOk result
+        ((events : List Happening) → Shows world.new events →
+        stage_in world.new.setup (past_of world.new.setup events) process ≡ Some Inside →
+        (other : ℕ) → IsTrue (inside other (past_of world.new.setup events)) → other ≡ process) }
 {
     for _ in 0..u16::MAX {
         if matches!(world.stage(process), Some(now) if now == stage) {

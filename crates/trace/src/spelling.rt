@@ -24,7 +24,10 @@ pub fn print_trace_entry(
     marks: &[LockMark],
     text: &mut Vec<u8>,
 ) -> Result<(), AllocError>
-    ensures { OnOk result (text.new.items ≡ text.old.items ++ trace_entry_line registers.now (trace_entry process access.now marks.now)) }
+    ensures { OnOk result
+        (text.new.items
+        ≡ text.old.items
+        ++ trace_entry_line registers.now (trace_entry process access.now marks.now)) }
 {
     push_process(alloc, process, text)?;
     push_access(alloc, registers, access, text)?;
@@ -81,7 +84,8 @@ fn push_name(
     register: u8,
     text: &mut Vec<u8>,
 ) -> Result<(), AllocError>
-    ensures { OnOk result (text.new.items ≡ text.old.items ++ register_name registers.now register) }
+    ensures { OnOk result
+        (text.new.items ≡ text.old.items ++ register_name registers.now register) }
 {
     match registers.get(usize::from(register)) {
         None => Ok(()),
@@ -90,7 +94,8 @@ fn push_name(
 }
 
 fn push_index(alloc: Global, index: u8, text: &mut Vec<u8>) -> Result<(), AllocError>
-    ensures { OnOk result (text.new.items ≡ text.old.items ++ (codes "[" ++ (decimal index ++ codes "]"))) }
+    ensures { OnOk result
+        (text.new.items ≡ text.old.items ++ (codes "[" ++ (decimal index ++ codes "]"))) }
 {
     let word = format!(in alloc; "[{index}]")?;
     text.extend_from_slice(word.as_bytes())
@@ -114,7 +119,8 @@ fn push_marks(alloc: Global, marks: &[LockMark], text: &mut Vec<u8>) -> Result<(
 }
 
 fn push_mark(alloc: Global, mark: LockMark, text: &mut Vec<u8>) -> Result<(), AllocError>
-    ensures { OnOk result (text.new.items ≡ text.old.items ++ (codes " : " ++ lock_mark_text mark)) }
+    ensures { OnOk result
+        (text.new.items ≡ text.old.items ++ (codes " : " ++ lock_mark_text mark)) }
 {
     let word = format!(in alloc; " : {mark}")?;
     text.extend_from_slice(word.as_bytes())

@@ -128,9 +128,12 @@ impl AccessMonitor {
         ensures taken { (marks : List Mark) → OfTaken self.old (λ past. HasTaken self.new
             (trace_entry process (possible_access self.old.memory.setup process access.now) marks
             ∷ past)) }
-        ensures monitored { (marks : List Mark) → OfTaken self.old (λ past. result
+        ensures monitored { (marks : List Mark) →
+            OfTaken self.old
+            (λ past. result
             ≡ monitored_access self.old.memory.setup self.old.limit past
-            (trace_entry process (possible_access self.old.memory.setup process access.now) marks)) }
+            (trace_entry process (possible_access self.old.memory.setup process access.now)
+                marks)) }
     {
         let number = self.entries;
         self.entries += 1;

@@ -222,7 +222,8 @@ fn draw_monitored<W: Sink>(
         DrawsOn (kept canvas.old) (kept canvas.new) (W.taken output.old) (W.taken output.new)
         (gives_access (shown_access s limit past entry.now))) }
     ensures monitored { (s : Setup) (limit : Limit) (past : Past) →
-        HasMonitored monitor.old s limit past → HasMonitored monitor.new s limit (entry.now ∷ past) }
+        HasMonitored monitor.old s limit past →
+        HasMonitored monitor.new s limit (entry.now ∷ past) }
     ensures overlaps { canvas.new.overlaps ≡ canvas.old.overlaps }
     ensures fault { IfErr result IsWriteFault }
     ensures failures { W.failures output.new ≡ W.failures output.old + failed_write result }

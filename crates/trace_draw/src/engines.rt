@@ -102,7 +102,8 @@ pub fn draw_trace_svg<R: Source, W: Sink>(
 /// Writes the end of a page.
 fn end_page<W: Sink>(alloc: Global, drawn: &DrawnTrace, output: &mut W) -> Result<(), Fault>
     requires { W.failures output.old < 2 ^ 64 - 1 }
-    ensures drawn { OnOk result ((options : Options) (s : Setup) (shown : List Entry) (reported : List ℕ)
+    ensures drawn { OnOk result
+        ((options : Options) (s : Setup) (shown : List Entry) (reported : List ℕ)
         (first : Option (List ℕ)) →
         EndsTrace form_variants.Page options drawn.now s shown reported first (W.taken output.old) →
         DrawsTraceSaid form_variants.Page options s shown reported first (W.taken output.new)) }
@@ -121,11 +122,12 @@ fn write_picture<W: Sink>(
     output: &mut W,
 ) -> Result<(), Fault>
     requires { W.failures output.old < 2 ^ 64 - 1 }
-    ensures drawn { OnOk result ((options : Options) (s : Setup) (shown : List Entry) (reported : List ℕ) →
-        EndsTrace (form_variants.Picture 34) options drawn.now s shown reported
-        (Some []) (Some bands.now) →
-        DrawsTraceSaid (form_variants.Picture 34) options s shown reported
-        (W.taken output.old) (W.taken output.new)) }
+    ensures drawn { OnOk result
+        ((options : Options) (s : Setup) (shown : List Entry) (reported : List ℕ) →
+        EndsTrace (form_variants.Picture 34) options drawn.now s shown reported (Some [])
+        (Some bands.now) →
+        DrawsTraceSaid (form_variants.Picture 34) options s shown reported (W.taken output.old)
+        (W.taken output.new)) }
     ensures fault { IfErr result IsWriteFault }
     ensures failures { W.failures output.new ≡ W.failures output.old + failed_write result }
 {

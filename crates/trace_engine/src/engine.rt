@@ -38,7 +38,8 @@ pub fn judge_trace<R: Source, W: Sink>(
 /// Reads a whole trace file and returns the judge of its entries.
 fn judge_file<R: Source>(alloc: Global, input: &mut R, why: bool) -> Result<TraceReporter, Fault>
     requires { R.failures input.old < 2 ^ 64 - 1 }
-    ensures observed { IfOk result (λ reporter. IfSome (R.to_come input.old) (IsOfTrace (HasReported why reporter))) }
+    ensures observed { IfOk result
+        (λ reporter. IfSome (R.to_come input.old) (IsOfTrace (HasReported why reporter))) }
     ensures end { IfOk result (λ _. IsAtEnd (R.to_come input.new)) }
     ensures fault { IfErr result (λ fault. IsTraceFault fault (R.to_come input.old)) }
     ensures failures { R.failures input.new ≡ R.failures input.old + failed_reading result }

@@ -75,9 +75,11 @@ impl TraceReporter {
         entry: &TraceEntry,
     ) -> Result<(), AllocError>
         requires { self.old.judge.entries < 2 ^ 64 - 1 }
-        ensures { OnOk result ((why : Bool) (entries : List Entry) (numbers : List ℕ) →
+        ensures { OnOk result
+            ((why : Bool) (entries : List Entry) (numbers : List ℕ) →
             HasReported why self.old setup.now entries numbers →
-            HasReported why self.new setup.now (entries ++ entry.now ∷ []) (numbers ++ number ∷ [])) }
+            HasReported why self.new setup.now (entries ++ entry.now ∷ [])
+            (numbers ++ number ∷ [])) }
     {
         let asks = self.asks_reasons();
         self.judge
@@ -106,7 +108,8 @@ impl TraceReporter {
     ///
     /// Returns [`AllocError`] if memory runs out.
     pub fn report(&self, alloc: Global) -> Result<TraceReport, AllocError>
-        ensures { IfOk result (λ report. (why : Bool) (s : Setup) (entries : List Entry) (numbers : List ℕ) →
+        ensures { IfOk result
+            (λ report. (why : Bool) (s : Setup) (entries : List Entry) (numbers : List ℕ) →
             HasReported why self.now s entries numbers →
             ReportsTrace why s entries numbers report.text.items report.status) }
     {
@@ -155,7 +158,8 @@ fn status_of(verdict: &TraceVerdict) -> u8
 
 /// Returns the line of a verdict.
 fn verdict_line(alloc: Global, judged: &TraceJudged) -> Result<String, AllocError>
-    ensures { IfOk result (λ line. string_bytes line ≡ trace_verdict_line judged.now.entries judged.now.verdict) }
+    ensures { IfOk result
+        (λ line. string_bytes line ≡ trace_verdict_line judged.now.entries judged.now.verdict) }
 {
     format!(in alloc; "{judged}\n")
 }

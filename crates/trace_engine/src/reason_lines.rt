@@ -108,8 +108,11 @@ fn push_entry(
     access: &Option<CellAccess>,
     text: &mut Vec<u8>,
 ) -> Result<(), AllocError>
-    ensures { OnOk result (text.new.items ≡ text.old.items
-        ++ entry_line word.now registers.now (trace_entry entry.now.process access.now entry.now.marks)) }
+    ensures { OnOk result
+        (text.new.items
+        ≡ text.old.items
+        ++ entry_line word.now registers.now
+        (trace_entry entry.now.process access.now entry.now.marks)) }
 {
     text.extend_from_slice(word.as_bytes())?;
     text.extend_from_slice(b" ")?;

@@ -44,8 +44,10 @@ impl TraceTrial {
         requires bounded { count_in self.old.reporter < 2 ^ 64 - 1 }
         ensures why { self.new.why ≡ self.old.why }
         ensures ends { (before : Option TraceProgress) (entries : List Entry) (numbers : List ℕ) →
-            IsReadUpTo (HasReported self.old.why) self.old.reader self.old.reporter before entries numbers →
-            LineEnds (HasReported self.old.why) result number line.now before self.new.reader self.new.reporter entries numbers }
+            IsReadUpTo (HasReported self.old.why) self.old.reader self.old.reporter before entries
+            numbers →
+            LineEnds (HasReported self.old.why) result number line.now before self.new.reader
+            self.new.reporter entries numbers }
     {
         read_trace_line(self.alloc, line, &mut self.reader)?;
         if let Some(reader) = &mut self.reader {
@@ -109,9 +111,11 @@ pub fn observe(
     requires good { is_trace_setup setup.now ≡ true }
     requires bounded { count_in reporter.old < 2 ^ 64 - 1 }
     ensures present { OnOk result (IsSome reporter.new) }
-    ensures observed { OnOk result ((entries : List Entry) (numbers : List ℕ) →
+    ensures observed { OnOk result
+        ((entries : List Entry) (numbers : List ℕ) →
         Observes (HasReported why) reporter.old setup.now entries numbers →
-        Observes (HasReported why) reporter.new setup.now (entries ++ entry.now ∷ []) (numbers ++ number ∷ [])) }
+        Observes (HasReported why) reporter.new setup.now (entries ++ entry.now ∷ [])
+        (numbers ++ number ∷ [])) }
 {
     if reporter.is_none() {
         begin(alloc, why, setup, reporter)?;

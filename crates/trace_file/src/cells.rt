@@ -32,7 +32,8 @@ pub fn cell(registers: &[TraceRegister], word: &[u8]) -> Result<Cell, FaultKind>
 /// Returns the index of the cell of a register that a word names, if it names one.
 fn index(register: &TraceRegister, word: &[u8]) -> Option<Result<Option<u8>, FaultKind>>
     ensures { MatchOption result (is_cell_of word.now register.now ≡ false)
-        (λ index. (is_cell_of word.now register.now ≡ true) × (index ≡ index_of register.now word.now)) }
+        (λ index. (is_cell_of word.now register.now ≡ true)
+        × (index ≡ index_of register.now word.now)) }
 {
     let name = register.name.bytes();
     if register.is_shared {
@@ -49,7 +50,8 @@ fn index(register: &TraceRegister, word: &[u8]) -> Option<Result<Option<u8>, Fau
 fn between_brackets<'w>(name: &[u8], word: &'w [u8]) -> Option<&'w [u8]>
     ensures { MatchOption result
         (bytes_eq word.now (indexed name.now (index_in name.now word.now)) ≡ false)
-        (λ index. (bytes_eq word.now (indexed name.now (index_in name.now word.now)) ≡ true) × (index.now ≡ index_in name.now word.now)) }
+        (λ index. (bytes_eq word.now (indexed name.now (index_in name.now word.now)) ≡ true)
+        × (index.now ≡ index_in name.now word.now)) }
 {
     let at = name.len();
     if word.len() < at + 2 {

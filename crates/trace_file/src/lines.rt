@@ -77,7 +77,8 @@ fn access_in<'l>(
 ) -> Option<(CellAccess, &'l [u8])>
     requires bounded { length registers.now ≤ 64 }
     requires unsigned { sign place.now ≡ false }
-    ensures { IfSome result (λ read. IsAccess registers.now (place.now ∷ words_of line.now) read.0 read.1.now) }
+    ensures { IfSome result
+        (λ read. IsAccess registers.now (place.now ∷ words_of line.now) read.0 read.1.now) }
 {
     let Ok(cell) = cell(registers, place) else {
         return None;

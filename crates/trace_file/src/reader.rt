@@ -237,7 +237,8 @@ impl TraceReader {
     /// Reads a line, if it is an entry without a fault. Otherwise nothing changes.
     #[inline(always)]
     pub(crate) fn take_entry(&mut self, line: &[u8]) -> bool
-        ensures taken { result ≡ true → words_read trace_grammar (words_of line.now) (Some self.old) ≡ Ok (Some self.new) }
+        ensures taken { result ≡ true →
+            words_read trace_grammar (words_of line.now) (Some self.old) ≡ Ok (Some self.new) }
         ensures unchanged { result ≡ false → self.new ≡ self.old }
     {
         let registers = self.setup.registers.as_slice();

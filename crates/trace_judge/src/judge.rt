@@ -86,9 +86,11 @@ impl TraceJudge {
         ensures state { self.new.state ≡ self.old.state }
         ensures verdict { self.new.verdict ≡ self.old.verdict }
         ensures entries { self.new.entries ≡ self.old.entries }
-        ensures reasons { OfSeen self.old.state (λ past.
-            first_broken self.old.state.memory.setup past (trace_entry process access.now marks.now) ≡ Some law
-            → Explains self.old.state.memory.setup past (trace_entry process access.now marks.now) law self.new.reasons) }
+        ensures reasons { OfSeen self.old.state
+            (λ past. first_broken self.old.state.memory.setup past
+            (trace_entry process access.now marks.now) ≡ Some law →
+            Explains self.old.state.memory.setup past (trace_entry process access.now marks.now) law
+            self.new.reasons) }
     {
         self.reasons = Some(self.state.reasons(law, process, access, marks));
     }

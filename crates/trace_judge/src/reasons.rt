@@ -51,10 +51,11 @@ impl TraceState {
         access: &Option<CellAccess>,
         marks: &[LockMark],
     ) -> TraceReasons
-        ensures { OfSeen self.now (λ past.
-            first_broken self.now.memory.setup past (trace_entry process access.now marks.now) ≡ Some law
-            → AreReasons self.now.memory.setup past
-            (trace_entry process access.now marks.now) law result) }
+        ensures { OfSeen self.now
+            (λ past. first_broken self.now.memory.setup past
+            (trace_entry process access.now marks.now) ≡ Some law →
+            AreReasons self.now.memory.setup past (trace_entry process access.now marks.now) law
+            result) }
     {
         TraceReasons {
             may: self.mays(law, process, access, marks),
@@ -75,10 +76,11 @@ impl TraceState {
         access: &Option<CellAccess>,
         marks: &[LockMark],
     ) -> [Option<u32>; 2]
-        ensures { OfSeen self.now (λ past.
-            first_broken self.now.memory.setup past (trace_entry process access.now marks.now) ≡ Some law
-            → present result ≡ mays_by law self.now.memory.setup past
-            (trace_entry process access.now marks.now)) }
+        ensures { OfSeen self.now
+            (λ past. first_broken self.now.memory.setup past
+            (trace_entry process access.now marks.now) ≡ Some law →
+            present result
+            ≡ mays_by law self.now.memory.setup past (trace_entry process access.now marks.now)) }
     {
         let (TraceLaw::Memory, Some(access)) = (law, access) else {
             return [None; 2];
@@ -104,9 +106,11 @@ impl TraceState {
         access: &CellAccess,
         marks: &[LockMark],
     ) -> Option<u32>
-        ensures { OfSeen self.now (λ past. option_to_list result ≡ filter
-            (keeps_with self.now.memory.setup past (trace_entry process (Some access.now) marks.now))
-            (option_to_list value)) }
+        ensures { OfSeen self.now
+            (λ past. option_to_list result
+            ≡ filter
+            (keeps_with self.now.memory.setup past
+                (trace_entry process (Some access.now) marks.now)) (option_to_list value)) }
     {
         let value = value?;
         let reading = Some(access.reading(value));
@@ -122,8 +126,9 @@ impl TraceState {
         access: &Option<CellAccess>,
         marks: &[LockMark],
     ) -> Option<TraceRefused>
-        ensures { OfSeen self.now (λ past.
-            result ≡ refused self.now.memory.setup past (trace_entry process access.now marks.now)) }
+        ensures { OfSeen self.now
+            (λ past. result
+            ≡ refused self.now.memory.setup past (trace_entry process access.now marks.now)) }
     {
         if let Some(refusal) = self.refusal_of_access(process, access) {
             return Some(TraceRefused::Access(refusal));
@@ -178,9 +183,10 @@ impl TraceState {
 
     /// `Overtaken`: returns the entry with which the doorway of a process began, in the past or with this access.
     fn doorway(&self, law: TraceLaw, process: u8, access: &Option<CellAccess>) -> Option<u64>
-        ensures { (e : Entry) → e.process ≡ process → e.access ≡ access.now → OfSeen self.now (λ past.
-            first_broken self.now.memory.setup past e ≡ Some law
-            → result ≡ doorway_by law self.now.memory.setup past e) }
+        ensures { (e : Entry) → e.process ≡ process → e.access ≡ access.now →
+            OfSeen self.now
+            (λ past. first_broken self.now.memory.setup past e ≡ Some law →
+            result ≡ doorway_by law self.now.memory.setup past e) }
     {
         if law != TraceLaw::Overtaken || process >= self.stages.processes() {
             return None;

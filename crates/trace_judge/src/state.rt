@@ -57,7 +57,8 @@ impl TraceState {
         ensures law { OfSeen self.now (λ past. result ≡ first_broken self.now.memory.setup past
             (trace_entry process access.now marks.now)) }
         ensures process { result ≡ None → process < 16 }
-        ensures cell { result ≡ None → IfSome access.now (λ a. IsTrue (has_cell self.now.memory.setup a.cell)) }
+        ensures cell { result ≡ None →
+            IfSome access.now (λ a. IsTrue (has_cell self.now.memory.setup a.cell)) }
     {
         if let Some(_refusal) = self.refusal_of_access(process, access) {
             return Some(TraceLaw::Access);
@@ -90,7 +91,8 @@ impl TraceState {
             (trace_entry process access.now marks)) }
         ensures process { result ≡ None → process < self.now.memory.setup.processes }
         ensures bounded { result ≡ None → process < 16 }
-        ensures cell { result ≡ None → IfSome access.now (λ a. IsTrue (has_cell self.now.memory.setup a.cell)) }
+        ensures cell { result ≡ None →
+            IfSome access.now (λ a. IsTrue (has_cell self.now.memory.setup a.cell)) }
     {
         if process >= self.stages.processes() {
             return Some(CellRefusal::NoProcess);
@@ -106,10 +108,12 @@ impl TraceState {
     fn breaks_memory(&self, process: u8, access: &Option<CellAccess>) -> bool
         requires process { process < 16 }
         requires cell { IfSome access.now (λ a. IsTrue (has_cell self.now.memory.setup a.cell)) }
-        ensures { (marks : List Mark) → OfSeen self.now (λ past.
-            refusal_of_access self.now.memory.setup past (trace_entry process access.now marks) ≡ None
-            → result ≡ breaks_memory self.now.memory.setup past
-            (trace_entry process access.now marks)) }
+        ensures { (marks : List Mark) →
+            OfSeen self.now
+            (λ past. refusal_of_access self.now.memory.setup past
+            (trace_entry process access.now marks) ≡ None →
+            result
+            ≡ breaks_memory self.now.memory.setup past (trace_entry process access.now marks)) }
     {
         match access {
             None => false,

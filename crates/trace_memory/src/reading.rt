@@ -44,7 +44,8 @@ impl CellMemory {
     /// Returns what the read that a process has open may give, if an access ends a read.
     fn allowed_open(&self, process: u8, access: &CellAccess) -> Option<Allowed>
         requires { process < 16 }
-        ensures { OfMade self.now (λ past. result ≡ allowed_open access.now.how (kept_open self.now.setup process past)) }
+        ensures { OfMade self.now
+            (λ past. result ≡ allowed_open access.now.how (kept_open self.now.setup process past)) }
     {
         match access.how {
             CellMove::Value(_) => self.opened(process)?.allowed,

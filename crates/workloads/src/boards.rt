@@ -112,7 +112,8 @@ fn timed_together<T: Print + Eprint + Clock + Threads + Sync>(
     ports: Vec<Port>,
     times: u32,
 ) -> Result<()>
-    requires { (k : ℕ) (port : PortState) → slice_get ports.items k ≡ Some port → IsOf board.now port }
+    requires { (k : ℕ) (port : PortState) → slice_get ports.items k ≡ Some port →
+        IsOf board.now port }
 {
     let adds = Command::Add(counter(), 1);
     let start = Instant::now(rt)?;

@@ -113,7 +113,8 @@ fn timed<T: Print + Eprint + Clock + AllocGlobal>(
 /// Returns whether no list has more calls than a process of version 2 may have.
 #[tactic(auto, using(crate::proofs::Short::short_lists))]
 fn are_short(lists: &[Vec<Placed>]) -> bool
-    ensures { IsTrue result → All (λ (list : List Finished). length list ≤ 65535) (lists_of lists.now) }
+    ensures { IsTrue result →
+        All (λ (list : List Finished). length list ≤ 65535) (lists_of lists.now) }
 {
     for list in lists {
         if list.len() > 65_535 {

@@ -182,8 +182,10 @@ impl Core {
         flick: bool,
         reported: &mut StepOutcome,
     ) -> Result<AccessMade, Refusal>
-        ensures accepted { IfOk result (λ made. CoreAddsStep self.old process flick reported.new made.access) }
-        ensures overlapped { IfOk result (λ made. CoreReportsOverlapped self.old made.access made.overlapped) }
+        ensures accepted { IfOk result
+            (λ made. CoreAddsStep self.old process flick reported.new made.access) }
+        ensures overlapped { IfOk result
+            (λ made. CoreReportsOverlapped self.old made.access made.overlapped) }
         ensures shows { OnOk result (CoreSteps self.old process flick reported.new self.new) }
         ensures pending { OnOk result (PendedBefore self.old (Steps reported.new) self.new) }
         ensures refused { IfErr result (CoreRefusesStep self.old process flick) }
@@ -225,7 +227,8 @@ impl Core {
     #[inline]
     fn make_step(&mut self, process: u8, flick: bool, reported: &mut StepOutcome) -> AccessMade
         requires { CoreRefuses self.old (Step process flick) None }
-        ensures step { CoreGoes self.old (Step process flick) (Steps reported.new) (Some result.access) self.new }
+        ensures step { CoreGoes self.old (Step process flick) (Steps reported.new)
+            (Some result.access) self.new }
         ensures overlapped { CoreReportsOverlapped self.old result.access result.overlapped }
         ensures others { KeepOthers self.old.seats process self.new.seats }
     {
@@ -244,8 +247,10 @@ impl Core {
     pub fn run(&mut self, process: u8, flicks: &mut Flicks, steps: u32) -> AccessesMade
         requires nonzero { 0 < steps }
         requires within { steps ≤ remaining_in self.old.seats process }
-        ensures runs { CoreWalks self.old flicks.old process steps result.newest result.overlapped self.new flicks.new }
-        ensures fewer { remaining_in self.old.seats process ≡ remaining_in self.new.seats process + steps }
+        ensures runs { CoreWalks self.old flicks.old process steps result.newest result.overlapped
+            self.new flicks.new }
+        ensures fewer { remaining_in self.old.seats process
+            ≡ remaining_in self.new.seats process + steps }
         ensures others { KeepOthers self.old.seats process self.new.seats }
     {
         self.seats[usize::from(process)]

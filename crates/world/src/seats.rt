@@ -87,8 +87,10 @@ impl Seat {
         ensures access { result.access ≡ answered_at self.old.process registers.old flick }
         ensures overlapped { result.overlapped ≡
             ends_overlapped self.old.process.setup.processes registers.old result.access }
-        ensures seat { self.new ≡ seat_stepped (stepped self.old.process flick (value_of result.access.how)) self.old }
-        ensures marks { marks_reported reported.new ≡ marks_on self.old.process flick (value_of result.access.how) }
+        ensures seat { self.new
+            ≡ seat_stepped (stepped self.old.process flick (value_of result.access.how)) self.old }
+        ensures marks { marks_reported reported.new
+            ≡ marks_on self.old.process flick (value_of result.access.how) }
         ensures registers { registers.new ≡
             applied self.old.process.setup.processes registers.old result.access }
     {

@@ -141,15 +141,18 @@ impl World {
         flick: bool,
         reported: &mut StepOutcome,
     ) -> Result<AccessMade, Refusal>
-        ensures accepted { IfOk result (λ made. AddsStep self.old process flick reported.new made.access) }
-        ensures overlapped { IfOk result (λ made. ReportsOverlapped self.old made.access made.overlapped) }
+        ensures accepted { IfOk result
+            (λ made. AddsStep self.old process flick reported.new made.access) }
+        ensures overlapped { IfOk result
+            (λ made. ReportsOverlapped self.old made.access made.overlapped) }
         ensures shows { OnOk result (GoesOn self.old (Step process flick) self.new) }
         ensures refused { IfErr result (λ why. IsRefused self.old (Step process flick) (Some why)) }
         ensures unchanged { OnErr result (self.new ≡ self.old) }
         ensures unreported { OnErr result (reported.new ≡ reported.old) }
         ensures setup { OnOk result (self.new.setup ≡ self.old.setup) }
         ensures through { UnlessRefused self.old (Step process flick) (IsOk result) }
-        ensures headline { IfOk result (λ made. StepKeepsHeadline self.old process reported.new made.access) }
+        ensures headline { IfOk result
+            (λ made. StepKeepsHeadline self.old process reported.new made.access) }
         ensures others { KeepOthers self.old.seats process self.new.seats }
     {
         match self.core.step(process, flick, reported) {
@@ -168,8 +171,10 @@ impl World {
     pub fn run(&mut self, process: u8, flicks: &mut Flicks, steps: u32) -> AccessesMade
         requires nonzero { 0 < steps }
         requires within { steps ≤ remaining_in self.old.seats process }
-        ensures runs { Walks self.old flicks.old process steps result.newest result.overlapped self.new flicks.new }
-        ensures fewer { remaining_in self.old.seats process ≡ remaining_in self.new.seats process + steps }
+        ensures runs { Walks self.old flicks.old process steps result.newest result.overlapped
+            self.new flicks.new }
+        ensures fewer { remaining_in self.old.seats process
+            ≡ remaining_in self.new.seats process + steps }
         ensures others { KeepOthers self.old.seats process self.new.seats }
     {
         self.core.run(process, flicks, steps)

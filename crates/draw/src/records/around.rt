@@ -52,7 +52,8 @@ impl PictureForm {
     /// Writes the start of a page, if the form is one.
     fn write_head<W: Sink>(self, setup: &Setup, shows: Reads, output: &mut W) -> Result<(), Fault>
         requires { W.failures output.old < 2 ^ 64 - 1 }
-        ensures heads { OnOk result (Heads shows self.form setup.now (W.taken output.old) (W.taken output.new)) }
+        ensures heads { OnOk result
+            (Heads shows self.form setup.now (W.taken output.old) (W.taken output.new)) }
         ensures fault { IfErr result IsWriteFault }
         ensures failures { W.failures output.new ≡ W.failures output.old + failed_write result }
     {
@@ -67,7 +68,8 @@ impl PictureForm {
 
     /// Returns the start of a page.
     fn head(self, setup: &Setup, shows: Reads) -> Result<Markup, AllocError>
-        ensures draws { IfOk result (λ markup. markup ≡ page_front subject.Record setup.now (listed setup.now) shows) }
+        ensures draws { IfOk result
+            (λ markup. markup ≡ page_front subject.Record setup.now (listed setup.now) shows) }
         ensures lines { IfOk result (λ markup. lines_in markup ≡ []) }
         ensures elements { IfOk result (λ markup. opens_in markup (Some []) ≡ Some page_names) }
     {

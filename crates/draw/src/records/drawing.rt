@@ -111,8 +111,8 @@ impl RecordDrawing {
     /// reads are shown, so that the compiler drops the access of a Step that it has read.
     #[inline(always)]
     fn ends_overlapped(&mut self, access: Option<Access>) -> bool
-        ensures overlapped { (view : Seen) (s : Given) (parts : List Part) (e : Noted) → e.access ≡ access →
-            RecordRecalls view s parts self.old →
+        ensures overlapped { (view : Seen) (s : Given) (parts : List Part) (e : Noted) →
+            e.access ≡ access → RecordRecalls view s parts self.old →
             ReportsEnd view.reads s (entries_among parts) access result
             × Monitors view.reads s (e ∷ entries_among parts) self.new.monitor.monitor }
         ensures drawing { self.new.drawing ≡ self.old.drawing }
@@ -131,7 +131,8 @@ impl RecordDrawing {
     /// Returns [`Fault::Write`] if a call of the sink fails, and [`Fault::Memory`] if memory is lacking.
     pub fn end<W: Sink>(&mut self, setup: &Setup, reported: &[u8], output: &mut W) -> Result<u64, Fault>
         requires { W.failures output.old < 2 ^ 64 - 1 }
-        ensures drawn { IfOk result (DrawsLast self.old.drawing.canvas (W.taken output.old) (W.taken output.new)
+        ensures drawn { IfOk result
+            (DrawsLast self.old.drawing.canvas (W.taken output.old) (W.taken output.new)
             (source_of setup.now + 1) self.old.drawing.entries reported.now
             (SaysEnd self.old.drawing.entries self.old.drawing.store.taken 0)) }
         ensures fault { IfErr result IsWriteFault }

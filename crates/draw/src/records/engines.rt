@@ -113,7 +113,8 @@ fn judged_page<H: Judging, R: Source, W: Sink>(
 /// Writes the end of a page.
 fn end_page<W: Sink>(alloc: Global, drawn: &DrawnEntry, output: &mut W) -> Result<(), Fault>
     requires { W.failures output.old < 2 ^ 64 - 1 }
-    ensures drawn { OnOk result ((options : Options) (said : Said) (reported : List ℕ) (first : Option (List ℕ)) →
+    ensures drawn { OnOk result
+        ((options : Options) (said : Said) (reported : List ℕ) (first : Option (List ℕ)) →
         DrawsBandsOf options form_variants.Page drawn.now first (W.taken output.old) said reported →
         DrawsAsked options form_variants.Page said reported first (W.taken output.new)) }
     ensures fault { IfErr result IsWriteFault }
@@ -209,7 +210,12 @@ fn write_picture<W: Sink>(
     output: &mut W,
 ) -> Result<(), Fault>
     requires { W.failures output.old < 2 ^ 64 - 1 }
-    ensures drawn { OnOk result ((options : Options) (said : Said) (reported : List ℕ) → DrawsBandsOf options (form_variants.Picture 34) drawn.now (Some []) (Some bands.now) said reported → DrawsAsked options (form_variants.Picture 34) said reported (W.taken output.old) (W.taken output.new)) }
+    ensures drawn { OnOk result
+        ((options : Options) (said : Said) (reported : List ℕ) →
+        DrawsBandsOf options (form_variants.Picture 34) drawn.now (Some []) (Some bands.now) said
+        reported →
+        DrawsAsked options (form_variants.Picture 34) said reported (W.taken output.old)
+        (W.taken output.new)) }
     ensures fault { IfErr result IsWriteFault }
     ensures failures { W.failures output.new ≡ W.failures output.old + failed_write result }
 {
@@ -235,7 +241,9 @@ fn draw_bands<R: Source, W: Sink>(
 ) -> Result<DrawnEntry, Fault>
     requires reads { R.failures input.old < 2 ^ 64 - 1 }
     requires writes { W.failures output.old < 2 ^ 64 - 1 }
-    ensures drawn { IfOk result (λ drawn. IfSome (R.to_come input.old) (DrawsAllBands options form drawn (W.taken output.old) (W.taken output.new))) }
+    ensures drawn { IfOk result
+        (λ drawn. IfSome (R.to_come input.old)
+        (DrawsAllBands options form drawn (W.taken output.old) (W.taken output.new))) }
     ensures good { IfOk result (λ drawn. checked drawn.setup ≡ Ok tt) }
     ensures end { IfOk result (λ _. IsAtEnd (R.to_come input.new)) }
     ensures fault { IfErr result (λ fault. IsDrawFault fault (R.to_come input.old)) }
@@ -261,7 +269,10 @@ fn draw_lines<R: Source, W: Sink>(
     requires stands { (taken : Option (List ℕ)) → Stands sheet.old None [] taken taken }
     requires reads { R.failures input.old < 2 ^ 64 - 1 }
     requires writes { W.failures output.old < 2 ^ 64 - 1 }
-    ensures drawn { IfOk result (λ drawn. IfSome (R.to_come input.old) (DrawsAllBands sheet.old.options sheet.old.form drawn (W.taken output.old) (W.taken output.new))) }
+    ensures drawn { IfOk result
+        (λ drawn. IfSome (R.to_come input.old)
+        (DrawsAllBands sheet.old.options sheet.old.form drawn (W.taken output.old)
+            (W.taken output.new))) }
     ensures good { IfOk result (λ drawn. checked drawn.setup ≡ Ok tt) }
     ensures end { IfOk result (λ _. IsAtEnd (R.to_come input.new)) }
     ensures fault { IfErr result (λ fault. IsDrawFault fault (R.to_come input.old)) }
@@ -288,7 +299,11 @@ fn judge_bands<H: Judging, R: Source, W: Sink>(
 ) -> Result<(DrawnEntry, u8), Fault>
     requires reads { R.failures input.old < 2 ^ 64 - 1 }
     requires writes { W.failures output.old < 2 ^ 64 - 1 }
-    ensures drawn { IfOk result (λ answer. IfSome (R.to_come input.old) (IsOfRecord (IsJudged H.Keeps H.Reports answer.1 (DrawsBandsOf options form answer.0 (W.taken output.old) (W.taken output.new))))) }
+    ensures drawn { IfOk result
+        (λ answer. IfSome (R.to_come input.old)
+        (IsOfRecord
+            (IsJudged H.Keeps H.Reports answer.1
+            (DrawsBandsOf options form answer.0 (W.taken output.old) (W.taken output.new))))) }
     ensures good { IfOk result (λ answer. checked answer.0.setup ≡ Ok tt) }
     ensures end { IfOk result (λ _. IsAtEnd (R.to_come input.new)) }
     ensures fault { IfErr result (λ fault. IsDrawFault fault (R.to_come input.old)) }
@@ -314,7 +329,12 @@ fn judge_sheet<H: Judging, R: Source, W: Sink>(
     requires stands { (taken : Option (List ℕ)) → Stands sheet.old None [] taken taken }
     requires reads { R.failures input.old < 2 ^ 64 - 1 }
     requires writes { W.failures output.old < 2 ^ 64 - 1 }
-    ensures drawn { IfOk result (λ answer. IfSome (R.to_come input.old) (IsOfRecord (IsJudged H.Keeps H.Reports answer.1 (DrawsBandsOf sheet.old.options sheet.old.form answer.0 (W.taken output.old) (W.taken output.new))))) }
+    ensures drawn { IfOk result
+        (λ answer. IfSome (R.to_come input.old)
+        (IsOfRecord
+            (IsJudged H.Keeps H.Reports answer.1
+            (DrawsBandsOf sheet.old.options sheet.old.form answer.0 (W.taken output.old)
+            (W.taken output.new))))) }
     ensures good { IfOk result (λ answer. checked answer.0.setup ≡ Ok tt) }
     ensures end { IfOk result (λ _. IsAtEnd (R.to_come input.new)) }
     ensures fault { IfErr result (λ fault. IsDrawFault fault (R.to_come input.old)) }
@@ -341,7 +361,9 @@ fn judge_lines<H: Judging, R: Source, W: Sink>(
     requires stands { (taken : Option (List ℕ)) → Stands sheet.old None [] taken taken }
     requires reads { R.failures input.old < 2 ^ 64 - 1 }
     requires writes { W.failures output.old < 2 ^ 64 - 1 }
-    ensures read { OnOk result (HasRead H.HasObserved H.Keeps H.finds_good (R.to_come input.old) lines.new.taken trial.new.reader trial.new.observer sheet.new (W.taken output.old) (W.taken output.new)) }
+    ensures read { OnOk result
+        (HasRead H.HasObserved H.Keeps H.finds_good (R.to_come input.old) lines.new.taken
+        trial.new.reader trial.new.observer sheet.new (W.taken output.old) (W.taken output.new)) }
     ensures form { OnOk result (sheet.new.form ≡ sheet.old.form) }
     ensures options { OnOk result (sheet.new.options ≡ sheet.old.options) }
     ensures end { OnOk result (IsAtEnd (R.to_come input.new)) }
@@ -374,9 +396,19 @@ fn end_judged<H: Judging, W: Sink>(
     output: &mut W,
 ) -> Result<(DrawnEntry, u8), Fault>
     requires { W.failures output.old < 2 ^ 64 - 1 }
-    ensures drawn { IfOk result (λ answer. (to_come first : Option (List ℕ)) → HasRead H.HasObserved H.Keeps H.finds_good to_come lines.now.taken trial.reader trial.observer sheet.old first (W.taken output.old) → IfSome to_come (IsOfRecord (IsJudged H.Keeps H.Reports answer.1 (DrawsBandsOf sheet.old.options sheet.old.form answer.0 first (W.taken output.new))))) }
+    ensures drawn { IfOk result
+        (λ answer. (to_come first : Option (List ℕ)) →
+        HasRead H.HasObserved H.Keeps H.finds_good to_come lines.now.taken trial.reader
+        trial.observer sheet.old first (W.taken output.old) →
+        IfSome to_come
+        (IsOfRecord
+            (IsJudged H.Keeps H.Reports answer.1
+            (DrawsBandsOf sheet.old.options sheet.old.form answer.0 first (W.taken output.new))))) }
     ensures good { IfOk result (λ answer. checked answer.0.setup ≡ Ok tt) }
-    ensures fault { IfErr result (λ fault. (to_come first : Option (List ℕ)) → HasRead H.HasObserved H.Keeps H.finds_good to_come lines.now.taken trial.reader trial.observer sheet.old first (W.taken output.old) → IsDrawFault fault to_come) }
+    ensures fault { IfErr result
+        (λ fault. (to_come first : Option (List ℕ)) →
+        HasRead H.HasObserved H.Keeps H.finds_good to_come lines.now.taken trial.reader
+        trial.observer sheet.old first (W.taken output.old) → IsDrawFault fault to_come) }
     ensures reads { failed_reading result ≡ 0 }
     ensures failures { W.failures output.new ≡ W.failures output.old + failed_write result }
 {
@@ -391,7 +423,10 @@ fn end_judged<H: Judging, W: Sink>(
 
 /// Returns what a judge tells of the lines that were read, or `None` if all of them were skipped.
 fn reporting_of<H: Judging>(alloc: Global, trial: Trial<H>) -> Result<Option<Reporting>, AllocError>
-    ensures { IfOk result (λ reporting. (before : Option Progress) (entries : List Noted) (numbers : List ℕ) → ObserverStands H.HasObserved trial.reader trial.observer before entries numbers → ReportsOfLines H.Reports reporting before entries numbers) }
+    ensures { IfOk result
+        (λ reporting. (before : Option Progress) (entries : List Noted) (numbers : List ℕ) →
+        ObserverStands H.HasObserved trial.reader trial.observer before entries numbers →
+        ReportsOfLines H.Reports reporting before entries numbers) }
 {
     match trial.into_observer()? {
         None => Ok(None),

@@ -65,8 +65,14 @@ impl RecordPicture {
         requires writes { W.failures output.old < 2 ^ 64 - 1 }
         ensures form { self.new.form ≡ self.old.form }
         ensures options { self.new.options ≡ self.old.options }
-        ensures drawn { OnOk result ((before : Option Progress) (past : Past) (first : Option (List ℕ)) → Stands self.old before past first (W.taken output.old) → GoesOn (line_read line.now before) self.new past first (W.taken output.new)) }
-        ensures fault { IfErr result (λ fault. LineStops fault number (λ kind. (before : Option Progress) → self.old.reader ≡ before → line_read line.now before ≡ Err kind)) }
+        ensures drawn { OnOk result
+            ((before : Option Progress) (past : Past) (first : Option (List ℕ)) →
+            Stands self.old before past first (W.taken output.old) →
+            GoesOn (line_read line.now before) self.new past first (W.taken output.new)) }
+        ensures fault { IfErr result
+            (λ fault. LineStops fault number
+            (λ kind. (before : Option Progress) → self.old.reader ≡ before →
+                line_read line.now before ≡ Err kind)) }
         ensures failures { W.failures output.new ≡ W.failures output.old + failed_write result }
     {
         if self.observes_none() {
@@ -88,8 +94,14 @@ impl RecordPicture {
         requires writes { W.failures output.old < 2 ^ 64 - 1 }
         ensures form { self.new.form ≡ self.old.form }
         ensures options { self.new.options ≡ self.old.options }
-        ensures drawn { OnOk result ((before : Option Progress) (past : Past) (first : Option (List ℕ)) → Stands self.old before past first (W.taken output.old) → GoesOn (line_read line.now before) self.new past first (W.taken output.new)) }
-        ensures fault { IfErr result (λ fault. LineStops fault number (λ kind. (before : Option Progress) → self.old.reader ≡ before → line_read line.now before ≡ Err kind)) }
+        ensures drawn { OnOk result
+            ((before : Option Progress) (past : Past) (first : Option (List ℕ)) →
+            Stands self.old before past first (W.taken output.old) →
+            GoesOn (line_read line.now before) self.new past first (W.taken output.new)) }
+        ensures fault { IfErr result
+            (λ fault. LineStops fault number
+            (λ kind. (before : Option Progress) → self.old.reader ≡ before →
+                line_read line.now before ≡ Err kind)) }
         ensures failures { W.failures output.new ≡ W.failures output.old + failed_write result }
     {
         if self.observes_step(line, output)? {
@@ -121,7 +133,11 @@ impl RecordPicture {
         requires writes { W.failures output.old < 2 ^ 64 - 1 }
         ensures form { self.new.form ≡ self.old.form }
         ensures options { self.new.options ≡ self.old.options }
-        ensures observed { IfOk result (λ observed. observed ≡ true → (before : Option Progress) (past : Past) (first : Option (List ℕ)) → Stands self.old before past first (W.taken output.old) → GoesOn (line_read line.now before) self.new past first (W.taken output.new)) }
+        ensures observed { IfOk result
+            (λ observed. observed ≡ true →
+            (before : Option Progress) (past : Past) (first : Option (List ℕ)) →
+            Stands self.old before past first (W.taken output.old) →
+            GoesOn (line_read line.now before) self.new past first (W.taken output.new)) }
         ensures same { IfOk result (λ observed. observed ≡ false → self.new ≡ self.old) }
         ensures unwritten { IfOk result (λ observed. observed ≡ false → output.new ≡ output.old) }
         ensures fault { IfErr result IsWriteFault }
@@ -146,8 +162,14 @@ impl RecordPicture {
         requires writes { W.failures output.old < 2 ^ 64 - 1 }
         ensures form { self.new.form ≡ self.old.form }
         ensures options { self.new.options ≡ self.old.options }
-        ensures drawn { OnOk result ((before : Option Progress) (past : Past) (first : Option (List ℕ)) → Stands self.old before past first (W.taken output.old) → GoesOn (line_read line.now before) self.new past first (W.taken output.new)) }
-        ensures fault { IfErr result (λ fault. LineStops fault number (λ kind. (before : Option Progress) → self.old.reader ≡ before → line_read line.now before ≡ Err kind)) }
+        ensures drawn { OnOk result
+            ((before : Option Progress) (past : Past) (first : Option (List ℕ)) →
+            Stands self.old before past first (W.taken output.old) →
+            GoesOn (line_read line.now before) self.new past first (W.taken output.new)) }
+        ensures fault { IfErr result
+            (λ fault. LineStops fault number
+            (λ kind. (before : Option Progress) → self.old.reader ≡ before →
+                line_read line.now before ≡ Err kind)) }
         ensures failures { W.failures output.new ≡ W.failures output.old + failed_write result }
     {
         let _nested: NestedTypes = None;
@@ -178,7 +200,14 @@ impl RecordPicture {
     pub fn end<W: Sink>(&mut self, reported: &[u8], output: &mut W) -> Result<Option<DrawnEntry>, Fault>
         requires { W.failures output.old < 2 ^ 64 - 1 }
         ensures none { IfOk result (λ drawn. drawn ≡ None → self.old.reader ≡ None) }
-        ensures drawn { IfOk result (λ drawn. IfSome drawn (λ d. (p : Progress) (past : Past) (first : Option (List ℕ)) → self.old.reader ≡ Some p → Stands self.old (Some p) past first (W.taken output.old) → (d.setup ≡ p.head.setup) × EndsAsked self.old.options self.old.form p.head.setup past reported.now d.shows d.opening.items d.height first (W.taken output.new))) }
+        ensures drawn { IfOk result
+            (λ drawn. IfSome drawn
+            (λ d. (p : Progress) (past : Past) (first : Option (List ℕ)) →
+                self.old.reader ≡ Some p →
+                Stands self.old (Some p) past first (W.taken output.old) →
+                (d.setup ≡ p.head.setup)
+                × EndsAsked self.old.options self.old.form p.head.setup past reported.now d.shows
+                d.opening.items d.height first (W.taken output.new))) }
         ensures present { IfOk result (λ drawn. IfSome drawn (λ _. IsSome self.old.reader)) }
         ensures good { IfOk result (λ drawn. IfSome drawn (λ d. checked d.setup ≡ Ok tt)) }
         ensures fault { IfErr result IsWriteFault }

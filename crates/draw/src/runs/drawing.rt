@@ -56,9 +56,9 @@ pub(crate) fn draw_bands<W: Sink, L: ProgressObserver>(
     progress_observer: &mut L,
 ) -> Result<DrawnRun, Fault>
     requires { W.failures output.old < 2 ^ 64 - 1 }
-    ensures drawn { IfOk result (λ drawn. DrawsBands (plan_of form options.window scenario.now.setup)
-        (W.taken output.old) (W.taken output.new)
-        (run_given (full_view options) (script scenario.now)) drawn.height) }
+    ensures drawn { IfOk result
+        (λ drawn. DrawsBands (plan_of form options.window scenario.now.setup) (W.taken output.old)
+        (W.taken output.new) (run_given (full_view options) (script scenario.now)) drawn.height) }
     ensures summary { IfOk result (λ drawn. drawn.summary
         ≡ summary_of scenario.now.setup (happenings (script scenario.now))) }
     ensures opening { IfOk result (λ drawn. drawn.opening.items
@@ -119,10 +119,14 @@ impl RunDrawing {
         options: PictureOptions,
     ) -> Result<RunDrawing, Fault>
         requires { checked setup.now ≡ Ok tt }
-        ensures tally { IfOk result (λ run. tally run ≡ record { events = 0; taken = 0; refused = 0 }) }
-        ensures first { IfOk result (λ run. kept run.drawing.canvas ≡ kept_at_first (plan_of form options.window setup.now)) }
+        ensures tally { IfOk result
+            (λ run. tally run ≡ record { events = 0; taken = 0; refused = 0 }) }
+        ensures first { IfOk result
+            (λ run. kept run.drawing.canvas
+            ≡ kept_at_first (plan_of form options.window setup.now)) }
         ensures source { IfOk result (λ run. run.drawing.source ≡ length setup.now.opening + 5) }
-        ensures recalls { IfOk result (λ run. Recalls (full_view options) setup.now [] run.drawing) }
+        ensures recalls { IfOk result
+            (λ run. Recalls (full_view options) setup.now [] run.drawing) }
         ensures fault { IfErr result IsWriteFault }
         ensures failures { failed_write result ≡ 0 }
     {
@@ -141,7 +145,9 @@ impl RunDrawing {
         requires writes { W.failures output.old < 2 ^ 64 - 1 }
         requires events { self.old.drawing.entries < 2 ^ 64 - 1 }
         requires refused { self.old.refused < 2 ^ 64 - 1 }
-        ensures drawn { OnOk result (DrawsReported self.old self.new reported.now (W.taken output.old) (W.taken output.new)) }
+        ensures drawn { OnOk result
+            (DrawsReported self.old self.new reported.now (W.taken output.old)
+            (W.taken output.new)) }
         ensures source { self.new.drawing.source ≡ self.old.drawing.source }
         ensures count { OnOk result (tally self.new ≡ counted reported.now (tally self.old)) }
         ensures fault { IfErr result IsWriteFault }

@@ -60,8 +60,11 @@ fn draw_page<W: Sink, L: ProgressObserver>(
     progress_observer: &mut L,
 ) -> Result<Summary, Fault>
     requires { W.failures output.old < 2 ^ 64 - 1 }
-    ensures drawn { OnOk result (DrawsAll options form_variants.Page file.now (script scenario.now) (W.taken output.old) (W.taken output.new)) }
-    ensures summary { IfOk result (λ summary. summary ≡ summary_of scenario.now.setup (happenings (script scenario.now))) }
+    ensures drawn { OnOk result
+        (DrawsAll options form_variants.Page file.now (script scenario.now) (W.taken output.old)
+        (W.taken output.new)) }
+    ensures summary { IfOk result
+        (λ summary. summary ≡ summary_of scenario.now.setup (happenings (script scenario.now))) }
     ensures fault { IfErr result IsWriteFault }
     ensures failures { W.failures output.new ≡ W.failures output.old + failed_write result }
 {
@@ -82,7 +85,8 @@ fn draw_behind<W: Sink, L: ProgressObserver>(
     requires { W.failures output.old < 2 ^ 64 - 1 }
     ensures drawn { OnOk result (DrawsPage options head.now (script scenario.now)
         (W.taken output.old) (W.taken output.new)) }
-    ensures summary { IfOk result (λ summary. summary ≡ summary_of scenario.now.setup (happenings (script scenario.now))) }
+    ensures summary { IfOk result
+        (λ summary. summary ≡ summary_of scenario.now.setup (happenings (script scenario.now))) }
     ensures fault { IfErr result IsWriteFault }
     ensures failures { W.failures output.new ≡ W.failures output.old + failed_write result }
 {
@@ -111,8 +115,11 @@ fn draw_framed<W: Sink, L: ProgressObserver>(
     progress_observer: &mut L,
 ) -> Result<Summary, Fault>
     requires { W.failures output.old < 2 ^ 64 - 1 }
-    ensures drawn { OnOk result (DrawsFramed frame.now.options frame.now.form frame.now.head frame.now.end (script scenario.now) (W.taken output.old) (W.taken output.new)) }
-    ensures summary { IfOk result (λ summary. summary ≡ summary_of scenario.now.setup (happenings (script scenario.now))) }
+    ensures drawn { OnOk result
+        (DrawsFramed frame.now.options frame.now.form frame.now.head frame.now.end
+        (script scenario.now) (W.taken output.old) (W.taken output.new)) }
+    ensures summary { IfOk result
+        (λ summary. summary ≡ summary_of scenario.now.setup (happenings (script scenario.now))) }
     ensures fault { IfErr result IsWriteFault }
     ensures failures { W.failures output.new ≡ W.failures output.old + failed_write result }
 {
@@ -188,8 +195,11 @@ fn draw_scenario<W: Sink, L: ProgressObserver>(
     progress_observer: &mut L,
 ) -> Result<Summary, Fault>
     requires { W.failures output.old < 2 ^ 64 - 1 }
-    ensures drawn { OnOk result (DrawsAll options form file.now (script scenario.now) (W.taken output.old) (W.taken output.new)) }
-    ensures summary { IfOk result (λ summary. summary ≡ summary_of scenario.now.setup (happenings (script scenario.now))) }
+    ensures drawn { OnOk result
+        (DrawsAll options form file.now (script scenario.now) (W.taken output.old)
+        (W.taken output.new)) }
+    ensures summary { IfOk result
+        (λ summary. summary ≡ summary_of scenario.now.setup (happenings (script scenario.now))) }
     ensures fault { IfErr result IsWriteFault }
     ensures failures { W.failures output.new ≡ W.failures output.old + failed_write result }
 {
@@ -210,8 +220,11 @@ fn draw_picture<W: Sink, L: ProgressObserver>(
     progress_observer: &mut L,
 ) -> Result<Summary, Fault>
     requires { W.failures output.old < 2 ^ 64 - 1 }
-    ensures drawn { OnOk result (DrawsAll options (form_variants.Picture top) file.now (script scenario.now) (W.taken output.old) (W.taken output.new)) }
-    ensures summary { IfOk result (λ summary. summary ≡ summary_of scenario.now.setup (happenings (script scenario.now))) }
+    ensures drawn { OnOk result
+        (DrawsAll options (form_variants.Picture top) file.now (script scenario.now)
+        (W.taken output.old) (W.taken output.new)) }
+    ensures summary { IfOk result
+        (λ summary. summary ≡ summary_of scenario.now.setup (happenings (script scenario.now))) }
     ensures fault { IfErr result IsWriteFault }
     ensures failures { W.failures output.new ≡ W.failures output.old + failed_write result }
 {

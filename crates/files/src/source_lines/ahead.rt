@@ -65,10 +65,13 @@ impl ReadAhead {
     pub fn fill<R: Source>(&mut self, input: &mut R) -> Result<bool, Fault>
         requires { R.failures input.old < 2 ^ 64 - 1 }
         ensures nonempty { IfOk result (λ some. some ≡ true → 0 < length self.new.given.bytes) }
-        ensures stays { Waits result self.old.given (R.to_come input.old) self.new.given (R.to_come input.new) }
-        ensures end { Ends result self.old.given (R.to_come input.old) self.new.given (R.to_come input.new) }
+        ensures stays { Waits result self.old.given (R.to_come input.old) self.new.given
+            (R.to_come input.new) }
+        ensures end { Ends result self.old.given (R.to_come input.old) self.new.given
+            (R.to_come input.new) }
         ensures ended { IfOk result (λ some. some ≡ false → self.new.given.ended ≡ true) }
-        ensures holds { KeepsEnd self.old.given (R.to_come input.old) self.new.given (R.to_come input.new) }
+        ensures holds { KeepsEnd self.old.given (R.to_come input.old) self.new.given
+            (R.to_come input.new) }
         ensures stays_ended { self.old.given.ended ≡ true → self.new.given.ended ≡ true }
         ensures left_alone { self.old.given.ended ≡ true → input.new ≡ input.old }
         ensures fault { IfErr result IsReadFault }

@@ -36,7 +36,8 @@ impl Process {
         requires enabled { may_step self.old.doing ≡ true }
         ensures process { self.new ≡ stepped self.old flick value }
         ensures marks { marks_reported result ≡ marks_on self.old flick value }
-        ensures changes { IfSome (changes_reported result) (λ changes. changes ≡ changes_read self.old.doing) }
+        ensures changes { IfSome (changes_reported result)
+            (λ changes. changes ≡ changes_read self.old.doing) }
     {
         let fresh = self.cursor.is_fresh();
         let how = self.cursor.next(self.work.given(flick, value)).how;
@@ -54,9 +55,11 @@ pub(super) fn go_on(
     fresh: bool,
 ) -> StepOutcome
     requires moved { IsMoved called.old work.old cursor.old fresh }
-    ensures doing { IsStepped called.old work.old cursor.old fresh (state_at called.new work.new cursor.new) }
+    ensures doing { IsStepped called.old work.old cursor.old fresh
+        (state_at called.new work.new cursor.new) }
     ensures marks { AreMarksOn called.old work.old cursor.old fresh (marks_reported result) }
-    ensures changes { IfSome (changes_reported result) (λ changes. (work.old ≡ Activity.Runs) × (changes ≡ changes_at called.old.part)) }
+    ensures changes { IfSome (changes_reported result)
+        (λ changes. (work.old ≡ Activity.Runs) × (changes ≡ changes_at called.old.part)) }
     ensures keeps { KeepsPlace called.new work.new cursor.new }
 {
     match *work {
@@ -78,9 +81,11 @@ fn run_on(
 ) -> StepOutcome
     requires runs { work.old ≡ Activity.Runs }
     requires moved { IsMoved called.old Activity.Runs cursor.old fresh }
-    ensures doing { IsStepped called.old Activity.Runs cursor.old fresh (state_at called.new work.new cursor.new) }
+    ensures doing { IsStepped called.old Activity.Runs cursor.old fresh
+        (state_at called.new work.new cursor.new) }
     ensures marks { AreMarksOn called.old Activity.Runs cursor.old fresh (marks_reported result) }
-    ensures changes { IfSome (changes_reported result) (λ changes. changes ≡ changes_at called.old.part) }
+    ensures changes { IfSome (changes_reported result)
+        (λ changes. changes ≡ changes_at called.old.part) }
     ensures keeps { KeepsPlace called.new work.new cursor.new }
 {
     if !cursor.is_over() {
@@ -111,8 +116,11 @@ fn outcome_of_first(fresh: bool, leaves: bool) -> StepOutcome
 fn withdraw_on(called: &CallPart, work: &mut Activity, cursor: &Cursor) -> StepOutcome
     requires withdraws { work.old ≡ Activity.Withdraws }
     requires moved { (fresh : Bool) × IsMoved called.now Activity.Withdraws cursor.now fresh }
-    ensures doing { (fresh : Bool) → IsStepped called.now Activity.Withdraws cursor.now fresh (state_at called.now work.new cursor.now) }
-    ensures marks { (fresh : Bool) → AreMarksOn called.now Activity.Withdraws cursor.now fresh (marks_reported result) }
+    ensures doing { (fresh : Bool) →
+        IsStepped called.now Activity.Withdraws cursor.now fresh
+        (state_at called.now work.new cursor.now) }
+    ensures marks { (fresh : Bool) →
+        AreMarksOn called.now Activity.Withdraws cursor.now fresh (marks_reported result) }
     ensures changes { changes_reported result ≡ None }
     ensures keeps { KeepsPlace called.now work.new cursor.now }
 {
@@ -132,9 +140,14 @@ fn settle_on(
     taken: &Option<(bool, Reply)>,
 ) -> StepOutcome
     requires settles { work.old ≡ Activity.Settles inside taken.now }
-    requires moved { (fresh : Bool) × IsMoved called.now (Activity.Settles inside taken.now) cursor.old fresh }
-    ensures doing { (fresh : Bool) → IsStepped called.now (Activity.Settles inside taken.now) cursor.old fresh (state_at called.now work.new cursor.new) }
-    ensures marks { (fresh : Bool) → AreMarksOn called.now (Activity.Settles inside taken.now) cursor.old fresh (marks_reported result) }
+    requires moved { (fresh : Bool)
+        × IsMoved called.now (Activity.Settles inside taken.now) cursor.old fresh }
+    ensures doing { (fresh : Bool) →
+        IsStepped called.now (Activity.Settles inside taken.now) cursor.old fresh
+        (state_at called.now work.new cursor.new) }
+    ensures marks { (fresh : Bool) →
+        AreMarksOn called.now (Activity.Settles inside taken.now) cursor.old fresh
+        (marks_reported result) }
     ensures changes { changes_reported result ≡ None }
     ensures keeps { KeepsPlace called.now work.new cursor.new }
 {
@@ -149,8 +162,10 @@ fn settle_on(
 
 /// Returns the value at which a bit was settled.
 fn value_settled(cursor: &Cursor) -> bool
-    requires { (cut : ℕ) × (value : Bool) × (cursor.now.run ≡ RegisterAccessKind.Settles cut (Some value)) }
-    ensures { (cut : ℕ) (value : Bool) → cursor.now.run ≡ RegisterAccessKind.Settles cut (Some value) → result ≡ value }
+    requires { (cut : ℕ) × (value : Bool)
+        × (cursor.now.run ≡ RegisterAccessKind.Settles cut (Some value)) }
+    ensures { (cut : ℕ) (value : Bool) →
+        cursor.now.run ≡ RegisterAccessKind.Settles cut (Some value) → result ≡ value }
 {
     match cursor.run() {
         RegisterAccessKind::Settles {
@@ -163,7 +178,8 @@ fn value_settled(cursor: &Cursor) -> bool
 
 /// Returns the outcome of the last access of a settling at `value`.
 fn outcome_of_settling(value: bool, taken: &Option<(bool, Reply)>) -> StepOutcome
-    ensures marks { (begun : Bool) → IfSome taken.now (λ (t : Bool × Reply). t.0 ≡ begun) → marks_reported result ≡ settled_marks begun (reply_taken taken.now) value }
+    ensures marks { (begun : Bool) → IfSome taken.now (λ (t : Bool × Reply). t.0 ≡ begun) →
+        marks_reported result ≡ settled_marks begun (reply_taken taken.now) value }
     ensures changes { changes_reported result ≡ None }
 {
     match taken {
@@ -182,8 +198,10 @@ fn free_on(
 ) -> StepOutcome
     requires frees { work.old ≡ Activity.Frees inside }
     requires moved { IsMoved called.now (Activity.Frees inside) cursor.old fresh }
-    ensures doing { IsStepped called.now (Activity.Frees inside) cursor.old fresh (state_at called.now work.new cursor.new) }
-    ensures marks { AreMarksOn called.now (Activity.Frees inside) cursor.old fresh (marks_reported result) }
+    ensures doing { IsStepped called.now (Activity.Frees inside) cursor.old fresh
+        (state_at called.now work.new cursor.new) }
+    ensures marks { AreMarksOn called.now (Activity.Frees inside) cursor.old fresh
+        (marks_reported result) }
     ensures changes { changes_reported result ≡ None }
     ensures keeps { KeepsPlace called.now work.new cursor.new }
 {
@@ -199,8 +217,11 @@ fn free_on(
 fn lower_on(called: &CallPart, work: &mut Activity, cursor: &Cursor) -> StepOutcome
     requires lowers { work.old ≡ Activity.Lowers }
     requires moved { (fresh : Bool) × IsMoved called.now Activity.Lowers cursor.now fresh }
-    ensures doing { (fresh : Bool) → IsStepped called.now Activity.Lowers cursor.now fresh (state_at called.now work.new cursor.now) }
-    ensures marks { (fresh : Bool) → AreMarksOn called.now Activity.Lowers cursor.now fresh (marks_reported result) }
+    ensures doing { (fresh : Bool) →
+        IsStepped called.now Activity.Lowers cursor.now fresh
+        (state_at called.now work.new cursor.now) }
+    ensures marks { (fresh : Bool) →
+        AreMarksOn called.now Activity.Lowers cursor.now fresh (marks_reported result) }
     ensures changes { changes_reported result ≡ None }
     ensures keeps { KeepsPlace called.now work.new cursor.now }
 {

@@ -98,7 +98,8 @@ fn number_at(called: &CallPart, cursor: &Cursor) -> u32
 /// Returns whether a part reads a register that holds a number.
 fn reads_number(called: &CallPart) -> bool
     ensures reads { result ≡ reads_number called.now.part }
-    ensures narrow { result ≡ true → width called.now.call.setup (read_at called.now.call called.now.part).1 ≤ 32 }
+    ensures narrow { result ≡ true →
+        width called.now.call.setup (read_at called.now.call called.now.part).1 ≤ 32 }
 {
     match called.asks() {
         AccessRequest::Reads { .. } => !called.reads_image(),
@@ -108,7 +109,8 @@ fn reads_number(called: &CallPart) -> bool
 
 /// Returns the bytes of what a cursor writes, if it writes.
 fn bytes_written(cursor: &Cursor) -> Option<[u8; 216]>
-    ensures { result ≡ cond (is_writing cursor.now.run) (Some (register_bytes cursor.now.bits)) None }
+    ensures { result
+        ≡ cond (is_writing cursor.now.run) (Some (register_bytes cursor.now.bits)) None }
 {
     match cursor.run() {
         RegisterAccessKind::Writes => Some(cursor.register_bytes()),
@@ -121,7 +123,8 @@ fn settling_at(cursor: &Cursor) -> Option<Settling>
     requires going { cursor.now.bit < cursor.now.width }
     requires inside { cursor.now.bit < length cursor.now.bits }
     requires reader { cursor.now.reader ≡ 0 }
-    ensures { (inside : Bool) (taken : Option Replied) → result ≡ settling_in (settling_at cursor.now.run inside taken cursor.now) }
+    ensures { (inside : Bool) (taken : Option Replied) →
+        result ≡ settling_in (settling_at cursor.now.run inside taken cursor.now) }
 {
     let RegisterAccessKind::Settles { cut, value } = cursor.run() else {
         return None;

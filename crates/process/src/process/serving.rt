@@ -37,10 +37,13 @@ impl Process {
         requires enabled { may_step self.old.doing ≡ true }
         requires memory { AreOf self.old.setup memory.old }
         ensures access { result.access ≡ answered_at self.old memory.old flick }
-        ensures overlapped { result.overlapped ≡ ends_overlapped self.old.setup.processes memory.old result.access }
+        ensures overlapped { result.overlapped
+            ≡ ends_overlapped self.old.setup.processes memory.old result.access }
         ensures process { self.new ≡ stepped self.old flick (value_of result.access.how) }
-        ensures marks { marks_reported reported.new ≡ marks_on self.old flick (value_of result.access.how) }
-        ensures changes { IfSome (changes_reported reported.new) (λ changes. changes ≡ changes_read self.old.doing) }
+        ensures marks { marks_reported reported.new
+            ≡ marks_on self.old flick (value_of result.access.how) }
+        ensures changes { IfSome (changes_reported reported.new)
+            (λ changes. changes ≡ changes_read self.old.doing) }
         ensures memory { memory.new ≡ applied self.old.setup.processes memory.old result.access }
     {
         let fresh = self.cursor.is_fresh();
@@ -88,9 +91,11 @@ impl Process {
         requires nonzero { 0 < steps }
         requires remaining { steps ≤ remaining_at self.old }
         requires memory { AreOf self.old.setup memory.old }
-        ensures steps { (self.new, memory.new, flicks.new) ≡ steps_of steps (self.old, memory.old, flicks.old) }
+        ensures steps { (self.new, memory.new, flicks.new)
+            ≡ steps_of steps (self.old, memory.old, flicks.old) }
         ensures newest { result.newest ≡ newest_of steps (self.old, memory.old, flicks.old) }
-        ensures overlapped { result.overlapped ≡ overlapped_steps steps (self.old, memory.old, flicks.old) }
+        ensures overlapped { result.overlapped
+            ≡ overlapped_steps steps (self.old, memory.old, flicks.old) }
     {
         memory.run(&mut self.cursor, flicks, steps)
     }

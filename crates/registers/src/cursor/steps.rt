@@ -87,7 +87,8 @@ impl Cursor {
     #[inline(always)]
     pub(crate) fn bits_ahead(&self, steps: u32) -> u32
         ensures reads { self.now.run ≡ RegisterAccessKind.Reads → 2 * result ≤ steps }
-        ensures writes { self.now.run ≡ RegisterAccessKind.Writes → 2 * (self.now.copies * result) ≤ steps }
+        ensures writes { self.now.run ≡ RegisterAccessKind.Writes →
+            2 * (self.now.copies * result) ≤ steps }
         ensures ahead { 0 < result → AreAhead self.now result }
     {
         // (a call with 0 steps then returns at once)
@@ -106,7 +107,10 @@ impl Cursor {
     pub(crate) fn keep_word(&mut self, n: usize, word: u64)
         requires reads { self.old.run ≡ RegisterAccessKind.Reads }
         requires ahead { AreAhead self.old n }
-        ensures { self.new ≡ record self.old { bit = self.old.bit + n; bits = more_bits n (λ j. flag_in word ((self.old.bit + j) % 64)) self.old.bits } }
+        ensures { self.new
+            ≡ record self.old
+            { bit = self.old.bit + n;
+            bits = more_bits n (λ j. flag_in word ((self.old.bit + j) % 64)) self.old.bits } }
     {
         let bit = self.bit as usize;
         let old = word_at(&self.words, bit);

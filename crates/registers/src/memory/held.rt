@@ -32,7 +32,9 @@ impl BitMemory {
         requires good { checked setup.now ≡ Ok tt }
         requires memory { AreOf setup.now self.now }
         requires owner { register.owner < setup.now.processes }
-        ensures { (k : ℕ) → k < width setup.now register.field → bit_in result k ≡ slice_index_or (values_held setup.now.processes self.now register) k false }
+        ensures { (k : ℕ) → k < width setup.now register.field →
+            bit_in result k
+            ≡ slice_index_or (values_held setup.now.processes self.now register) k false }
     {
         bytes_of(&self.words_held(setup, register))
     }
@@ -42,7 +44,8 @@ impl BitMemory {
         requires good { checked setup.now ≡ Ok tt }
         requires memory { AreOf setup.now self.now }
         requires owner { register.owner < setup.now.processes }
-        ensures bits { bits_of_words result (width setup.now register.field) ≡ values_held setup.now.processes self.now register }
+        ensures bits { bits_of_words result (width setup.now register.field)
+            ≡ values_held setup.now.processes self.now register }
         ensures most { width setup.now register.field ≤ 1728 }
     {
         let width = usize::from(width_of(register.field, setup));

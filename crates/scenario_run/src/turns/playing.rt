@@ -162,7 +162,8 @@ impl ScenarioRun {
         requires bounded { self.old.remaining ≤ turns_of line.now }
         requires floor { floor < self.old.remaining }
         requires room { L.HasRoom observer.old self.old.remaining }
-        ensures remaining { IfOk result (λ reported. room_wanted reported self.new.remaining ≤ before.new) }
+        ensures remaining { IfOk result
+            (λ reported. room_wanted reported self.new.remaining ≤ before.new) }
         ensures fewer { IfOk result (λ reported. before.new ≤ self.old.remaining) }
         ensures observed { IfOk result (Comes L.Observes self.old line.now floor before.new
             self.new observer.old observer.new) }

@@ -31,7 +31,8 @@ impl ScenarioRun {
     ) -> Result<Option<TurnReport>, Fault>
         requires floor { floor ≤ self.old.remaining }
         requires room { L.HasRoom observer.old self.old.remaining }
-        ensures remaining { IfOk result (λ reported. room_wanted reported self.new.remaining ≤ before.new) }
+        ensures remaining { IfOk result
+            (λ reported. room_wanted reported self.new.remaining ≤ before.new) }
         ensures fewer { IfOk result (λ reported. before.new ≤ self.old.remaining) }
         ensures ended { IfOk result (λ reported. reported ≡ None → self.new.remaining ≡ floor) }
         ensures floor { IfOk result (λ reported. reported ≡ None → before.new ≡ floor) }
@@ -88,10 +89,12 @@ impl ScenarioRun {
         requires bounded { self.old.remaining ≤ turns_in (GoLine process target) }
         requires floor { floor < self.old.remaining }
         requires room { L.HasRoom observer.old self.old.remaining }
-        ensures remaining { IfOk result (λ reported. room_wanted reported self.new.remaining ≤ before.new) }
+        ensures remaining { IfOk result
+            (λ reported. room_wanted reported self.new.remaining ≤ before.new) }
         ensures fewer { IfOk result (λ reported. before.new ≤ self.old.remaining) }
-        ensures observed { IfOk result (Comes L.Observes self.old (GoLine process target) floor before.new
-            self.new observer.old observer.new) }
+        ensures observed { IfOk result
+            (Comes L.Observes self.old (GoLine process target) floor before.new self.new
+            observer.old observer.new) }
         ensures room { IfOk result
             (LeavesRoom L.HasRoom observer.old self.old.remaining observer.new self.new.remaining) }
         ensures cut { IfErr result (StopsAmid L.Stops self.old (GoLine process target)
@@ -134,7 +137,8 @@ impl ScenarioRun {
     ) -> Result<Option<TurnReport>, Fault>
         requires floor { floor < self.old.remaining }
         requires room { L.HasRoom observer.old self.old.remaining }
-        ensures remaining { IfOk result (λ reported. room_wanted reported self.new.remaining ≤ before.new) }
+        ensures remaining { IfOk result
+            (λ reported. room_wanted reported self.new.remaining ≤ before.new) }
         ensures fewer { IfOk result (λ reported. before.new ≤ self.old.remaining) }
         ensures observed { IfOk result (λ reported. (steps : ℕ) →
             Comes L.Observes self.old (WanderLine steps) floor before.new self.new
@@ -238,7 +242,8 @@ fn is_there(target: Target, stage: Stage) -> bool
 
 /// Returns the turns left after a reported Step, of `remaining`: a refused Step ends a line of one process.
 fn left_after(outcome: &Result<Option<TurnReport>, Fault>, remaining: u32) -> u32
-    ensures reported { IfOk outcome.now (λ reported. IfSome reported (λ reported. result ≡ remaining_after reported remaining)) }
+    ensures reported { IfOk outcome.now
+        (λ reported. IfSome reported (λ reported. result ≡ remaining_after reported remaining)) }
     ensures fault { IfErr outcome.now (λ fault. result ≡ remaining) }
     ensures fewer { result ≤ remaining }
 {

@@ -37,8 +37,8 @@ pub(super) fn pass_by<L: RunObserver>(
     ensures fewer { remaining.new ≤ remaining.old }
     ensures floor { floor ≤ remaining.new }
     ensures setup { world.new.setup ≡ world.old.setup }
-    ensures on { PassesAlone L.Observes (scenario_run world.old flicks.old remaining.old) process floor
-        (scenario_run world.new flicks.new remaining.new) observer.old observer.new }
+    ensures on { PassesAlone L.Observes (scenario_run world.old flicks.old remaining.old) process
+        floor (scenario_run world.new flicks.new remaining.new) observer.old observer.new }
     ensures room { LeavesRoom L.HasRoom observer.old remaining.old observer.new remaining.new None }
 {
     if observer.observes_steps() {
@@ -77,7 +77,8 @@ pub(super) fn turn_step<L: RunObserver>(
     ensures quiet { result ≡ true → outcome.new ≡ Ok None }
     ensures observed { IfOk outcome.new (λ reported. MakesStep L.Observes world.old process
         (flick_of flicks.old) reported world.new observer.old observer.new) }
-    ensures room { IfOk outcome.new (λ reported. LeavesRoom L.HasRoom observer.old 1 observer.new 0 reported) }
+    ensures room { IfOk outcome.new
+        (λ reported. LeavesRoom L.HasRoom observer.old 1 observer.new 0 reported) }
     ensures cut { IfErr outcome.new (λ fault. ObservesStep (StopsBy L.Stops fault) world.old process
         (flick_of flicks.old) world.new observer.old observer.new) }
     ensures setup { world.new.setup ≡ world.old.setup }
@@ -143,11 +144,14 @@ pub(super) fn any_step<L: RunObserver>(
     observer: &mut L,
 ) -> Result<Option<TurnReport>, Fault>
     requires { L.HasRoom observer.old 1 }
-    ensures observed { IfOk result (λ reported. MakesStep L.Observes world.old process flick reported
-        world.new observer.old observer.new) }
-    ensures room { IfOk result (λ reported. LeavesRoom L.HasRoom observer.old 1 observer.new 0 reported) }
-    ensures cut { IfErr result (λ fault.
-        ObservesStep (StopsBy L.Stops fault) world.old process flick world.new observer.old observer.new) }
+    ensures observed { IfOk result
+        (λ reported. MakesStep L.Observes world.old process flick reported world.new observer.old
+        observer.new) }
+    ensures room { IfOk result
+        (λ reported. LeavesRoom L.HasRoom observer.old 1 observer.new 0 reported) }
+    ensures cut { IfErr result
+        (λ fault. ObservesStep (StopsBy L.Stops fault) world.old process flick world.new
+        observer.old observer.new) }
     ensures setup { world.new.setup ≡ world.old.setup }
     ensures others { KeepOthers world.old.seats process world.new.seats }
 {
@@ -172,7 +176,8 @@ pub(super) fn any_step<L: RunObserver>(
 #[inline]
 fn unmarked(stepped: &Result<AccessMade, Refusal>, leads: &StepOutcome) -> Option<AccessMade>
     ensures step { IfSome result (λ made. (stepped.now ≡ Ok made) × (leads.now ≡ Nothing)) }
-    ensures none { result ≡ None → (made : MadeSeen) → stepped.now ≡ Ok made → leads.now ≡ Nothing → ⊥ }
+    ensures none { result ≡ None → (made : MadeSeen) → stepped.now ≡ Ok made → leads.now ≡ Nothing →
+        ⊥ }
 {
     let _nested: NestedTypes = None;
     match leads {

@@ -20,9 +20,12 @@ pub(super) fn draw_line<W: Sink>(
 ) -> Result<(), Fault>
     requires writes { W.failures output.old < 2 ^ 64 - 1 }
     requires room { CanCount (tally run.old) (2 ^ 32) }
-    ensures drawn { OnOk result (DrawsLine line.now scenario_run.old scenario_run.new run.old run.new (W.taken output.old) (W.taken output.new)) }
+    ensures drawn { OnOk result
+        (DrawsLine line.now scenario_run.old scenario_run.new run.old run.new (W.taken output.old)
+        (W.taken output.new)) }
     ensures source { OnOk result (run.new.drawing.source ≡ run.old.drawing.source) }
-    ensures room { OnOk result ((more : ℕ) → CanCount (tally run.old) (more + 2 ^ 32) → CanCount (tally run.new) more) }
+    ensures room { OnOk result
+        ((more : ℕ) → CanCount (tally run.old) (more + 2 ^ 32) → CanCount (tally run.new) more) }
     ensures fault { IfErr result IsWriteFault }
     ensures failures { W.failures output.new ≡ W.failures output.old + failed_write result }
 {
