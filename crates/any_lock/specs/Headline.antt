@@ -7,7 +7,7 @@ use Rattle.lock_stages.specs.{is_ahead}
 use Rattle.safe_monitor.specs.declared.verdicts.Verdict.{Verdict}
 use Rattle.any_lock.specs.declared.any_lock_law.AnyLockLaw.{AnyLockLaw}
 use Rattle.safe_monitor.specs.declared.verdicts.Verdict.TheVariants.{Good}
-use Rattle.any_lock.specs.Standings.{its_call, passage_in}
+use Rattle.any_lock.specs.ProcessViews.{its_call, passage_in}
 use Rattle.any_lock.specs.Verdicts.{verdict_of}
 
 -- A process enters only while no other process is ahead of it, so no process is overtaken.

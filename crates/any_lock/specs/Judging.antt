@@ -10,7 +10,7 @@ use Rattle.safe_monitor.specs.declared.verdicts.Verdict.{Verdict}
 use Rattle.safe_monitor.specs.declared.verdicts.Verdict.TheVariants.{Good, Bad}
 use Rattle.any_lock.specs.Keeping.{LockRunState, Knows}
 use Rattle.any_lock.specs.Reasons.{AreReasons, doorway_with, entered}
-use Rattle.any_lock.specs.Standings.{process_view}
+use Rattle.any_lock.specs.ProcessViews.{process_view}
 use Rattle.any_lock.specs.Laws.{first_broken}
 use Rattle.safe_monitor.specs.Verdicts.{verdict_with}
 use Rattle.any_lock.specs.Verdicts.{verdict_of}

@@ -10,7 +10,7 @@ use Rattle.any_lock.specs.declared.refusals.MarkRefusal.{MarkRefusal}
 use Rattle.any_lock.specs.declared.process_views.ProcessView.{ProcessView}
 use Rattle.any_lock.specs.declared.any_lock_law.AnyLockLaw.{AnyLockLaw}
 use Rattle.any_lock.specs.Refusals.{mark_refusal, same_reply}
-use Rattle.any_lock.specs.Standings.{begun_by, process_view, torn_after, write_of}
+use Rattle.any_lock.specs.ProcessViews.{begun_by, process_view, torn_after, write_of}
 
 -- the state of a process without entries
 abbrev pub at_rest : ProcessView

@@ -9,7 +9,7 @@ use Rattle.lock_stages.specs.{overtakes_another, joins_another}
 use Rattle.any_lock.specs.declared.any_lock_law.AnyLockLaw.{AnyLockLaw}
 use Rattle.any_lock.specs.declared.any_lock_law.AnyLockLaw.TheVariants as law
 use Rattle.any_lock.specs.Refusals.{first_that, refusal_of_access, refusal_of_marks, same_reply, same_truth}
-use Rattle.any_lock.specs.Standings.{passage_in, process_view}
+use Rattle.any_lock.specs.ProcessViews.{passage_in, process_view}
 
 -- after these moves of a bit a read ends with a wrong value: no write overlapped the read, and another value was written last before it began
 abbrev pub ends_wrongly : Bool → List Move → Move → Bool

@@ -15,7 +15,7 @@ use Rattle.any_lock.specs.declared.any_lock_law.AnyLockLaw.{AnyLockLaw}
 use Rattle.any_lock.specs.declared.any_lock_law.AnyLockLaw.TheVariants as law
 use Rattle.any_lock.specs.Laws.{broken_later, right_reply}
 use Rattle.any_lock.specs.Refusals.{refusal_of_access, refusal_of_marks}
-use Rattle.any_lock.specs.Standings.{has_access, passage_in, process_view}
+use Rattle.any_lock.specs.ProcessViews.{has_access, passage_in, process_view}
 
 -- the refusal of an entry by the table of accesses, or otherwise by that of marks, for any law
 abbrev pub refused : Setup → Past → Entry → Option Refused

@@ -16,7 +16,7 @@ use Rattle.any_lock.specs.declared.refusals.MarkRefusal.{MarkRefusal}
 use Rattle.any_lock.specs.declared.refusals.MarkRefusal.TheVariants as mark
 use Rattle.any_lock.specs.declared.process_views.BegunAccess.{BegunAccess}
 use Rattle.any_lock.specs.declared.process_views.ProcessView.{ProcessView}
-use Rattle.any_lock.specs.Standings.{settles, process_view}
+use Rattle.any_lock.specs.ProcessViews.{settles, process_view}
 
 -- the first value whose test holds
 abbrev pub first_that : {R : Type 0} → List (Bool × R) → Option R

@@ -3,10 +3,10 @@ ghost use Rattle.std.specs.Prelude.{◌≡◌, Ok};
 ghost use Rattle.plain_store.specs.{checked};
 ghost use Rattle.any_lock.specs.Refusals.{access_refusal, begins_write, ends, first_that, is_end_of, is_of_bit, is_running as runs, is_settling as stage_settles, is_there as bit_is_there, maker_refusals, may_move, move_refusals, reads};
 
-use crate::refusals::AccessRefusal;
 use crate::process_views::{BegunAccess, ProcessView, is_settling};
-use plain_store::Setup;
+use crate::refusals::AccessRefusal;
 use model::{Access, Move, Stage, width_of};
+use plain_store::Setup;
 
 impl ProcessView {
     /// Returns why an access of its process, with this number, is refused, if it is.

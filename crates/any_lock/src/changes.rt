@@ -3,8 +3,8 @@ ghost use Rattle.std.specs.Prelude.{◌≡◌, IfOk, map};
 ghost use Rattle.any_lock.specs.Changes.{access_with, changed as entry_with, mark_with};
 
 use crate::reasons::Remedy;
-use plain_store::{Answer, NestedTypes};
 use model::{Access, Act, Entry, Mark, Move};
+use plain_store::{Answer, NestedTypes};
 use smallvec::SmallVec;
 use std::alloc::{AllocError, Global};
 

@@ -8,9 +8,9 @@ ghost use Rattle.any_lock.specs.Verdicts.{verdict_of};
 use crate::any_lock_law::AnyLockLaw;
 use crate::lock_run::LockRun;
 use crate::reasons::Reasons;
-use plain_store::{NestedTypes, Setup};
-use safe_monitor::{Audited, Verdict, SafeMonitor};
 use model::{Access, Mark};
+use plain_store::{NestedTypes, Setup};
+use safe_monitor::{Audited, SafeMonitor, Verdict};
 use std::alloc::{AllocError, Global};
 use std::marker::Model;
 

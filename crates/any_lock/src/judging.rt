@@ -6,9 +6,9 @@ ghost use Rattle.any_lock.specs.Verdicts.{verdict_of};
 
 use crate::any_lock_law::AnyLockLaw;
 use crate::judge::AnyLockJudge;
+use model::Entry;
 use plain_store::Setup;
 use safe_monitor::{Audited, parts};
-use model::Entry;
 use std::alloc::{AllocError, Global};
 
 /// Returns the verdict on a record, and the number of its entries. The verdict is the lowest entry that breaks a law, and the

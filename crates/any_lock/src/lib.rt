@@ -6,21 +6,21 @@
 mod access_rules;
 mod any_lock_law;
 mod changes;
-mod observing;
 mod judge;
 mod judging;
 mod lock_run;
 mod mark_rules;
+mod observing;
+mod process_views;
 mod reasons;
 mod refusals;
 mod shown;
-mod process_views;
 
 pub use any_lock_law::AnyLockLaw;
 pub use changes::changed;
 pub use judge::AnyLockJudge;
 pub use judging::{changed_entries_keep_all_laws, good_says_the_headline, judge_all};
-pub use safe_monitor::{Audited, NamedLaw, Verdict, parts};
+pub use process_views::{BegunAccess, ProcessView};
 pub use reasons::{Reasons, Refused, Remedy};
 pub use refusals::{AccessRefusal, MarkRefusal};
-pub use process_views::{BegunAccess, ProcessView};
+pub use safe_monitor::{Audited, NamedLaw, Verdict, parts};

@@ -8,14 +8,14 @@ ghost use Rattle.lock_stages.specs.{AreSince, ahead_since as wait_ahead, other_a
 ghost use Rattle.any_lock.specs.Keeping.{IsOfAccess, Knows, KnowsOn, KnowsOnAt, OfEntry, OfPast, ViewAfter, TakesInto, made_at, is_taken, with_view};
 ghost use Rattle.any_lock.specs.Laws.{right_reply};
 ghost use Rattle.any_lock.specs.Refusals.{has_nothing, is_crowded, refusal_of_access, refusal_of_marks, stands_alone as is_alone};
-ghost use Rattle.any_lock.specs.Standings.{passage_in, process_view as standing_of};
+ghost use Rattle.any_lock.specs.ProcessViews.{passage_in, process_view as standing_of};
 
 use crate::mark_rules::stands_alone;
-use crate::refusals::{AccessRefusal, MarkRefusal};
 use crate::process_views::ProcessView;
+use crate::refusals::{AccessRefusal, MarkRefusal};
 use lock_stages::{MOST_PROCESSES, ahead_since, other_ahead, other_inside};
-use plain_store::{Caller, NestedTypes, Reply, Setup, Store, opened};
 use model::{Access, Mark};
+use plain_store::{Caller, NestedTypes, Reply, Setup, Store, opened};
 use std::alloc::{AllocError, Global};
 use std::marker::Model;
 use store_image::Image;

@@ -7,10 +7,10 @@ ghost use Rattle.model.specs.{is_waiting_stage};
 ghost use Rattle.any_lock.specs.Refusals.{first_that, has_other_reply, is_down, is_in_doorway, is_leaving, is_reply as answers_reply, is_settling, is_withdrawn, mark_refusal, same_reply, stands_alone as is_alone};
 
 use crate::access_rules::{is_running, settles};
-use crate::refusals::MarkRefusal;
 use crate::process_views::ProcessView;
-use plain_store::{Answer, NestedTypes, Reply};
+use crate::refusals::MarkRefusal;
 use model::{Mark, Stage};
+use plain_store::{Answer, NestedTypes, Reply};
 
 /// The most calls of a process in version 2.
 const MOST_CALLS: u16 = 65_535;

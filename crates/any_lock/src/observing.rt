@@ -10,8 +10,8 @@ use crate::any_lock_law::AnyLockLaw;
 use crate::lock_run::{LockRun, takes};
 use crate::mark_rules::same_reply;
 use crate::process_views::ProcessView;
-use plain_store::{NestedTypes, Reply};
 use model::{Access, Mark};
+use plain_store::{NestedTypes, Reply};
 
 impl LockRun {
     /// Returns the state of the process of an entry after it, if the entry keeps all laws after `Safe`.

@@ -5,12 +5,12 @@ ghost use Rattle.model.specs.declared.marks.Mark.TheVariants.{Called, Left};
 ghost use Rattle.lock_stages.specs.{without_wait};
 ghost use Rattle.any_lock.specs.Keeping.{IsRefusedFor, accessed, at_rest, marked, marked_all, refusal_on};
 ghost use Rattle.any_lock.specs.Refusals.{mark_refusal};
-ghost use Rattle.any_lock.specs.Standings.{begins as begins_access, settles as settles_bit, write_of as write_in};
+ghost use Rattle.any_lock.specs.ProcessViews.{begins as begins_access, settles as settles_bit, write_of as write_in};
 
 use crate::refusals::MarkRefusal;
 use lock_stages::{HasPassage, Passage};
-use plain_store::{Command, NestedTypes, Reply, Setup};
 use model::{Access, Mark, Move, Stage};
+use plain_store::{Command, NestedTypes, Reply, Setup};
 
 /// An access that begins, and the number of its entry.
 #[derive(Clone, Copy)]

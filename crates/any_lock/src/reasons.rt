@@ -8,11 +8,11 @@ ghost use Rattle.any_lock.specs.Reasons.{change_of, doorway_by, doorway_of, entr
 
 use crate::any_lock_law::AnyLockLaw;
 use crate::lock_run::LockRun;
-use crate::refusals::{AccessRefusal, MarkRefusal};
 use crate::process_views::{BegunAccess, ProcessView};
+use crate::refusals::{AccessRefusal, MarkRefusal};
 use lock_stages::MOST_PROCESSES;
-use plain_store::{NestedTypes, Reply};
 use model::{Access, Mark, Move, Stage};
+use plain_store::{NestedTypes, Reply};
 
 /// The change after which an entry keeps all laws.
 #[derive(Clone, Copy)]

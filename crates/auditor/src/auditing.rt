@@ -6,9 +6,9 @@ ghost use Rattle.safe_monitor.specs.declared.verdicts.Verdict.TheVariants.{Good}
 ghost use Rattle.auditor.specs.Verdicts.{AllKeep, BreaksFirst, IsGoodOfEvents, IsTrueRecord, IsVerdict};
 
 use crate::auditor::Auditor;
-use plain_store::Setup;
-use safe_monitor::{Law, Verdict, SafeMonitor, parts};
 use model::{Entry, Record};
+use plain_store::Setup;
+use safe_monitor::{Law, SafeMonitor, Verdict, parts};
 use std::alloc::{AllocError, Global};
 
 /// Returns the verdict on a record: the lowest entry that breaks a law, and the first law that it breaks. The one fault is an

@@ -9,10 +9,12 @@ ghost use Rattle.world.specs.{remaining_in};
 ghost use Rattle.auditor.specs.Observing.{HasObserved, Observes, ObservesBefore, ObservesEvent, ObservesRun, ObservesSteps, ReportsSettling, event_in, law_of_misplaced, law_of_wrong};
 ghost use Rattle.auditor.specs.Verdicts.{reports_event};
 
-use crate::matching::{are_at, event_in, flick_in, flick_of, is_alike, is_that, more, reports_event};
+use crate::matching::{
+    are_at, event_in, flick_in, flick_of, is_alike, is_that, more, reports_event,
+};
+use model::{Access, Event, Mark, Stage};
 use plain_store::Setup;
 use safe_monitor::Law;
-use model::{Access, Event, Mark, Stage};
 use std::alloc::{AllocError, Global};
 use std::marker::Model;
 use world::{Core, EventOutcome, Flicks, StepOutcome};

@@ -22,6 +22,6 @@ pub use laws_of_verdicts::{
     records_of_events_are_good,
 };
 pub use matching::{event_in, reports_event};
-pub use safe_monitor::{Audited, Law, NamedLaw, Verdict, SafeMonitor, parts};
 pub use model::{Entry, Record};
+pub use safe_monitor::{Audited, Law, NamedLaw, SafeMonitor, Verdict, parts};
 pub use world::{Core, Flicks, World};

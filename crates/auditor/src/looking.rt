@@ -5,8 +5,8 @@ ghost use Rattle.world.specs.{stage_in};
 ghost use Rattle.auditor.specs.Observing.{IsAddedByStep, OfObserved};
 
 use crate::auditor::Auditor;
-use plain_store::NestedTypes;
 use model::{Entry, Event, Refusal, Stage};
+use plain_store::NestedTypes;
 use world::Core;
 
 impl Auditor {

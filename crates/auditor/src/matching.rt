@@ -8,8 +8,8 @@ ghost use Rattle.auditor.specs.Verdicts.{reports_event};
 ghost use Rattle.auditor.specs.Observing.{AreAt};
 ghost use Rattle.safe_monitor.specs.{entry_by};
 
-use plain_store::{Answer, Command, Name, Reply, Text, Value};
 use model::{Access, Entry, Event, Field, Mark, Move};
+use plain_store::{Answer, Command, Name, Reply, Text, Value};
 use std::alloc::Global;
 use world::{StepOutcome, step_marks};
 

@@ -5,9 +5,9 @@ ghost use Rattle.bakery.specs.Newest.{image_held, version_held, values_of, IsRea
 ghost use Rattle.bakery.specs.Registers.{is_data, register_of, data_after, data_from, register_from, opening_cell, zero_cell};
 
 use crate::held;
+use model::{Field, width_of};
 use plain_store::Setup;
 use reader_copies::Made;
-use model::{Field, width_of};
 use safe_number::{NumberFault, Register};
 use std::alloc::{AllocError, Global};
 use std::marker::Model;

@@ -5,10 +5,10 @@ ghost use Rattle.bakery.specs.Registers.{data_of, register_at, row_from, opening
 
 use crate::data::Data;
 use crate::held;
+use model::{Access, Field, image_bytes};
 use plain_store::Setup;
 use process::NewestVersion;
 use reader_copies::{Made, Move};
-use model::{Access, Field, image_bytes};
 use std::alloc::{AllocError, Global};
 use std::marker::Model;
 use store_image::Image;

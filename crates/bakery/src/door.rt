@@ -8,9 +8,9 @@ ghost use Rattle.bakery.specs.Locks.{answered, locks_after};
 
 use crate::door_progress::DoorProgress;
 use crate::lock::Locks;
+use model::{Access, TornBit};
 use plain_store::{Command, Setup};
 use process::{Process, given};
-use model::{Access, TornBit};
 use std::alloc::{AllocError, Global};
 use std::marker::Model;
 

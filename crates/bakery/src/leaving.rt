@@ -7,10 +7,10 @@ ghost use Rattle.bakery.specs.Leavings.{BeginsClearing, CallGoesOn, CallTears, I
 ghost use Rattle.bakery.specs.Locks.{CanAccess, lock_after};
 
 use crate::lock::Lock;
+use model::{Access, TornBit};
 use plain_store::Setup;
 use process::{Process, given};
 use reader_copies::Progress;
-use model::{Access, TornBit};
 use std::marker::Model;
 
 /// The clearing of a process's ticket, with which a call ends (Lamport 1974): a write of 0. It serves a process

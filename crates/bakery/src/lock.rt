@@ -5,9 +5,9 @@ ghost use Rattle.plain_store.specs.{checked};
 ghost use Rattle.bakery.specs.Locks.{new_lock, new_locks, row_in, CanAccess, HasCopy, lock_after, lock_of, lock_without_reads, locks_after, answer_to, answered, locks_without_reads};
 ghost use Rattle.bakery.specs.Borrowing.{BorrowsLock};
 
+use model::{Access, Field};
 use plain_store::Setup;
 use reader_copies::{Made, Move};
-use model::{Access, Field};
 use safe_number::{NumberFault, Register};
 use std::alloc::{AllocError, Global};
 use std::marker::Model;

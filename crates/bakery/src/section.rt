@@ -7,9 +7,9 @@ ghost use Rattle.bakery.specs.Sections.{dropped, goes_on, is_going, marks_report
 
 use crate::data_row::DataRow;
 use crate::section_progress::SectionProgress;
+use model::{Access, Field, Move, TornBit};
 use plain_store::{Command, Reply, Setup};
 use process::{Process, given};
-use model::{Access, Field, Move, TornBit};
 use std::alloc::{AllocError, Global};
 use std::marker::Model;
 

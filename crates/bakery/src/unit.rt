@@ -9,10 +9,10 @@ ghost use Rattle.bakery.specs.Units.{BeginsClosings, ClosingGoesOn, IsNextOfClos
 use crate::data::Data;
 use crate::lock::Lock;
 use crate::unit_progress::UnitProgress;
+use model::{Access, Field, TornBit};
 use plain_store::Setup;
 use process::Process;
 use reader_copies::Made;
-use model::{Access, Field, TornBit};
 use std::marker::Model;
 
 /// The memory unit of a failed process. It settles the torn bit, if there is one: on each copy by begin and end of a

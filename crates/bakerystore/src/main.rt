@@ -7,9 +7,10 @@ ghost use Rattle.std.specs.Prelude.{◌≡◌, ◌-◌, ◌<◌, ◌^◌, IfOk};
 
 use crate::engine_options::{EngineOptions, file_kind, refused_option, wanted_by};
 use command_line::{
-    Engine, Fault, FirstWord, FromRead, FrontSink, IntoWrite, Invocation, LineFault, NotedReader,
-    NotedWriter, SniffedSource, Output, Request, Sink, Source, Terminals, USAGE_STATUS, Uninterrupted,
-    CountedInput, ProgressPrinter, all_words, exit_status, read_words, reason_of, shown_word,
+    CountedInput, Engine, Fault, FirstWord, FromRead, FrontSink, IntoWrite, Invocation, LineFault,
+    NotedReader, NotedWriter, Output, ProgressPrinter, Request, Sink, SniffedSource, Source,
+    Terminals, USAGE_STATUS, Uninterrupted, all_words, exit_status, read_words, reason_of,
+    shown_word,
 };
 use engines::{
     judge_any_lock, replay, run_audit, run_bits, run_judge, run_plain, run_record, run_sweep,
@@ -97,7 +98,13 @@ fn run<T: Files + Input + Print + Eprint + Clock + AllocGlobal + Threads + Wait 
     match File::open(rt, request.file) {
         Ok(file) => run_on(rt, request, wanted, terminals, file),
         Err(error) if error.kind() == ErrorKind::OutOfMemory => Err(Fault::Memory.into()),
-        Err(error) => Ok(reported_with_cause(rt, request, terminals, Fault::Read, Some(error.kind()))),
+        Err(error) => Ok(reported_with_cause(
+            rt,
+            request,
+            terminals,
+            Fault::Read,
+            Some(error.kind()),
+        )),
     }
 }
 
@@ -254,7 +261,11 @@ fn reported_with_place<T: Eprint + AllocGlobal>(
 
 /// Opens a source. The engine of `state` reads scenarios and records, those of `calls`, `draw` and `draw-svg` traces too, and
 /// that of `judge` reads records and traces. The file's first word decides which it is.
-fn opened<R: Source + Drop>(alloc: Global, engine: Engine, source: R) -> Result<SniffedSource<R>, Fault>
+fn opened<R: Source + Drop>(
+    alloc: Global,
+    engine: Engine,
+    source: R,
+) -> Result<SniffedSource<R>, Fault>
     requires { R.failures source < 2 ^ 64 - 1 }
     ensures { IfOk result
         (λ opened. ⟦<SniffedSource<R> as Source>⟧.failures opened ≡ R.failures source) }

@@ -10,9 +10,9 @@ use crate::port::Port;
 use crate::rule::{Agreement, SeatSplit, View};
 use crate::steps::WordSeat;
 use atomic_table::Table;
+use model::Placed;
 use plain_store::Setup;
 use process::Process;
-use model::Placed;
 use std::alloc::{AllocError, Global};
 use std::marker::Model;
 

@@ -4,9 +4,9 @@ ghost use Rattle.model.specs.declared.Mark.TheVariants.{Called};
 ghost use Rattle.board.specs.Calls.{calls_after, finished, no_calls, with_answer, with_place};
 ghost use Rattle.board.specs.Listing.{GoOnBy};
 
+use model::Placed;
 use plain_store::{Answer, Command, NestedTypes};
 use process::StepOutcome;
-use model::Placed;
 use std::alloc::{AllocError, Global};
 use std::marker::Model;
 

@@ -4,9 +4,9 @@ ghost use Rattle.board.specs.Ports.{SamePort};
 
 use crate::board::Board;
 use crate::port::Port;
+use model::Stage;
 use plain_store::Answer;
 use process::{Flicks, StepOutcome};
-use model::Stage;
 
 /// The result of driving a port.
 #[derive(Clone, Copy)]

@@ -4,9 +4,9 @@ ghost use Rattle.plain_store.specs.{checked};
 ghost use Rattle.board.specs.Words.{first_bit, layout_of, word_of_copy};
 
 use crate::words::{first_bit, row_bits};
+use model::{Field, number_of_field};
 use plain_store::Setup;
 use process::BitCopy;
-use model::{Field, number_of_field};
 
 /// The numbers from which the word of a bit is computed.
 #[derive(Clone, Copy)]

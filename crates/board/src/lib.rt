@@ -32,7 +32,7 @@ pub use laws_of_boards::{
     boards_keep_the_headline, calls_are_in_one_list, views_report_the_record,
     words_are_of_single_bits,
 };
+pub use model::Placed;
 pub use port::Port;
 pub use process::Flicks;
-pub use model::Placed;
 pub use store_image::Image;

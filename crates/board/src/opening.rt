@@ -5,8 +5,8 @@ ghost use Rattle.store_image.specs.{image_of};
 ghost use Rattle.board.specs.Words.{AreOpening, opening_word, row_bits, words_in};
 
 use crate::words::{copy_of, row_bits, words_in};
-use plain_store::{Setup, opened};
 use model::{Field, bit_of};
+use plain_store::{Setup, opened};
 use std::alloc::{AllocError, Global};
 use store_image::Image;
 

@@ -15,9 +15,9 @@ use crate::board::Board;
 use crate::calls::CallList;
 use crate::pending::Pending;
 use crate::steps::{WordSeat, word_step};
+use model::{Event, Placed, Refusal, Stage};
 use plain_store::Command;
 use process::{Process, StepOutcome};
-use model::{Event, Placed, Refusal, Stage};
 use std::alloc::Global;
 use std::marker::Model;
 

@@ -9,9 +9,9 @@ ghost use Rattle.board.specs.Words.{layout_of, words_in};
 
 use crate::layout::WordLayout;
 use atomic_table::Closed;
+use model::{Field, image_bytes};
 use plain_store::Setup;
 use process::{BitCopy, NewestVersion, RegisterName};
-use model::{Field, image_bytes};
 use std::alloc::Global;
 use store_image::{Image, MOST_IMAGE_BYTES};
 

@@ -13,9 +13,9 @@ use crate::layout::WordLayout;
 use crate::pending::Pending;
 use crate::rule::{Agreement, Load, Turn, View, WordStore};
 use atomic_table::{Seat, Shared};
+use model::Move;
 use plain_store::Setup;
 use process::{BitCopy, Process, StepOutcome};
-use model::Move;
 use std::marker::Brand;
 
 /// The words of a board, as its ports share them.

@@ -5,9 +5,9 @@ ghost use Rattle.plain_store.specs.{checked};
 ghost use Rattle.model.specs.{width};
 ghost use Rattle.board.specs.Words.{copy_of, first_bit, row_bits, words_in};
 
+use model::{Field, width_of};
 use plain_store::Setup;
 use process::{BitCopy, RegisterName};
-use model::{Field, width_of};
 
 /// Returns the position in a row at which the bits of a register begin.
 #[inline]

@@ -1,8 +1,8 @@
 //! What a scenario leaves on a board, as text.
 use crate::drives::DriveResult;
 use board::{Closing, Image};
-use plain_store::{NestedTypes, Setup};
 use model::Placed;
+use plain_store::{NestedTypes, Setup};
 use std::fmt;
 
 /// The result of a scenario on a board. The text has the lines of the setup, a line for each drive, one for each finished call,

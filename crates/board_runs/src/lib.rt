@@ -2,14 +2,14 @@
 //! drives of its ports, their finished calls and the image.
 #![tactic(auto)]
 
-mod drives;
 mod board_result;
+mod drives;
 mod lines;
 mod running;
 
 pub use board::{Board, Closing, Driven, NotQuiet, Port};
-pub use drives::DriveResult;
 pub use board_result::BoardResult;
+pub use drives::DriveResult;
 pub use lines::begin;
 pub use model::Placed;
 pub use running::{Work, played, run, take_turns};

@@ -3,8 +3,8 @@ ghost use Rattle.board.specs.{IsOf, SamePort};
 
 use board::{Board, Driven, Port};
 use choices::Flicks;
-use plain_store::{Command, NestedTypes};
 use model::{Refusal, Stage};
+use plain_store::{Command, NestedTypes};
 use scenario::{Flick, Line, Target};
 
 /// More turns than any call takes, however long it waits.

@@ -3,8 +3,8 @@ ghost use Rattle.std.specs.Prelude.{◌≡◌, Ok, IfOk};
 ghost use Rattle.board.specs.{AreFirstPortsOf, ArePortsOf, IsOf, SamePort};
 ghost use Rattle.plain_store.specs.{checked};
 
-use crate::drives::DriveResult;
 use crate::board_result::BoardResult;
+use crate::drives::DriveResult;
 use crate::lines::{carry_out, process_of, set_flicks};
 use board::{Board, Driven, Port};
 use choices::Flicks;

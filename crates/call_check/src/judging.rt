@@ -5,8 +5,8 @@ ghost use Rattle.call_check.specs.Following.{FindsFirstBad, LeavesLeast, Reports
 ghost use Rattle.call_check.specs.Weighing.{is_above, is_other_with_place, is_reply_without_place};
 
 use crate::notes::{CallNotes, Note};
-use plain_store::Answer;
 use model::Placed;
+use plain_store::Answer;
 use store_image::Image;
 
 impl CallNotes {

@@ -7,8 +7,8 @@ ghost use Rattle.call_check.specs.Weighing.{changes_at};
 
 use crate::calls::Call;
 use crate::chains::{PositionChains, PositionLink, chain};
-use plain_store::{Answer, Caller, Command, NestedTypes, Reply, Setup, Store, opened};
 use model::Placed;
+use plain_store::{Answer, Caller, Command, NestedTypes, Reply, Setup, Store, opened};
 use std::alloc::{AllocError, Global};
 use store_image::Image;
 
@@ -82,7 +82,10 @@ impl CallNotes {
                         several: false,
                     });
                 }
-                ChangingCalls::One(call) => store.apply(&call.placed.command, caller(setup, &call))?,
+                ChangingCalls::One(call) => store.apply(
+                    &call.placed.command,
+                    caller(setup, &call),
+                )?,
                 ChangingCalls::Several => {
                     return Ok(CallNotes {
                         notes,

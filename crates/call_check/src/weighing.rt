@@ -5,8 +5,8 @@ ghost use Rattle.call_check.specs.Weighing.{AreShort, IsWeighed};
 
 use crate::notes::CallNotes;
 use crate::verdicts::Weighed;
-use plain_store::Setup;
 use model::Placed;
+use plain_store::Setup;
 use std::alloc::{AllocError, Global};
 use store_image::Image;
 

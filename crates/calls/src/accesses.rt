@@ -7,8 +7,8 @@ ghost use Rattle.calls.specs.Passing.{of_read, reads_begun, writes_begun};
 ghost use Rattle.calls.specs.Stepping.{waits_by};
 
 use crate::called::Marked;
-use plain_store::Setup;
 use model::{Access, Field, Move, width_of};
+use plain_store::Setup;
 
 /// Returns `count`, plus one if the test holds.
 #[inline]

@@ -8,8 +8,8 @@ ghost use Rattle.calls.specs.Stepping.{AreFew, accessed, observed, at_rest, begu
 
 use crate::accesses::{is_read, is_write, more_if, waits_by};
 use crate::called::{Accesses, Called, EntryFacts, Marked};
-use plain_store::{Command, NestedTypes, Setup};
 use model::{Access, Field, Mark};
+use plain_store::{Command, NestedTypes, Setup};
 
 /// The state of a process: its last call, and whether that call is open.
 #[derive(Clone, Copy)]

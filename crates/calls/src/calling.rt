@@ -13,10 +13,10 @@ ghost use Rattle.calls.specs.Tables.{calls_text, tabled};
 use crate::observing::{CallsWriter, write_if};
 use crate::printed::HEADER;
 use crate::table::CallTable;
-use scenario_run::{ScenarioRun, PlayLimit};
 use plain_store::Setup;
 use scenario::progress::ProgressObserver;
 use scenario::{Fault, Scenario, Sink, Source, read_input, read_scenario, write_all};
+use scenario_run::{PlayLimit, ScenarioRun};
 use std::alloc::Global;
 
 /// Reads a whole scenario file, and then writes the table of the calls of its run: a line of comma-separated values for each

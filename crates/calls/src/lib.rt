@@ -4,25 +4,25 @@
 #![tactic(auto)]
 
 mod accesses;
+mod call_state;
 mod called;
 mod calling;
-mod observing;
 mod laws_of_tables;
 mod listing;
+mod observing;
 mod overlaps;
 mod printed;
 mod record_table;
-mod call_state;
 mod table;
 
 pub use accesses::{ends_number, holds_up, more_if, number_after};
+pub use call_state::{CallState, called_in, first_if};
 pub use called::{Accesses, Called, EntryFacts, Marked};
 pub use calling::run_calls;
-pub use scenario_run;
 pub use laws_of_tables::records_list_as_runs;
 pub use listing::list_record;
 pub use printed::{HEADER, print_call, push_numbers, waited};
 pub use scenario;
-pub use call_state::{CallState, called_in, first_if};
+pub use scenario_run;
 pub use table::CallTable;
 pub use world;

@@ -12,9 +12,9 @@ ghost use Rattle.calls.specs.Tables.{CutsReported, HasTabled, Reports, fewer, kn
 use crate::called::{Called, EntryFacts};
 use crate::printed::print_call;
 use crate::table::CallTable;
-use scenario_run::{RunObserver, UnmarkedStep, TurnReport};
 use model::{Access, Mark, Move};
 use scenario::{Fault, Sink, write_all};
+use scenario_run::{RunObserver, TurnReport, UnmarkedStep};
 use std::alloc::Global;
 
 /// Tabulates the calls of a run as it observes its entries.

@@ -8,8 +8,8 @@ ghost use Rattle.calls.specs.Recorded.{begins_read_of, entry_with, overlaps_in};
 ghost use Rattle.calls.specs.RecordTables.{Monitors};
 
 use judge::SafeMonitor;
-use plain_store::Setup;
 use model::{Access, Move};
+use plain_store::Setup;
 use std::alloc::{AllocError, Global};
 
 /// A watch on the bits, and the last access of each process.

@@ -11,8 +11,8 @@ use crate::overlaps::OverlapMonitor;
 use crate::printed::{HEADER, print_call};
 use crate::table::CallTable;
 use judge::{DONE, EntryObserver, Reporting};
-use plain_store::Setup;
 use model::{Access, Mark};
+use plain_store::Setup;
 use std::alloc::{AllocError, Global};
 
 /// The table of the calls of a record, up to the newest entry.

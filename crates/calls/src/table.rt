@@ -8,10 +8,10 @@ ghost use Rattle.calls.specs.Observing.{ComesInTurn, GoesBy, GoesOn, HasObserved
 ghost use Rattle.calls.specs.Recorded.{HasListed, Lists, call_kept, entry_with, open_recorded};
 
 use crate::accesses::{is_of_read, reads_among, writes_among};
-use crate::called::{Accesses, Called, EntryFacts, Marked};
 use crate::call_state::{CallState, called_in};
-use plain_store::{NestedTypes, Setup};
+use crate::called::{Accesses, Called, EntryFacts, Marked};
 use model::{Access, Mark, Move};
+use plain_store::{NestedTypes, Setup};
 use std::alloc::{AllocError, Global};
 use std::marker::Model;
 

@@ -5,7 +5,7 @@ ghost use Rattle.std.specs.String.{string_bytes};
 ghost use Rattle.command_line.specs.Meaning.{RunsEachFile, asked_by, asked_of, asked_of_command, asked_of_file, asked_of_help, asked_of_none, bakery, has_flag, meaning, says};
 
 use crate::commands::{CommandEntry, command_named};
-use crate::notices::{Notice, no_such_page, no_text, shown_error, reported};
+use crate::notices::{Notice, no_such_page, no_text, reported, shown_error};
 use crate::pages::HelpPage;
 use crate::program::matched;
 use clap::error::ErrorKind;

@@ -18,11 +18,11 @@ use crate::overlaps::{OverlapsObserved, take_ended};
 use crate::store_changes::words_by_pairs;
 use crate::taken_store::TakenStore;
 use crate::writing::{write_band, write_last};
+use model::{Access, Mark};
 use picture::{
-    Form, OverlappedRead, Reads, RunLine, LineContent, ShownAccess, ShownVerdict, Subject, Window,
+    Form, LineContent, OverlappedRead, Reads, RunLine, ShownAccess, ShownVerdict, Subject, Window,
     WindowedPage, verdict_of,
 };
-use model::{Access, Mark};
 use record_accesses::RecordAccessMonitor;
 use record_accesses::plain_store::{NestedTypes, Setup};
 use scenario::{Fault, Sink};
@@ -182,7 +182,14 @@ impl Canvas {
             mark: *mark,
             change,
         };
-        self.draw(RunLine { source, at, line_content }, output)
+        self.draw(
+            RunLine {
+                source,
+                at,
+                line_content,
+            },
+            output,
+        )
     }
 
     /// Draws the overlapped reads that have ended since the last line and then a line, and writes each band that is full.
@@ -292,7 +299,12 @@ impl Canvas {
     /// # Errors
     ///
     /// Returns [`Fault::Write`] if a call of the sink fails, and [`Fault::Memory`] if memory is lacking.
-    pub fn end<W: Sink>(&mut self, line: RunLine, reported: &[u8], output: &mut W) -> Result<u64, Fault>
+    pub fn end<W: Sink>(
+        &mut self,
+        line: RunLine,
+        reported: &[u8],
+        output: &mut W,
+    ) -> Result<u64, Fault>
         requires { W.failures output.old < 2 ^ 64 - 1 }
         ensures drawn { IfOk result
             (λ height. DrawsLast self.old (W.taken output.old) (W.taken output.new) line.source

@@ -16,8 +16,8 @@ use crate::canvas::Canvas;
 use crate::store_before::StoreBefore;
 use crate::taken_store::TakenStore;
 use crate::views::AccessView;
-use picture::{Form, Reads, RunLine, LineContent};
 use model::{Access, Mark};
+use picture::{Form, LineContent, Reads, RunLine};
 use record_accesses::plain_store::{NestedTypes, Setup};
 use record_accesses::{RecordAccessMonitor, drops_open_read};
 use scenario::{Fault, Sink};
@@ -219,7 +219,11 @@ impl Drawing {
     /// # Errors
     ///
     /// Returns [`Fault::Write`] if a call of the sink fails, and [`Fault::Memory`] if memory is lacking.
-    pub fn draw_line<W: Sink>(&mut self, line_content: LineContent, output: &mut W) -> Result<(), Fault>
+    pub fn draw_line<W: Sink>(
+        &mut self,
+        line_content: LineContent,
+        output: &mut W,
+    ) -> Result<(), Fault>
         requires { W.failures output.old < 2 ^ 64 - 1 }
         ensures drawn { OnOk result
             (DrawsLines self.old.canvas self.new.canvas (W.taken output.old) (W.taken output.new)
@@ -275,8 +279,11 @@ impl Drawing {
     /// Returns the next line.
     fn line(&self, line_content: LineContent) -> RunLine
         ensures { result
-            ≡ record { source = self.now.source; at = self.now.entries;
-            line_content = line_content } }
+            ≡ record {
+              source = self.now.source;
+              at = self.now.entries;
+              line_content = line_content;
+            } }
     {
         RunLine {
             source: self.source,

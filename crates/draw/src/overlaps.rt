@@ -9,8 +9,8 @@ ghost use Rattle.picture.specs.picture_layout.declared.reads.OverlappedRead.{Ove
 ghost use Rattle.picture.specs.declared.reads.Reads.{Reads as Mode};
 ghost use Rattle.draw.specs.Overlaps.{Observes, ObservesAll, ReportsOver, ended_of, first_three, overlapped_by, read_begun, read_ended, shown_of};
 
-use picture::{OverlappedRead, Reads};
 use model::{Access, Field, Move};
+use picture::{OverlappedRead, Reads};
 use record_accesses::plain_store::{NestedTypes, Setup};
 use std::alloc::{AllocError, Global};
 
@@ -113,9 +113,10 @@ impl OverlapsObserved {
     /// Records that a process begins a read.
     fn begin(&mut self, entry: u64, access: Access)
         ensures { self.new
-            ≡ record self.old
-            { begun = set self.old.begun access.reader
-            (Some (record { entry = entry; access = access })) } }
+            ≡ record self.old {
+              begun = set self.old.begun access.reader
+                  (Some (record { entry = entry; access = access }));
+            } }
     {
         let place = usize::from(access.reader);
         if place < self.begun.len() {
@@ -199,7 +200,10 @@ impl OverlapsObserved {
 }
 
 /// Removes the overlapped reads since the last line and returns them.
-pub(crate) fn take_ended(alloc: Global, overlaps: &mut Option<OverlapsObserved>) -> Vec<OverlappedRead>
+pub(crate) fn take_ended(
+    alloc: Global,
+    overlaps: &mut Option<OverlapsObserved>,
+) -> Vec<OverlappedRead>
     ensures reads { (mode : Mode) (s : Given) (past : Past) (reads : List Ended) →
         ObservesAll mode s past reads overlaps.old → result.items ≡ shown_of mode reads }
     ensures none { (mode : Mode) (s : Given) (past : Past) (reads : List Ended) →

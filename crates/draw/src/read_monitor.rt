@@ -7,8 +7,8 @@ ghost use Rattle.picture.specs.declared.reads.Reads.{Reads as Mode};
 ghost use Rattle.draw.specs.Overlaps.{ReportsEnd, Monitors};
 
 use judge::SafeMonitor;
-use picture::Reads;
 use model::Access;
+use picture::Reads;
 use record_accesses::plain_store::Setup;
 use std::alloc::{AllocError, Global};
 

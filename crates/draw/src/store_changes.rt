@@ -38,8 +38,10 @@ fn change_shown<S: Store>(
 ) -> Result<TakenChange, AllocError>
     ensures { IfOk result
         (λ change. changed change
-        ≡ record { pair = pair_words (S.contents store.now).pairs (name_of command.now);
-            store = words_of_store (S.contents store.now) }) }
+        ≡ record {
+          pair = pair_words (S.contents store.now).pairs (name_of command.now);
+          store = words_of_store (S.contents store.now);
+        }) }
 {
     Ok(TakenChange {
         pair: pair(alloc, store, command)?,

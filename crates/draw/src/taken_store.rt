@@ -8,8 +8,8 @@ ghost use Rattle.draw.specs.StoreChanges.{changed};
 ghost use Rattle.draw.specs.TakenStores.{IsAfterMarks, after_call, change_by_call, change_of, next_number as number_after};
 
 use crate::store_changes;
-use picture::TakenChange;
 use model::Mark;
+use picture::TakenChange;
 use record_accesses::plain_store::{Caller, Command, NestedTypes, PlainStore, Setup, opened};
 use std::alloc::{AllocError, Global};
 

@@ -11,9 +11,9 @@ ghost use Rattle.scenario_run.specs.{ended};
 ghost use Rattle.scenario_run.specs.Writing.{IsWriteFault, failed_write};
 
 use crate::writing::write_line;
-use scenario_run::{RunAudit, ScenarioRun, WithAudit, Summary, PlayLimit};
 use judge::{Audited, status_of, verdict_line};
 use scenario::{Fault, Scenario, Sink, Source, read_input, read_scenario};
+use scenario_run::{PlayLimit, RunAudit, ScenarioRun, Summary, WithAudit};
 use std::alloc::{AllocError, Global};
 use sweeper::progress::ProgressObserver;
 
@@ -80,7 +80,8 @@ fn audit_run<L: ProgressObserver>(
     let audit = RunAudit::new(alloc, &scenario.setup)?;
     let observer = Summary::new();
     let mut judged = WithAudit { observer, audit };
-    let Ok(_) = scenario_run.play_all(scenario, PlayLimit::End, &mut judged, progress_observer) else {
+    let Ok(_) = scenario_run.play_all(scenario, PlayLimit::End, &mut judged, progress_observer)
+    else {
         return Err(AllocError);
     };
     Ok(Audited {

@@ -9,9 +9,12 @@ ghost use Rattle.engines.specs.Listings.{RecordsEvent, event_reported};
 ghost use Rattle.engines.specs.RecordedRuns.{IsReadAgain};
 ghost use Rattle.scenario_run.specs.{accepted_events, listed};
 
-use scenario_run::{ScenarioRun, Entry, Event, RunObserver, Move, Record, Refusal, UnmarkedStep, TurnReport, PlayLimit, World};
 use plain_store::{NestedTypes, Setup};
 use scenario::{Fault, Scenario};
+use scenario_run::{
+    Entry, Event, Move, PlayLimit, Record, Refusal, RunObserver, ScenarioRun, TurnReport,
+    UnmarkedStep, World,
+};
 use std::alloc::{AllocError, Global};
 use sweeper::progress::NoObserver;
 

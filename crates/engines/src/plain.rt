@@ -7,9 +7,9 @@ ghost use Rattle.scenario.specs.{script};
 ghost use Rattle.scenario.specs.files.{GivesText, ReadsFront};
 ghost use Rattle.engines.specs.Plain.{line_text, printed, run_after, run_at_start, plain_text, call_text, called, applied_text, applied, caller_of, counted, reply_line as line_of_reply};
 
-use scenario_run::{Refusal, refusal_line};
 use plain_store::{Caller, Command, PlainStore, Reply, Setup, Store, opened, show_line};
 use scenario::{Fault, Line, Scenario, Sink, Source, read_input, read_scenario, write_all};
+use scenario_run::{Refusal, refusal_line};
 use std::alloc::{AllocError, Global};
 use std::marker::Model;
 

@@ -11,9 +11,9 @@ ghost use Rattle.engines.specs.RecordedRuns.{InputWritesRecord, RecordedRunsAreR
 ghost use Rattle.engines.specs.Recordings.{entries_longer, entries_text, entry_reported, recorded, recording_text, step_line};
 ghost use Rattle.scenario_run.specs.{IsWriteFault, Took, TookPart, ended, failed_write, part_before, part_on, part_unobserved, took_none, took_on};
 
-use scenario_run::{ScenarioRun, Entry, RunObserver, Move, UnmarkedStep, TurnReport, PlayLimit};
 use judge::{StepLine, print_entry, print_setup};
 use scenario::{Fault, Scenario, Sink, Source, read_input, read_scenario, write_all};
+use scenario_run::{Entry, Move, PlayLimit, RunObserver, ScenarioRun, TurnReport, UnmarkedStep};
 use std::alloc::{AllocError, Global};
 use sweeper::progress::ProgressObserver;
 
@@ -143,7 +143,11 @@ impl<'a, W: Sink> RunObserver for RecordWriter<'a, W> {
 
 /// Writes the line of the entry of a Step.
 #[inline]
-fn write_step<W: Sink>(made: UnmarkedStep, printed: &mut StepLine, output: &mut W) -> Result<(), Fault>
+fn write_step<W: Sink>(
+    made: UnmarkedStep,
+    printed: &mut StepLine,
+    output: &mut W,
+) -> Result<(), Fault>
     requires { W.failures output.old < 2 ^ 64 - 1 }
     ensures written { Wrote W.taken result output.old output.new
         (step_line made.process made.access) }

@@ -9,9 +9,11 @@ ghost use Rattle.scenario.specs.files.{ReadsFront};
 ghost use Rattle.scenario_run.specs.{CanCount, InputKeepsHeadline, IsSummaryOf, RunKeepsHeadline, Took, TookPart, can_count_less, ended, part_before, part_on, part_unobserved, replay_text, replayed, text_longer, text_of, took_none, took_on};
 ghost use Rattle.scenario_run.specs.Writing.{Counts, IsWriteFault, failed_write};
 
-use crate::writing::{write_turn, write_end};
-use scenario_run::{ScenarioRun, RunObserver, Move, UnmarkedStep, Summary, Taken, TurnReport, PlayLimit};
+use crate::writing::{write_end, write_turn};
 use scenario::{Fault, Scenario, Sink, Source, read_input, read_scenario};
+use scenario_run::{
+    Move, PlayLimit, RunObserver, ScenarioRun, Summary, Taken, TurnReport, UnmarkedStep,
+};
 use std::alloc::Global;
 use sweeper::progress::ProgressObserver;
 

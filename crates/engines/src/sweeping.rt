@@ -12,10 +12,10 @@ ghost use Rattle.sweeper.specs.{CanSweep, SweepsNone, SweepsOn, can_sweep_less};
 ghost use Rattle.engines.specs.Sweepings.{InputReportsSweep, IsRunSwept, SweepsRun, ReportsSweep, accepted_calls, call_of, calls_in, run_swept, status_of_swept, sweep_text, swept, swept_lines as lines_of_swept};
 
 use crate::writing::write_line;
-use scenario_run::{ScenarioRun, Event, RunObserver, Move, UnmarkedStep, TurnReport, PlayLimit};
 use judge::{Verdict, status_of};
 use plain_store::{Command, NestedTypes};
 use scenario::{Fault, Scenario, Sink, Source, read_input, read_scenario};
+use scenario_run::{Event, Move, PlayLimit, RunObserver, ScenarioRun, TurnReport, UnmarkedStep};
 use std::alloc::{AllocError, Global};
 use sweeper::progress::{NoObserver, ProgressObserver, ProgressPoint};
 use sweeper::{Sweeper, Swept};
@@ -113,7 +113,8 @@ fn calls_of(alloc: Global, scenario: &Scenario) -> Result<Calls, AllocError>
     let mut scenario_run = ScenarioRun::new(alloc, &scenario.setup)?;
     let calls = Vec::new(alloc);
     let mut observed = Calls { calls, events: 0 };
-    let Ok(_) = scenario_run.play_all(scenario, PlayLimit::End, &mut observed, &mut NoObserver) else {
+    let Ok(_) = scenario_run.play_all(scenario, PlayLimit::End, &mut observed, &mut NoObserver)
+    else {
         return Err(AllocError);
     };
     if MOST_CALLS < observed.calls.len() {

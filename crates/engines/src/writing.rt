@@ -6,12 +6,17 @@ ghost use Rattle.engines.specs.Sinks.{Wrote, WroteFront, WroteLine, WroteLineFro
 ghost use Rattle.scenario_run.specs.run_lines.{line_text, with_end};
 ghost use Rattle.scenario_run.specs.{IsWriteFault, counted, end_line, failed_write, reported_text};
 
-use scenario_run::{Mark, ReplayLine, Summary, TurnReport, newest_words};
 use scenario::{Fault, Sink, write_all};
+use scenario_run::{Mark, ReplayLine, Summary, TurnReport, newest_words};
 use std::alloc::{AllocError, Global};
 
 /// Writes the lines of a turn, before which `number` events were accepted.
-fn write_reported<W: Sink>(alloc: Global, number: u64, reported: &TurnReport, output: &mut W) -> Result<(), Fault>
+fn write_reported<W: Sink>(
+    alloc: Global,
+    number: u64,
+    reported: &TurnReport,
+    output: &mut W,
+) -> Result<(), Fault>
     requires { W.failures output.old < 2 ^ 64 - 1 }
     ensures written { Wrote W.taken result output.old output.new
         (reported_text number reported.now) }

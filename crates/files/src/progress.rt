@@ -38,7 +38,10 @@ pub struct SecondRun<'l, L> {
 impl<'l, L: ProgressObserver> SecondRun<'l, L> {
     /// Creates the observer of the run after one that accepted `earlier` events. It reports to `progress_observer`.
     pub fn new(progress_observer: &'l mut L, earlier: u64) -> SecondRun<'l, L> {
-        SecondRun { progress_observer, earlier }
+        SecondRun {
+            progress_observer,
+            earlier,
+        }
     }
 }
 

@@ -157,7 +157,11 @@ impl Lines {
 /// Moves the bytes of the first line together, without its end, or more than 128 of them. Returns `false` if there is no line.
 /// Few lines need it.
 #[inline(never)]
-fn take_line<R: Source>(input: &mut R, ahead: &mut ReadAhead, line: &mut Vec<u8>) -> Result<bool, Fault>
+fn take_line<R: Source>(
+    input: &mut R,
+    ahead: &mut ReadAhead,
+    line: &mut Vec<u8>,
+) -> Result<bool, Fault>
     requires { R.failures input.old < 2 ^ 64 - 1 }
     ensures line { TakesShort result ahead.old.given (R.to_come input.old) ahead.new.given
         (R.to_come input.new) line.new.items }

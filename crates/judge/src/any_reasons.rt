@@ -7,8 +7,8 @@ ghost use Rattle.judge.specs.AnyReasons.{entry_if, inside_line, any_may_line, ot
 
 use crate::reason_lines::{push_bad, push_entry, push_number, push_stage};
 use any_lock::{AccessRefusal, MarkRefusal, Reasons, Refused, Remedy, changed};
-use plain_store::NestedTypes;
 use model::Entry;
+use plain_store::NestedTypes;
 use std::alloc::{AllocError, Global};
 
 /// Writes the reasons of a bad entry, which is in line `number`.

@@ -3,8 +3,8 @@ ghost use Rattle.std.specs.Prelude.{◌≡◌, ◌-◌, ◌^◌, ◌<◌, ◌∷
 ghost use Rattle.plain_store.specs.{checked};
 ghost use Rattle.auditor.specs.safe_monitor.{entry_by};
 
-use plain_store::Setup;
 use model::{Access, Mark};
+use plain_store::Setup;
 use std::alloc::{AllocError, Global};
 
 /// The report on a record: a text, and an exit status.

@@ -10,8 +10,8 @@ use crate::entry_observers::{EntryObserver, Judging, Reporting};
 use crate::reason_lines::entry_of_parts;
 use crate::record_judge::RecordJudge;
 use crate::verdicts::{verdict_line, verdict_status};
-use plain_store::Setup;
 use model::{Access, Mark};
+use plain_store::Setup;
 use std::alloc::{AllocError, Global};
 
 /// A judge, and the lines of its reasons once its verdict is bad.

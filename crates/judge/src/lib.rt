@@ -3,7 +3,7 @@
 //! If reasons are asked for, they follow a bad verdict.
 //!
 //! ```rust
-//! Engine::AnyLockJudge => run_judge(alloc, input, output, wanted.why),
+//! Engine::Judge => run_judge(alloc, input, output, wanted.why),
 //! ```
 #![tactic(auto)]
 
@@ -11,8 +11,8 @@ mod any_lock_judging;
 mod any_reasons;
 mod common_laws;
 mod engine;
-mod explaining;
 mod entry_observers;
+mod explaining;
 mod judging;
 mod laws_of_reasons;
 mod plain;
@@ -23,16 +23,16 @@ mod this_lock_judge;
 mod trial;
 mod verdicts;
 
-pub use any_lock::{AnyLockLaw, AnyLockJudge};
+pub use any_lock::{AnyLockJudge, AnyLockLaw};
 pub use auditor::{
-    Audited, Auditor, Law, Verdict, SafeMonitor, audit, good_records_are_of_events, parts,
+    Audited, Auditor, Law, SafeMonitor, Verdict, audit, good_records_are_of_events, parts,
     records_have_one_verdict, records_of_events_are_good,
 };
 pub use common_laws::good_records_keep_laws_of_any_lock;
 pub use engine::run_trial;
+pub use entry_observers::{EntryObserver, Judging, Reporting};
 pub use explaining::ExplainingJudge;
 pub use files::{DONE, Fault, Sink, Source, read_any_line, source_lines};
-pub use entry_observers::{EntryObserver, Judging, Reporting};
 pub use judging::{judge_any_lock, run_judge};
 pub use laws_of_reasons::only_steps_keep_all_laws;
 pub use reason_lines::entry_of_parts;

@@ -4,8 +4,8 @@ ghost use Rattle.judge.specs.Judgements.{ReportsVerdict};
 use crate::entry_observers::{EntryObserver, Reporting};
 use crate::record_judge::RecordJudge;
 use crate::verdicts::{verdict_line, verdict_status};
-use plain_store::Setup;
 use model::{Access, Mark};
+use plain_store::Setup;
 use std::alloc::{AllocError, Global};
 
 /// A judge whose verdict is reported without reasons.

@@ -4,8 +4,8 @@ ghost use Rattle.std.specs.String.{string_bytes};
 ghost use Rattle.auditor.specs.safe_monitor.{entry_by};
 ghost use Rattle.judge.specs.ReasonLines.{bad_lines, named_entry, number_line, stage_line, word_line};
 
-use plain_store::NestedTypes;
 use model::{Access, Act, Entry, Mark, Stage};
+use plain_store::NestedTypes;
 use record_file::print_entry;
 use smallvec::SmallVec;
 use std::alloc::{AllocError, Global};

@@ -8,8 +8,8 @@ ghost use Rattle.judge.specs.Reasons.{Writes, event_or_step, is_crowded, may_lin
 
 use crate::reason_lines::{push_bad, push_entry, push_stage, push_word};
 use auditor::{Auditor, event_in, reports_event};
-use plain_store::NestedTypes;
 use model::{Act, Entry, Event, Refusal, Stage};
+use plain_store::NestedTypes;
 use std::alloc::{AllocError, Global};
 
 /// Writes the reasons of a bad entry, which is in line `number`. The auditor has observed the entries before it.

@@ -6,8 +6,8 @@ ghost use Rattle.auditor.specs.safe_monitor.{entry_by, is_good};
 ghost use Rattle.judge.specs.Explanations.{GivesReasons};
 
 use auditor::{Audited, NamedLaw};
-use plain_store::Setup;
 use model::{Access, Entry, Mark};
+use plain_store::Setup;
 use std::alloc::{AllocError, Global};
 
 /// A judge of records. It observes the entries of a record one by one, in memory of a fixed size, by laws of its own.

@@ -8,8 +8,8 @@ ghost use Rattle.judge.specs.Trials.{GoesOn, Observes, IsObserved, LineEnds, Sta
 use crate::entry_observers::{EntryObserver, Judging};
 use auditor::parts;
 use files::{FaultKind, read_any_line};
-use plain_store::{NestedTypes, Setup};
 use model::Entry;
+use plain_store::{NestedTypes, Setup};
 use record_file::{RecordReader, read_step};
 use std::alloc::{AllocError, Global};
 
@@ -148,7 +148,13 @@ impl<H: EntryObserver> Trial<H> {
         read_any_line(self.alloc, line, &mut self.reader)?;
         if let Some(reader) = &mut self.reader {
             if let Some(entry) = reader.last_entry() {
-                observe(self.alloc, reader.setup(), number, entry, &mut self.observer)?;
+                observe(
+                    self.alloc,
+                    reader.setup(),
+                    number,
+                    entry,
+                    &mut self.observer,
+                )?;
                 reader.forget_entry();
             }
         }
@@ -248,7 +254,11 @@ fn pass_entry<H: EntryObserver>(
 /// Creates the observer, without entries. It is a function of its own, because the room in which one is made would otherwise
 /// be cleared before each entry.
 #[inline(never)]
-fn begin<H: EntryObserver>(alloc: Global, setup: &Setup, observer: &mut Option<H>) -> Result<(), AllocError>
+fn begin<H: EntryObserver>(
+    alloc: Global,
+    setup: &Setup,
+    observer: &mut Option<H>,
+) -> Result<(), AllocError>
     requires good { checked setup.now ≡ Ok tt }
     ensures present { OnOk result (IsSome observer.new) }
     ensures none { OnOk result (count_in H.count observer.new ≡ 0) }

@@ -60,7 +60,11 @@ impl Markup {
     /// # Errors
     ///
     /// Returns [`AllocError`] if memory runs out.
-    pub fn add_empty_element(&mut self, tag: Tag, attributes: &[Attribute]) -> Result<(), AllocError>
+    pub fn add_empty_element(
+        &mut self,
+        tag: Tag,
+        attributes: &[Attribute],
+    ) -> Result<(), AllocError>
         requires { is_no_mark (tag_name tag) ≡ true }
         ensures draws { OnOk result (self.new ≡ self.old ++ empty_element tag attributes.now) }
         ensures read { OnOk result (reading self.new ≡ reading self.old) }

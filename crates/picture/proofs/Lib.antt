@@ -8,6 +8,6 @@ mod Held
 mod Framing
 mod Pagings
 mod VerdictLines
-mod Standings
+mod BarsAndStages
 pub mod Windowing
 mod Sheetings

@@ -9,7 +9,7 @@ pub mod Drawings
 pub mod Pages
 pub mod Sheets
 pub mod Signs
-pub mod Standings
+pub mod BarsAndStages
 pub mod Subjects
 pub mod Verdicts
 pub mod WaveShapes
@@ -21,7 +21,7 @@ pub use Bars.{bar, bars, ends_at, free_left, is_stage, is_word, next_stretch, sa
 pub use Drawings.{SeenBand, axis, axis_up_to, band_shapes, chain_shapes, column_shapes, first_inside, for_each, inside_since, lane_accesses, lane_shapes, lane_words, line_shapes, lines_shapes, links, mark_said, note_shapes, queue_said, rows_shapes, seen_band, shade_up_to, shades, store_said, words_of_lane}
 pub use Pages.{BeginsColumn, DrawsBand, GivesLast, MakesRoom, Passes, Places, Puts, SeenPage, SetsOpening, TakesItem, accesses_left, band_text, held_back, lines_of, lines_of_band, opening_by, opening_reported, page_by, page_filled, page_holding, page_names, page_of, passed, picture_names, seen_page}
 pub use Sheets.{body_front, ground_of, held_in_64, item_of, page_back, page_begun, page_front, picture_back, picture_front, picture_height, counted_of, plural_of, says, setup_words, svg_front, titles_of, page_back_by, page_front_by, picture_front_by, picture_back_by, trace_page_back, trace_page_front, trace_picture_back, trace_picture_front, view_of}
-pub use Standings.{BarsAreStages, ShowsStages, items_taken, line_contents}
+pub use BarsAndStages.{BarsAreStages, ShowsStages, items_taken, line_contents}
 pub use Subjects.{format_word, has_history, list_begun, script_of, shown_by, subject_word, time_unit}
 pub use Verdicts.{bad_column, bad_place, box_at, edge_of, height_with, judged_shapes, key_of, line_said, lines_from, lines_height, outline_of, room_of_verdict, ruling_style, titles_if, verdict_by, verdict_line, verdict_shapes}
 pub use WaveShapes.{change_if, change_shapes, level_of, next_change, place_if, value_label, wave_from, wave_part, wave_shapes, waves_from}

@@ -7,10 +7,10 @@ ghost use Rattle.picture.specs.AccessShapes.{access_shapes, begins_overlapped as
 ghost use Rattle.picture.specs.Drawings.{lane_accesses, seen_band};
 
 use crate::bands::Band;
+use markup::{Markup, Point};
 use picture_layout::{
     AXIS, AccessKind, AccessState, AccessStep, Column, LEFT, Lane, ShownAccess, UnendedAccess,
 };
-use markup::{Markup, Point};
 use std::alloc::{AllocError, Global};
 
 /// How high the box of an access is.

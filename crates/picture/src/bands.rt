@@ -8,8 +8,8 @@ ghost use Rattle.picture.specs.Bandings.{behind_columns};
 ghost use Rattle.picture.specs.Drawings.{band_shapes, column_shapes, for_each, lane_accesses, lane_shapes, lane_words, links, seen_band};
 
 use crate::subjects::Subject;
-use picture_layout::{AccessState, Column, Layout, State};
 use markup::Markup;
+use picture_layout::{AccessState, Column, Layout, State};
 use shown_verdict::ShownVerdict;
 use std::alloc::{AllocError, Global};
 

@@ -6,9 +6,9 @@ ghost use Rattle.picture.specs.Bars.{bar, height_of, is_stage, lane_name, lane_r
 ghost use Rattle.picture.specs.Drawings.{lane_shapes, seen_band};
 
 use crate::bands::Band;
-use picture_layout::{LEFT, Lane, RIGHT};
 use markup::{Markup, Point};
 use model::Stage;
+use picture_layout::{LEFT, Lane, RIGHT};
 use std::alloc::{AllocError, Global};
 
 impl Band {

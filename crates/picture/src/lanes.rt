@@ -7,8 +7,8 @@ ghost use Rattle.picture.specs.Drawings.{axis, axis_line, axis_up_to, chain_shap
 ghost use Rattle.picture.specs.Subjects.{has_history};
 
 use crate::bands::Band;
-use picture_layout::{AXIS, Column, DIGIT, LEFT, RIGHT, room};
 use markup::{Markup, Point};
+use picture_layout::{AXIS, Column, DIGIT, LEFT, RIGHT, room};
 use std::alloc::{AllocError, Global};
 
 /// The height of the axis.

@@ -27,13 +27,13 @@ mod windowed_page;
 mod windows;
 mod words;
 
-pub use picture_layout::{
-    AccessKind, AccessStep, OverlappedRead, RunLine, LineContent, ShownAccess, TakenChange, WaveChange,
-    stages_are_the_records,
-};
 pub use laws::bars_are_stages;
 pub use markup::Markup;
 pub use page::Form;
+pub use picture_layout::{
+    AccessKind, AccessStep, LineContent, OverlappedRead, RunLine, ShownAccess, TakenChange,
+    WaveChange, stages_are_the_records,
+};
 pub use reads::{PictureOptions, Reads};
 pub use sheets::{FIRST_BAND, page_end, page_head, picture_end, picture_head};
 pub use shown_verdict::{

@@ -6,8 +6,8 @@ ghost use Rattle.picture_layout.specs.{seen};
 ghost use Rattle.picture.specs.Drawings.{arrow, arrow_by, distance_of_tip, drop_line, freed_arrow, links, seen_band};
 
 use crate::bands::Band;
-use picture_layout::{Column, Lane};
 use markup::{Markup, Point};
+use picture_layout::{Column, Lane};
 use std::alloc::{AllocError, Global};
 
 impl Band {

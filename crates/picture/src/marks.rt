@@ -10,8 +10,8 @@ use crate::bands::Band;
 use crate::reads::draw_read;
 use crate::signs::{below, draw_sign, moved};
 use crate::words::listed;
-use picture_layout::{Column, RunLine, TextRow};
 use markup::{Key, Markup, Point, number, words};
+use picture_layout::{Column, RunLine, TextRow};
 use std::alloc::{AllocError, Global};
 
 impl Band {

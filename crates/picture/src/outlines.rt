@@ -10,8 +10,8 @@ ghost use Rattle.shown_verdict.specs.{seen_line};
 
 use crate::bands::Band;
 use crate::links::draw_arrow_to;
-use picture_layout::{AXIS, AccessState, Column, DIGIT, LEFT, Lane, event_place, room};
 use markup::{Markup, Point};
+use picture_layout::{AXIS, AccessState, Column, DIGIT, LEFT, Lane, event_place, room};
 use shown_verdict::{FirstBadEntry, Pointer, PointerKind, ShownVerdict};
 use std::alloc::{AllocError, Global};
 

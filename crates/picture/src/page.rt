@@ -12,10 +12,10 @@ use crate::bands::{Band, behind};
 use crate::openings::{characters, opening_words};
 use crate::sheets::view;
 use crate::subjects::Subject;
-use picture_layout::{
-    AccessState, Column, Layout, OverlappedRead, WordEnds, RunLine, ShownAccess, State, stretch,
-};
 use markup::{Key, Markup, Tag, class, words};
+use picture_layout::{
+    AccessState, Column, Layout, OverlappedRead, RunLine, ShownAccess, State, WordEnds, stretch,
+};
 use shown_verdict::ShownVerdict;
 use std::alloc::{AllocError, Global};
 

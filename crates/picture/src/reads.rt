@@ -8,8 +8,8 @@ ghost use Rattle.picture.specs.Sheets.{height_of_legend};
 use crate::bands::Band;
 use crate::signs::below;
 use crate::windows::Window;
-use picture_layout::{OverlappedRead, event_place};
 use markup::{Markup, Point};
+use picture_layout::{OverlappedRead, event_place};
 use std::alloc::{AllocError, Global};
 
 /// The accesses that a picture shows with its stages and marks.

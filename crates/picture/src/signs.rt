@@ -4,9 +4,9 @@ ghost use Rattle.picture.specs.Adding.{Draws};
 ghost use Rattle.markup.specs.{reading};
 ghost use Rattle.picture.specs.Signs.{down_by, mark_sign, moved_by, settled_sign, sign, taken_sign};
 
-use picture_layout::{DIGIT, RunLine, LineContent, drawn_like, room};
 use markup::{Markup, Point};
 use model::Mark;
+use picture_layout::{DIGIT, LineContent, RunLine, drawn_like, room};
 use std::alloc::{AllocError, Global};
 
 /// Draws the sign of a line at a place.

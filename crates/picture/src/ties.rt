@@ -7,8 +7,8 @@ ghost use Rattle.picture.specs.AccessShapes.{dot, tie, tie_between, tie_to, ties
 
 use crate::bands::Band;
 use crate::signs::moved;
-use picture_layout::{Column, Layout, ShownAccess};
 use markup::{Markup, Point};
+use picture_layout::{Column, Layout, ShownAccess};
 use std::alloc::AllocError;
 
 impl Band {

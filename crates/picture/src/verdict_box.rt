@@ -8,8 +8,8 @@ ghost use Rattle.picture.specs.Verdicts.{box_at, height_with, judged_shapes, key
 ghost use Rattle.shown_verdict.specs.{seen_line, seen_verdict, title_of, verdict_titles};
 
 use crate::bands::Band;
-use picture_layout::{AccessState, room};
 use markup::{Key, Markup, Point, number};
+use picture_layout::{AccessState, room};
 use shown_verdict::{FirstBadEntry, ShownVerdict, VerdictLine};
 use std::alloc::{AllocError, Global};
 

@@ -6,8 +6,8 @@ ghost use Rattle.picture_layout.specs.{change_in, seen, seen_accesses, seen_wave
 ghost use Rattle.picture.specs.WaveShapes.{change_if, change_shapes, level_of, next_change, value_label, wave_from, wave_part, wave_shapes, waves_from};
 
 use crate::bands::Band;
-use picture_layout::{AccessState, Column, LEFT, Wave, WaveChange, characters, room};
 use markup::{Markup, Point};
+use picture_layout::{AccessState, Column, LEFT, Wave, WaveChange, characters, room};
 use std::alloc::AllocError;
 
 impl Band {

@@ -11,8 +11,8 @@ ghost use Rattle.picture.specs.Windows.{GivesRest, GoesOn, TakesIn, held, lines_
 use crate::page::{Form, Page};
 use crate::subjects::Subject;
 use crate::windows::Window;
-use picture_layout::{OverlappedRead, RunLine, ShownAccess};
 use markup::Markup;
+use picture_layout::{OverlappedRead, RunLine, ShownAccess};
 use shown_verdict::ShownVerdict;
 use std::alloc::{AllocError, Global};
 

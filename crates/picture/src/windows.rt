@@ -2,7 +2,7 @@
 ghost use Rattle.std.specs.Prelude.{◌≡◌, nat_lt};
 ghost use Rattle.picture.specs.Windows.{all_entries, is_up_to, said_before, shows_end, shows_entry, shows_said};
 
-use picture_layout::{RunLine, LineContent};
+use picture_layout::{LineContent, RunLine};
 
 /// The entries that a picture shows: from one number to another, both included.
 #[derive(Clone, Copy, PartialEq, Eq)]
@@ -50,7 +50,9 @@ impl Window {
         ensures { result ≡ shows_said self.now line.now.at line.now.line_content }
     {
         match &line.line_content {
-            LineContent::Marked { .. } | LineContent::LockMarked { .. } => self.shows_entry(line.at),
+            LineContent::Marked { .. } | LineContent::LockMarked { .. } => self.shows_entry(
+                line.at,
+            ),
             LineContent::Ended { .. } | LineContent::LockEnded { .. } => self.shows_end(line.at),
             _ => self.from <= line.at && self.shows_end(line.at),
         }

@@ -9,9 +9,9 @@ ghost use Rattle.picture.specs.Words.{group_text, left_reach_of, listed_with, ma
 ghost use Rattle.picture.specs.Drawings.{seen_band, words_of_lane};
 
 use crate::bands::Band;
-use picture_layout::{Column, DIGIT, ProcessGroup, LEFT, BarWord, room};
 use markup::{Markup, Point};
 use model::{Mark, Stage};
+use picture_layout::{BarWord, Column, DIGIT, LEFT, ProcessGroup, room};
 use std::alloc::{AllocError, Global};
 
 /// A stretch of a bar in which one word may be drawn.

@@ -5,11 +5,11 @@ ghost use Rattle.picture_layout.specs.Accesses.{access_characters};
 ghost use Rattle.picture_layout.specs.Reported.{text_of, reported_in};
 
 use crate::accesses::ShownAccess;
+use crate::line_contents::RunLine;
 use crate::measures::{CHARACTER, DIGIT, PAD, room};
 use crate::reads::OverlappedRead;
 use crate::rows::{TextRow, rows_alone, rows_shared};
 use crate::state::State;
-use crate::line_contents::RunLine;
 use crate::widths::{digits, longest, width_of_knot};
 use std::alloc::{AllocError, Global};
 

@@ -74,7 +74,8 @@ impl RunLine {
             LineContent::Refused { process, .. } => Some(*process),
             LineContent::Tired(process) => Some(*process),
             LineContent::LockMarked { process, .. } => Some(*process),
-            LineContent::Shown(_) | LineContent::Ended { .. } | LineContent::LockEnded { .. } => None,
+            LineContent::Shown(_) | LineContent::Ended { .. } | LineContent::LockEnded { .. } =>
+                None,
         }
     }
 
@@ -174,7 +175,9 @@ impl RunLine {
                 };
                 printed(alloc, &line)
             }
-            LineContent::LockMarked { process, mark } => marked_line(alloc, self.at, *process, *mark),
+            LineContent::LockMarked { process, mark } => marked_line(
+                alloc, self.at, *process, *mark,
+            ),
             LineContent::LockEnded { entries } => ended_line(alloc, *entries),
         }
     }

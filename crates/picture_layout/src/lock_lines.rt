@@ -2,8 +2,8 @@
 ghost use Rattle.std.specs.Prelude.{◌≡◌, IfOk};
 ghost use Rattle.picture_layout.specs.LockLines.{like, lock_ended_text, lock_marked_text};
 
-use plain_store::{Answer, Command};
 use model::Mark;
+use plain_store::{Answer, Command};
 use std::alloc::{AllocError, Global};
 use trace::LockMark;
 

@@ -2,8 +2,8 @@
 ghost use Rattle.std.specs.Prelude.{◌≡◌, ◌++◌, [], ◌∷◌, true, filter_map, IfOk, OnOk, string_bytes};
 ghost use Rattle.picture_layout.specs.Columns.{GivesRows, counts_text, row_if_marked, row_shared, row_shortened, rows_marked, rows_named, rows_reported, shortened, verb_and_rest, verb_refused, worded, wording, wordings};
 
+use crate::line_contents::{LineContent, RunLine};
 use crate::measures::LONGEST;
-use crate::line_contents::{RunLine, LineContent};
 use model::Mark;
 use std::alloc::{AllocError, Global};
 
@@ -47,7 +47,10 @@ fn push_shared(alloc: Global, line: &RunLine, rows: &mut Vec<TextRow>) -> Result
     ensures { OnOk result (wordings rows.new ≡ wordings rows.old ++ row_if_marked line.now) }
 {
     match &line.line_content {
-        LineContent::Marked { mark, .. } => Ok(rows.push(TextRow::new(true, mark.to_string(alloc)?))?),
+        LineContent::Marked { mark, .. } => Ok(rows.push(TextRow::new(
+            true,
+            mark.to_string(alloc)?,
+        ))?),
         LineContent::LockMarked { mark, .. } => {
             Ok(rows.push(TextRow::new(true, mark.to_string(alloc)?))?)
         }

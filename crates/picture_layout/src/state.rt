@@ -5,11 +5,11 @@ ghost use Rattle.picture_layout.specs.declared.line_contents.LineContent.TheVari
 ghost use Rattle.picture_layout.specs.Stages.{stage_among, stages_marked, nothing_reported};
 ghost use Rattle.picture_layout.specs.States.{at_first, awaited_in, before_in, first_waiting, freed_by, freed_in, group_of, is_in_doorway, lined_up, queue_of, stages_next, state_marked, state_reported, ticket_in, is_waiting, ticket_set, with_seats_by, with_seats_marked, word_of};
 
-use crate::groups::{ProcessGroup, BarWord, group_before, place_behind, places_said, waiting_word};
+use crate::groups::{BarWord, ProcessGroup, group_before, place_behind, places_said, waiting_word};
+use crate::line_contents::{LineContent, RunLine};
 use crate::lock_lines::drawn_like;
 use crate::marks::{inside_after, leads_on, places_after, stage_after};
 use crate::seats::{ProcessDetails, clear_seat, forget};
-use crate::line_contents::{RunLine, LineContent};
 use model::{Mark, Stage};
 use std::alloc::{AllocError, Global};
 use trace::LockMark;

@@ -3,9 +3,9 @@ ghost use Rattle.std.specs.Prelude.{◌≡◌, map, IfOk};
 ghost use Rattle.picture_layout.specs.Columns.{digits_of, knot_width, longest_row, pair_of, wording};
 ghost use Rattle.picture_layout.specs.Reported.{change_reported};
 
+use crate::line_contents::RunLine;
 use crate::measures::{CHARACTER, DIGIT, PAD, room};
 use crate::rows::TextRow;
-use crate::line_contents::RunLine;
 use std::alloc::{AllocError, Global};
 
 /// Returns the number of digits of a number, or 0 if there is none.

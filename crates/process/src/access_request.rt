@@ -95,7 +95,10 @@ pub(crate) fn asks_at(call: &ProcessCall, seen: &ValuesRead, part: &ProgramPoint
             }
         }
         ProgramPoint::TakesTicket(ticket) => AccessRequest::Writes(Field::Ticket, ticket),
-        ProgramPoint::Lowers(_) | ProgramPoint::Refuses(_) => AccessRequest::Writes(Field::Choosing, 0),
+        ProgramPoint::Lowers(_) | ProgramPoint::Refuses(_) => AccessRequest::Writes(
+            Field::Choosing,
+            0,
+        ),
         ProgramPoint::AwaitsChoosing { owner, .. } => AccessRequest::Reads {
             owner,
             field: Field::Choosing,
@@ -112,7 +115,9 @@ pub(crate) fn asks_at(call: &ProcessCall, seen: &ValuesRead, part: &ProgramPoint
             let (owner, field) = newest_image(call, seen);
             AccessRequest::Reads { owner, field }
         }
-        ProgramPoint::WritesImage => AccessRequest::WritesImage(image_field(other_commit(call, seen))),
+        ProgramPoint::WritesImage => AccessRequest::WritesImage(image_field(other_commit(
+            call, seen,
+        ))),
         ProgramPoint::WritesStamp => {
             AccessRequest::Writes(
                 stamp_field(other_commit(call, seen)),

@@ -11,8 +11,8 @@ ghost use Rattle.process.specs.declared.values_read.ValuesRead.{ValuesRead};
 use crate::numbers::{greatest, most_of, place_of};
 use crate::others::{first_other, other_numbered, others_below};
 use crate::part::{ProcessCall, ProgramPoint};
-use crate::values_read::ValuesRead;
 use crate::store::{applied, is_change};
+use crate::values_read::ValuesRead;
 use plain_store::Answer;
 use store_image::Image;
 
@@ -202,7 +202,8 @@ pub(crate) fn part_after(
         ProgramPoint::WritesCommit => {
             ProgramPoint::Clears(Answer::Reply(applied(call, &seen.store).1))
         }
-        ProgramPoint::Refuses(_) | ProgramPoint::Clears(_) | ProgramPoint::Over => ProgramPoint::Over,
+        ProgramPoint::Refuses(_) | ProgramPoint::Clears(_) | ProgramPoint::Over =>
+            ProgramPoint::Over,
         ProgramPoint::AsksImage => unreachable!(),
     }
 }

@@ -13,18 +13,18 @@ ghost use Rattle.process.specs.Places.{changes_at, is_reported};
 ghost use Rattle.process.specs.Reporting.{changes_reported, marks_reported};
 ghost use Rattle.process.specs.Working.{reply_taken};
 
-use crate::after;
 use crate::access_request::{AccessRequest, asks_at, newest_stamp, other_commit};
+use crate::after;
 use crate::looks::KnownTicket;
 use crate::marks::outcome_before;
 use crate::numbers::{greatest, most_of};
 use crate::others::others_below;
-use crate::part::{ProcessCall, ProgramPoint};
-use crate::values_read::ValuesRead;
-use crate::store::applied;
 use crate::outcomes::StepOutcome;
-use plain_store::{Answer, Command, Reply, Setup};
+use crate::part::{ProcessCall, ProgramPoint};
+use crate::store::applied;
+use crate::values_read::ValuesRead;
 use model::{Field, Stage};
+use plain_store::{Answer, Command, Reply, Setup};
 use std::marker::Model;
 use store_image::Image;
 
@@ -54,8 +54,15 @@ impl CallPart {
         requires good { checked setup.now ≡ Ok tt }
         requires process { process < setup.now.processes }
         ensures { result
-            ≡ record { call = record { setup = setup.now; process = process; command = command;
-                number = number }; part = Raises } }
+            ≡ record {
+              call = record {
+                setup = setup.now;
+                process = process;
+                command = command;
+                number = number;
+              };
+              part = Raises;
+            } }
     {
         CallPart {
             call: ProcessCall {
@@ -76,8 +83,10 @@ impl CallPart {
     /// Begins another call of this process.
     pub fn start(&mut self, command: Command, number: u16)
         ensures { self.new
-            ≡ record { call = record self.old.call { command = command; number = number };
-            part = Raises } }
+            ≡ record {
+              call = record self.old.call { command = command; number = number };
+              part = Raises;
+            } }
     {
         self.call.command = command;
         self.call.number = number;
@@ -87,8 +96,10 @@ impl CallPart {
     /// Begins another call of this process at the position where it enters the critical section.
     pub fn start_inside(&mut self, command: Command, number: u16)
         ensures { self.new
-            ≡ record { call = record self.old.call { command = command; number = number };
-            part = to_e (processes self.old.call.setup) [] } }
+            ≡ record {
+              call = record self.old.call { command = command; number = number };
+              part = to_e (processes self.old.call.setup) [];
+            } }
     {
         self.call.command = command;
         self.call.number = number;
@@ -160,7 +171,8 @@ impl CallPart {
         ensures { result ≡ stage_of self.now.part fresh }
     {
         match self.part {
-            ProgramPoint::AwaitsChoosing { .. } | ProgramPoint::AwaitsTicket { .. } => Stage::Waiting,
+            ProgramPoint::AwaitsChoosing { .. } | ProgramPoint::AwaitsTicket { .. } =>
+                Stage::Waiting,
             ProgramPoint::AsksCommit { .. }
             | ProgramPoint::AsksStamp { .. }
             | ProgramPoint::AsksImage
@@ -227,13 +239,12 @@ impl CallPart {
         ensures { result ≡ pending_at self.now.call self.now.part }
     {
         match self.part {
-            ProgramPoint::WritesImage | ProgramPoint::WritesStamp | ProgramPoint::WritesCommit => Some(
-                (
+            ProgramPoint::WritesImage | ProgramPoint::WritesStamp | ProgramPoint::WritesCommit =>
+                Some((
                     applied(&self.call, &self.seen.store).1,
                     newest_stamp(&self.call, &self.seen),
                     other_commit(&self.call, &self.seen),
-                ),
-            ),
+                )),
             _ => None,
         }
     }

@@ -7,8 +7,8 @@ ghost use Rattle.process.specs.Newest.{newest_store, version_in};
 use crate::access_request::stamp_field;
 use crate::image::image_read;
 use crate::newest_version::NewestVersion;
-use plain_store::Setup;
 use model::Field;
+use plain_store::Setup;
 use registers::{BitMemory, RegisterName};
 use store_image::Image;
 

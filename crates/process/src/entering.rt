@@ -11,8 +11,8 @@ use crate::access_request::AccessRequest;
 use crate::call_part::CallPart;
 use crate::image::image_read;
 use crate::outcomes::StepOutcome;
-use plain_store::pad;
 use model::Field;
+use plain_store::pad;
 use registers::{Cursor, RegisterAccessKind, RegisterName};
 
 /// Puts the cursor at the begin of a part.

@@ -5,8 +5,8 @@ ghost use Rattle.model.specs.{bytes_of_bits, image_bytes};
 ghost use Rattle.model.specs.safe_number.{bit_in};
 ghost use Rattle.store_image.specs.{store_in};
 
-use plain_store::Setup;
 use model::{bytes_go_by_their_bits, image_bytes};
+use plain_store::Setup;
 use store_image::Image;
 
 /// Returns the store whose image was read, bit by bit, as these bytes. Only the first bytes are those of the image. If

@@ -2,8 +2,9 @@
 //! makes there.
 #![tactic(auto)]
 
-mod after;
 mod access_request;
+mod activity;
+mod after;
 mod call_part;
 mod committed;
 mod entering;
@@ -14,21 +15,20 @@ mod newest_version;
 mod numbers;
 mod opening;
 mod others;
+mod outcomes;
 mod part;
 mod process;
-mod values_read;
 mod store;
-mod outcomes;
-mod activity;
+mod values_read;
 
 pub use access_request::AccessRequest;
 pub use call_part::CallPart;
-pub use committed::newest;
 pub use choices::Flicks;
-pub use looks::{AccessProgress, Settling, KnownTicket};
+pub use committed::newest;
+pub use looks::{AccessProgress, KnownTicket, Settling};
 pub use newest_version::NewestVersion;
 pub use opening::open_memory;
+pub use outcomes::{EventMade, EventOutcome, StepOutcome};
 pub use process::Process;
 pub use registers::{AccessMade, AccessesMade, BitCopy, BitMemory, CopyState, RegisterName, given};
 pub use store_image::Image;
-pub use outcomes::{EventOutcome, EventMade, StepOutcome};

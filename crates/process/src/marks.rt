@@ -6,8 +6,8 @@ ghost use Rattle.process.specs.ValuesRead.{part_at};
 ghost use Rattle.process.specs.Reporting.{changes_reported, marks_reported};
 ghost use Rattle.process.specs.declared.values_read.ValuesRead.{ValuesRead};
 
-use crate::part::ProgramPoint;
 use crate::outcomes::StepOutcome;
+use crate::part::ProgramPoint;
 use plain_store::Answer;
 
 /// Returns the outcome of the last access of a part, before this next part. `changes` changes precede a command taken.
@@ -38,9 +38,8 @@ fn outcome_of_lowering(ticket: u32, next: &ProgramPoint) -> StepOutcome
     ensures changes { changes_reported result ≡ None }
 {
     match next {
-        ProgramPoint::AwaitsChoosing { .. } | ProgramPoint::AwaitsTicket { .. } => StepOutcome::Waits(
-            ticket,
-        ),
+        ProgramPoint::AwaitsChoosing { .. } | ProgramPoint::AwaitsTicket { .. } =>
+            StepOutcome::Waits(ticket),
         _ => StepOutcome::WaitsAndEnters(ticket),
     }
 }

@@ -3,8 +3,8 @@ ghost use Rattle.std.specs.Prelude.{◌≡◌};
 ghost use Rattle.model.specs.{reply_taken};
 ghost use Rattle.process.specs.Reporting.{marks_of, marks_reported};
 
-use plain_store::{Answer, Command, Reply};
 use model::Access;
+use plain_store::{Answer, Command, Reply};
 
 /// The outcome of a step of a process, or of its memory unit.
 #[derive(Clone, Copy)]

@@ -13,11 +13,11 @@ mod refusals;
 mod serving;
 
 use crate::access_request::AccessRequest;
+use crate::activity::Activity;
 use crate::call_part::CallPart;
 use crate::entering::enter;
-use crate::activity::Activity;
-use plain_store::{Command, Setup};
 use model::{Field, Stage};
+use plain_store::{Command, Setup};
 use registers::Cursor;
 use std::marker::Model;
 
@@ -85,8 +85,7 @@ impl Process {
             Activity::Lies => Stage::Down,
             Activity::Runs => self.called.stage(self.cursor.is_fresh()),
             Activity::Withdraws => Stage::Leaving,
-            Activity::Settles { .. } | Activity::Frees { .. } | Activity::Lowers =>
-                Stage::Settling,
+            Activity::Settles { .. } | Activity::Frees { .. } | Activity::Lowers => Stage::Settling,
         }
     }
 

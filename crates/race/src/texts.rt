@@ -8,8 +8,8 @@ ghost use Rattle.race.specs.Texts.{answer_line as line_of_answer, answers_from, 
 
 use board::Image;
 use call_check::Weighed;
-use plain_store::{Answer, NestedTypes, Setup, show_line};
 use model::{Placed, Refusal, refusal_line};
+use plain_store::{Answer, NestedTypes, Setup, show_line};
 use scenario::{Line, Scenario};
 use std::alloc::{AllocError, Global};
 

@@ -9,8 +9,8 @@ ghost use Rattle.race.specs.declared.workers.CallReached.TheVariants.{Answer};
 use crate::faults::RaceFault;
 use crate::gates::{Gate, Moment, passes};
 use board::{Board, Driven, Flicks, Port};
-use plain_store::Command;
 use model::Stage;
+use plain_store::Command;
 use std::sync::Wait;
 use std::thread;
 

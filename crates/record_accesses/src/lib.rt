@@ -45,21 +45,21 @@
 mod bits;
 mod boxes;
 mod limits;
+mod monitor;
+mod monitored;
 mod moves;
 mod opened;
 mod openings;
 mod overlaps;
-mod monitor;
-mod monitored;
 mod wave_rows;
 mod words;
 mod written_bits;
 
 pub use boxes::boxes_show_overlapped_reads;
-pub use picture_layout::{WaveCount, WaveLimit};
-pub use opened::drops_open_read;
-pub use plain_store;
 pub use monitor::RecordAccessMonitor;
+pub use opened::drops_open_read;
+pub use picture_layout::{WaveCount, WaveLimit};
+pub use plain_store;
 pub use wave_rows::written_bits_have_waves;
 
 #[cfg(test)]

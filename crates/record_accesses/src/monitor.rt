@@ -11,15 +11,15 @@ ghost use Rattle.record_accesses.specs.Opened.{drops as is_dropping};
 ghost use Rattle.record_accesses.specs.Rows.{waves_after};
 ghost use Rattle.picture_layout.specs.declared.limits.WaveLimit.{WaveLimit as Limit};
 
+use crate::monitored::{DroppedRead, Monitored, MonitoredBitAccess, begin, change, step};
 use crate::opened::{OpenAccesses, dropped_read, drops_open_read};
 use crate::openings::Openings;
 use crate::overlaps::overlaps;
-use crate::monitored::{DroppedRead, Monitored, MonitoredBitAccess, begin, change, step};
 use crate::wave_rows::BitWaves;
 use crate::written_bits::WrittenBits;
+use model::{Access, Entry, Mark};
 use picture_layout::{ShownAccess, WaveLimit};
 use plain_store::Setup;
-use model::{Access, Entry, Mark};
 use std::alloc::{AllocError, Global};
 use std::marker::Model;
 

@@ -7,8 +7,8 @@ use crate::bits::BitState;
 use crate::limits::has_row;
 use crate::moves::alters;
 use crate::opened::{OpenBitAccess, is_write_of};
-use picture_layout::{AccessStep, WaveCount};
 use model::{Access, Move};
+use picture_layout::{AccessStep, WaveCount};
 
 /// A change of the wave of a bit, in numbers.
 #[derive(Clone, Copy)]

@@ -2,8 +2,8 @@
 ghost use Rattle.std.specs.Prelude.{◌≡◌};
 ghost use Rattle.record_accesses.specs.Moves.{alters as is_altering, begins as is_beginning, kind_of, writes as is_writing};
 
-use picture_layout::AccessKind;
 use model::Move;
+use picture_layout::AccessKind;
 
 /// Returns the kind of the access of a move.
 pub(crate) fn kind(how: Move) -> AccessKind

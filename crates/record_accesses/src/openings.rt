@@ -5,8 +5,8 @@ ghost use Rattle.plain_store.specs.{checked};
 ghost use Rattle.model.specs.{opening_bit};
 ghost use Rattle.record_accesses.specs.Accesses.{is_there as exists, possible_access};
 
-use plain_store::{Setup, opened};
 use model::{Access, Field, bit_of, width_of};
+use plain_store::{Setup, opened};
 use std::alloc::AllocError;
 use std::marker::Model;
 use store_image::Image;

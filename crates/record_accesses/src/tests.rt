@@ -3,9 +3,9 @@ ghost use Rattle.std.specs.Prelude.{◌≡◌, Ok};
 ghost use Rattle.plain_store.specs.{checked};
 
 use crate::{RecordAccessMonitor, WaveCount, WaveLimit};
+use model::{Access, Act, Entry, Field, Mark, Move};
 use picture_layout::{AccessKind, AccessStep, ShownAccess, WaveChange};
 use plain_store::{Name, Setup, Value};
-use model::{Access, Act, Entry, Field, Mark, Move};
 use smallvec::SmallVec;
 use std::alloc::{AllocError, Global};
 use std::test::Fail;

@@ -6,10 +6,10 @@ ghost use Rattle.record_file.specs.{copy_word};
 ghost use Rattle.record_accesses.specs.Accesses.{shown_as, shown_change, shown_dropped, shown_made};
 ghost use Rattle.record_accesses.specs.Words.{unlike, words_of};
 
-use crate::moves::kind;
 use crate::monitored::{BitChange, DroppedRead, Monitored, MonitoredBitAccess};
-use picture_layout::{AccessKind, AccessStep, ShownAccess, WaveChange};
+use crate::moves::kind;
 use model::{Access, Move};
+use picture_layout::{AccessKind, AccessStep, ShownAccess, WaveChange};
 use std::alloc::{AllocError, Global};
 
 impl Monitored {

@@ -6,8 +6,8 @@ ghost use Rattle.record_file.specs.Reading.{answer_count, answer_of, answered_of
 
 use crate::keywords::{AnswerWord, MarkWord, ReplyWord};
 use files::FaultKind;
-use plain_store::{Answer, NestedTypes, Reply};
 use model::Mark;
+use plain_store::{Answer, NestedTypes, Reply};
 use scenario::bit_files::one_bit;
 use scenario::keywords::Verb;
 use scenario::operands::{integer, number, process, value};

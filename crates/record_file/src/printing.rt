@@ -9,8 +9,8 @@ ghost use Rattle.record_file.specs.ReadAgain.{GivesBeginning, PrintedRecordsAreR
 use crate::sound::sound_entry;
 use crate::steps::StepLine;
 use itoa::Buffer;
-use plain_store::{NestedTypes, Setup};
 use model::{Access, Entry, Mark};
+use plain_store::{NestedTypes, Setup};
 use scenario::printing::{print_opening, setup_lines};
 use std::alloc::{AllocError, Global};
 

@@ -5,8 +5,8 @@ ghost use Rattle.plain_store.specs.{is_value};
 ghost use Rattle.record_file.specs.Given.{is_access, is_answer, is_entry, is_mark, is_reply};
 ghost use Rattle.record_file.specs.Printing.{step_entry};
 
-use plain_store::{Answer, NestedTypes, Reply, Value};
 use model::{Access, Entry, Mark};
+use plain_store::{Answer, NestedTypes, Reply, Value};
 
 /// The parts of an entry are what their types allow.
 pub fn sound_entry(entry: &Entry)

@@ -8,8 +8,8 @@ ghost use Rattle.register_tests.specs.Sections.{section_after, section_goes};
 use super::sections::{a, goes_on};
 use super::units::{UnitSteps, place_of, settle};
 use bakery::{DataRow, Image, Locks, Section, SectionProgress, Unit, UnitProgress};
-use plain_store::{Command, NestedTypes, Reply, Setup, Store, Value};
 use model::Field;
+use plain_store::{Command, NestedTypes, Reply, Setup, Store, Value};
 use std::alloc::{AllocError, Global};
 
 /// The outcome of the steps of a section.

@@ -2,8 +2,8 @@ ghost use Rattle.std.specs.Prelude.{◌≡◌, true, false, [], ◌∷◌, repli
 ghost use Rattle.reader_copies.specs.{new_bit, new_row};
 ghost use Rattle.register_tests.specs.Copies.{OthersStay, written_copy, open_row, last_row, with_last_written};
 
-use reader_copies::{CopiedBit, CopiedRow, CopyRead, CopyWrite, Made, Progress};
 use model::Move;
+use reader_copies::{CopiedBit, CopiedRow, CopyRead, CopyWrite, Made, Progress};
 use std::test::Fail;
 
 /// Whether a step tells this: the copy of which reader, the move, and what remains.

@@ -9,9 +9,9 @@ ghost use Rattle.register_tests.specs.Doors.{after_bit_read, after_clearing, aft
 ghost use Rattle.register_tests.specs.LoneWrite.{one};
 
 use bakery::{Door, DoorProgress, Leaving, Lock, Locks};
+use model::{Access, Field, Move};
 use plain_store::Setup;
 use reader_copies::Progress;
-use model::{Access, Field, Move};
 use std::alloc::{AllocError, Global};
 
 /// The outcome of the steps of a door.

@@ -8,8 +8,8 @@ ghost use Rattle.register_tests.specs.Waits.{two};
 use super::doors::{DoorSteps, read_lock, run_door};
 use super::units::{UnitSteps, place_of, settle};
 use bakery::{DataRow, Door, DoorProgress, Locks, Unit, UnitProgress};
-use plain_store::Setup;
 use model::Field;
+use plain_store::Setup;
 use std::alloc::{AllocError, Global};
 
 /// The outcome for a process that fails in its doorway, and for one that comes after it.

@@ -1,8 +1,8 @@
 //! Steps on real registers.
 use bakery::{Door, DoorProgress, Leaving, Locks};
+use model::{Access, Field, Move};
 use plain_store::Setup;
 use reader_copies::{Made, Progress};
-use model::{Access, Field, Move};
 use std::alloc::{AllocError, Global};
 
 /// The first access of process 1 that gives up waiting, and the bit that is torn where it fails there, if it goes on.

@@ -4,8 +4,8 @@ ghost use Rattle.bakery.specs.Sections.{is_going, goes_on};
 
 use super::memory::Memory;
 use bakery::{Section, SectionProgress};
-use plain_store::{Command, Name, NestedTypes, Reply, Setup, Value};
 use model::{Access, Field, Move};
+use plain_store::{Command, Name, NestedTypes, Reply, Setup, Value};
 use std::alloc::{AllocError, Global};
 
 /// Whether an access is left.

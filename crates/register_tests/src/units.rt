@@ -4,8 +4,8 @@ ghost use Rattle.bakery.specs.process.{may_step};
 ghost use Rattle.register_tests.specs.Units.{is_down, locks_settled, row_settled, settlement, settlement_of, unit_after, unit_goes};
 
 use bakery::{Data, DataRow, Lock, Locks, Unit, UnitProgress};
-use plain_store::Setup;
 use model::{Access, Field, Move, TornBit};
+use plain_store::Setup;
 use std::alloc::{AllocError, Global};
 
 /// The first step of the unit of a process that failed before its first access.

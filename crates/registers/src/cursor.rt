@@ -14,9 +14,9 @@ mod steps;
 
 use crate::fields::RegisterName;
 use crate::word_bytes::{bytes_of, register_bytes, words_of};
+use model::{Access, Field, Move, TornBit, number_of_field, width_of};
 use plain_store::Setup;
 use reader_copies::Torn;
-use model::{Access, Field, Move, TornBit, number_of_field, width_of};
 use std::marker::Model;
 
 /// The kind of a register access.

@@ -16,9 +16,9 @@ mod seeing;
 use crate::access_made::{AccessMade, AccessesMade};
 use crate::cursor::{Cursor, RegisterAccessKind, word_at};
 use choices::Flicks;
+use model::{Field, field_numbered, width_of};
 use plain_store::Setup;
 use reader_copies::Copies;
-use model::{Field, field_numbered, width_of};
 use std::alloc::{AllocError, Global};
 use std::marker::Model;
 

@@ -6,8 +6,8 @@ ghost use Rattle.plain_store.specs.{reply_text};
 ghost use Rattle.run_state.specs.Lines.{at_words, call_lines, call_words, line_if, open_lines, process_line, span_words, taken_words};
 
 use calls::Called;
-use plain_store::{NestedTypes, Reply};
 use model::Taken;
+use plain_store::{NestedTypes, Reply};
 use std::alloc::{AllocError, Global};
 
 /// Writes the start of a line of a process.
@@ -121,7 +121,14 @@ fn push_call(
         marks.door_end,
         text,
     )?;
-    push_span(alloc, process, "inside", marks.entered, marks.remaining, text)?;
+    push_span(
+        alloc,
+        process,
+        "inside",
+        marks.entered,
+        marks.remaining,
+        text,
+    )?;
     let taken = taken_words(alloc, history, marks.place, marks.taken)?;
     push_line_if(alloc, process, taken, text)?;
     let withdrew = withdrew_words(alloc, marks.withdrew)?;

@@ -12,8 +12,8 @@ ghost use Rattle.calls.specs.world.process.registers.{copy_bytes, register_bytes
 
 use crate::register_text::shown;
 use calls::world::{Core, Image, RegisterName};
-use plain_store::{Setup, opened, pad};
 use model::Field;
+use plain_store::{Setup, opened, pad};
 use std::alloc::{AllocError, Global};
 
 /// Returns the copies of a register as bytes, by reader; `None` while a write of one of a copy's bits is open.

@@ -7,10 +7,10 @@ ghost use Rattle.run_state.specs.Copies.{is_image};
 ghost use Rattle.run_state.specs.Doing.{access_in, awaited, chosen_words, cut_access, cut_open, doorway_ticket, failed_words, is_cut_open, open_by, opened_words, progress_words, read_word, reads_words, settles_words, so_far, ticket_at, ticket_words, torn_words, waiting_ticket, waits_at, waits_by, writes_words, written_word};
 
 use crate::kept::FinishedRead;
-use calls::world::{AccessProgress, CopyState, Settling, KnownTicket};
+use calls::world::{AccessProgress, CopyState, KnownTicket, Settling};
 use calls::{Called, holds_up};
-use plain_store::NestedTypes;
 use model::{Access, Entry, Field, Move, Stage};
+use plain_store::NestedTypes;
 use std::alloc::{AllocError, Global};
 
 /// Returns when a process failed, while its unit settles.

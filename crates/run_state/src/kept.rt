@@ -6,8 +6,8 @@ ghost use Rattle.model.specs.{is_failed};
 ghost use Rattle.run_state.specs.Keeping.{kept_marked, kept_stepped, nothing_kept, number_finished, opened};
 
 use calls::{CallState, Called, called_in, ends_number, number_after};
-use plain_store::{NestedTypes, Setup};
 use model::{Access, Mark};
+use plain_store::{NestedTypes, Setup};
 
 /// The read of a whole register. Its number is worked out only where it is printed, because few of these reads are printed.
 #[derive(Clone, Copy)]

@@ -14,8 +14,8 @@ use crate::register_lines::push_registers;
 use crate::stores::push_history;
 use calls::world::Core;
 use calls::{Accesses, CallState, Called, Marked};
-use plain_store::{NestedTypes, Setup};
 use model::{Access, Entry, Mark, Stage, Taken};
+use plain_store::{NestedTypes, Setup};
 use std::alloc::{AllocError, Global};
 use std::marker::Model;
 

@@ -10,11 +10,11 @@ ghost use Rattle.run_state.specs.States.{HasSeen, Observes, ObservesReported, en
 ghost use Rattle.calls.specs.Tables.{fewer};
 
 use crate::observed_run::ObservedRun;
-use calls::scenario_run::{Accepted, RunObserver, UnmarkedStep, TurnReport};
 use calls::scenario::Fault;
+use calls::scenario_run::{Accepted, RunObserver, TurnReport, UnmarkedStep};
 use calls::world::Core;
-use plain_store::{NestedTypes, Setup};
 use model::{Access, Act, Entry, Move};
+use plain_store::{NestedTypes, Setup};
 use smallvec::SmallVec;
 use std::alloc::{AllocError, Global};
 

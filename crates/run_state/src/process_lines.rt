@@ -21,9 +21,9 @@ use crate::kept::ProcessSummary;
 use crate::next_lines::push_next;
 use crate::register_text::{bit_at, shown};
 use calls::world::laws::writes_leave_their_bits;
-use calls::world::{AccessProgress, Core, Settling, KnownTicket};
-use plain_store::{NestedTypes, Setup};
+use calls::world::{AccessProgress, Core, KnownTicket, Settling};
 use model::{Access, Entry, Stage, Taken};
+use plain_store::{NestedTypes, Setup};
 use std::alloc::{AllocError, Global};
 
 /// Writes the lines of one process that runs, or whose memory unit settles.

@@ -3,8 +3,8 @@ ghost use Rattle.std.specs.Prelude.{◌≡◌, ◌≤◌};
 
 use crate::observed_run::ObservedRun;
 use judge::ThisLockJudge;
-use plain_store::Setup;
 use model::{Entry, Taken};
+use plain_store::Setup;
 use std::alloc::Global;
 
 /// The newest good entry of a record.

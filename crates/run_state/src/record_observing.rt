@@ -10,14 +10,14 @@ ghost use Rattle.run_state.specs.RecordStates.{ReportsState, bad_line};
 ghost use Rattle.run_state.specs.ObservedRuns.{HasObserved};
 ghost use Rattle.std.specs.Option.{option_to_list};
 
-use crate::record_observer::{GoodEntries, NewestEntry, RecordStateObserver};
 use crate::observed_run::ObservedRun;
+use crate::record_observer::{GoodEntries, NewestEntry, RecordStateObserver};
 use judge::{
     Audited, EntryObserver, RecordJudge, Reporting, ThisLockJudge, Verdict, entry_of_parts, parts,
     status_of, verdict_line,
 };
-use plain_store::{NestedTypes, Reply, Setup};
 use model::{Access, Entry, Mark, Taken};
+use plain_store::{NestedTypes, Reply, Setup};
 use std::alloc::{AllocError, Global};
 
 impl EntryObserver for RecordStateObserver {

@@ -11,8 +11,8 @@ ghost use Rattle.run_state.specs.Stores.{number_word};
 
 use crate::copies::{are_changed, copies_held, copy_texts, opening_bytes};
 use calls::world::{Core, RegisterName};
-use plain_store::Setup;
 use model::{FIELDS, field_numbered};
+use plain_store::Setup;
 use std::alloc::{AllocError, Global};
 
 /// Writes the lines of the registers of which a copy is not as it opened, or is being written.

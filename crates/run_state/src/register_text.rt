@@ -10,8 +10,8 @@ ghost use Rattle.run_state.specs.Copies.{bit_at, image_text, shown};
 
 use crate::stores::push_store;
 use calls::world::{BitCopy, CopyState, Core, Image};
-use plain_store::Setup;
 use model::{Access, Field, image_bytes, width_of};
+use plain_store::Setup;
 use safe_number::number_of;
 use std::alloc::{AllocError, Global};
 

@@ -8,9 +8,9 @@ ghost use Rattle.run_state.specs.Making.{WritesMade};
 ghost use Rattle.run_state.specs.States.{HasSeen, events_said as said_by, state_text, stated};
 
 use crate::observer::StateObserver;
-use calls::scenario_run::{ScenarioRun, LineMade, PlayLimit};
 use calls::scenario::operands::number;
 use calls::scenario::{Fault, Scenario, Sink, Source, read_input, read_scenario, write_all};
+use calls::scenario_run::{LineMade, PlayLimit, ScenarioRun};
 use diagnostics::progress::ProgressObserver;
 use plain_store::NestedTypes;
 use std::alloc::{AllocError, Global};

@@ -6,8 +6,8 @@ ghost use Rattle.model.specs.{store_after};
 ghost use Rattle.run_state.specs.Stores.{history_lines, is_some_call, number_word, numbers_of, store_text};
 
 use calls::world::Image;
-use plain_store::{Caller, NestedTypes, Setup, Store, opened, store_words};
 use model::Taken;
+use plain_store::{Caller, NestedTypes, Setup, Store, opened, store_words};
 use std::alloc::{AllocError, Global};
 
 /// Writes the pairs of a store, or `empty`, and the numbers of its callers, unless all are 0.

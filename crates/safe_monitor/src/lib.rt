@@ -3,14 +3,14 @@
 #![tactic(auto)]
 
 mod by_parts;
+mod monitor;
 mod monitored_bit;
 mod packed;
 mod places;
 mod shown;
 mod verdicts;
-mod monitor;
 
 pub use by_parts::parts;
+pub use monitor::SafeMonitor;
 pub use shown::NamedLaw;
 pub use verdicts::{Audited, Law, Verdict};
-pub use monitor::SafeMonitor;

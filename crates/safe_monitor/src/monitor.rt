@@ -10,8 +10,8 @@ ghost use Rattle.safe_monitor.specs.Monitoring.{HasObserved, IfAllThere, IfThere
 use crate::monitored_bit::MonitoredBit;
 use crate::packed::MonitoredBits;
 use crate::places::{REGISTERS, copy_of, is_there, register_of};
-use plain_store::{Setup, opened};
 use model::{Access, bit_of, field_numbered, width_of};
+use plain_store::{Setup, opened};
 use std::alloc::{AllocError, Global};
 use std::marker::Model;
 use store_image::Image;

@@ -4,8 +4,8 @@ ghost use Rattle.plain_store.specs.{checked};
 ghost use Rattle.laws.specs.{IsThere};
 ghost use Rattle.safe_monitor.specs.Monitoring.{copy_of, register_of};
 
-use plain_store::Setup;
 use model::{Access, number_of_field, width_of};
+use plain_store::Setup;
 
 /// The number of registers of a process.
 pub(crate) const REGISTERS: usize = 7;

@@ -23,11 +23,11 @@ mod spelling;
 pub mod statements;
 
 pub use bit_files::{BitLine, read_bits};
+pub use choices::Flick;
 pub use files::{
     DONE, Ending, Failed, Fault, FaultKind, FromRead, INPUT_LIMIT, IntoWrite, LineFault, Sink,
     Source, exit_status, fault_status, progress, read_input, write_all,
 };
-pub use choices::Flick;
 pub use laws::{cut_texts_have_the_fault_of_the_whole, lines_have_their_numbers};
 pub use lines::{Line, Target};
 pub use printing::print_scenario;

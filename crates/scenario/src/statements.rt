@@ -6,8 +6,8 @@ ghost use Rattle.scenario.specs.Statements.{is_line_of, is_verb_of, verb_in, ope
 use crate::keywords::{LineWord, Verb};
 use crate::lines::{Line, Target};
 use crate::operands::{count, integer, name, number, process, value};
-use files::FaultKind;
 use choices::Flick;
+use files::FaultKind;
 use plain_store::Command;
 
 impl Verb {

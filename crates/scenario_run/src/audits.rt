@@ -9,11 +9,11 @@ ghost use Rattle.scenario_run.specs.Happenings.{Happening, past_after};
 ghost use Rattle.scenario_run.specs.Judging.{Audits};
 ghost use Rattle.scenario_run.specs.Observing.{Happens};
 
+use crate::reports::{TurnReport, UnmarkedStep};
 use crate::run_observers::RunObserver;
-use crate::reports::{UnmarkedStep, TurnReport};
 use auditor::{Auditor, Law, Verdict};
-use plain_store::{NestedTypes, Setup};
 use model::{Access, Mark, Move};
+use plain_store::{NestedTypes, Setup};
 use scenario::Fault;
 use std::alloc::{AllocError, Global};
 

@@ -7,21 +7,21 @@
 #![tactic(auto)]
 
 mod audits;
-mod run_observers;
 mod newest;
-mod summaries;
-mod reports;
-mod turns;
 mod play_limit;
+mod reports;
+mod run_observers;
+mod summaries;
+mod turns;
 
 pub use auditor::SafeMonitor;
 pub use audits::{RunAudit, WithAudit};
-pub use run_observers::RunObserver;
-pub use newest::newest_words;
 pub use model::{Access, Entry, Event, Mark, Move, Record, Refusal, Taken, refusal_line};
-pub use run_lines::ReplayLine;
-pub use summaries::Summary;
-pub use reports::{Accepted, UnmarkedStep, TurnReport};
-pub use turns::ScenarioRun;
+pub use newest::newest_words;
 pub use play_limit::{LineMade, PlayLimit};
+pub use reports::{Accepted, TurnReport, UnmarkedStep};
+pub use run_lines::ReplayLine;
+pub use run_observers::RunObserver;
+pub use summaries::Summary;
+pub use turns::ScenarioRun;
 pub use world::World;

@@ -2,8 +2,8 @@
 ghost use Rattle.std.specs.Prelude.{◌≡◌, ◌≤◌};
 ghost use Rattle.scenario_run.specs.Reporting.{entry_made, events_reported, marks_made};
 
-use plain_store::NestedTypes;
 use model::{Access, Act, Entry, Event, Mark, Refusal};
+use plain_store::NestedTypes;
 use smallvec::SmallVec;
 use std::alloc::Global;
 use world::{EventOutcome, Image, event_marks};

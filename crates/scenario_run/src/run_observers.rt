@@ -7,7 +7,7 @@ ghost use Rattle.scenario.specs.files.declared.faults.Fault.TheVariants.{Memory}
 ghost use Rattle.scenario_run.specs.Happenings.{Happening, Tries};
 ghost use Rattle.scenario_run.specs.Observing.{ObservesPassing, ObservesReported, ObservesUnmarked, StopsBy, TakesRoom};
 
-use crate::reports::{UnmarkedStep, TurnReport};
+use crate::reports::{TurnReport, UnmarkedStep};
 use model::Move;
 use scenario::Fault;
 

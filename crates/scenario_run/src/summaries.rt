@@ -3,8 +3,8 @@ ghost use Rattle.scenario.specs.files.declared.faults.Fault.TheVariants.{Memory}
 ghost use Rattle.scenario_run.specs.Summaries.{CanCount, can_count_less, counted};
 ghost use Rattle.scenario_run.specs.Writing.{Counts};
 
+use crate::reports::{TurnReport, UnmarkedStep};
 use crate::run_observers::RunObserver;
-use crate::reports::{UnmarkedStep, TurnReport};
 use model::Move;
 use scenario::{DONE, Ending, Fault};
 

@@ -20,8 +20,8 @@ mod running;
 mod steps;
 
 use crate::reports::{Accepted, TurnReport};
-use plain_store::{NestedTypes, Setup};
 use model::{Event, Refusal, Taken};
+use plain_store::{NestedTypes, Setup};
 use scenario::Line;
 use std::alloc::{AllocError, Global};
 use std::marker::Model;
@@ -110,7 +110,7 @@ impl ScenarioRun {
         ensures made { IfOk result
             (λ reported. InItsRun self.old
             (λ run. Makes self.old run
-                (turn_of self.old.world.setup line.now self.old.remaining run) reported self.new)) }
+            (turn_of self.old.world.setup line.now self.old.remaining run) reported self.new)) }
     {
         let _nested: NestedTypes = None;
         match line {
@@ -143,7 +143,7 @@ impl ScenarioRun {
         ensures made { IfOk result
             (λ reported. InItsRun self.old
             (λ run. Makes self.old run (happens (Tries event) (self.old.remaining - 1) run) reported
-                self.new)) }
+            self.new)) }
     {
         self.remaining -= 1;
         let place = self.world.history().len() as u64;

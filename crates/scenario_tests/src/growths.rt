@@ -2,8 +2,8 @@
 //! and also if any one allocation is refused.
 use crate::worlds::{a, make};
 use auditor::World;
-use plain_store::{Command, Setup, Store, Value};
 use model::{Event, Refusal, Stage};
+use plain_store::{Command, Setup, Store, Value};
 use std::alloc::{AllocError, Global};
 use std::process::Abort;
 use std::test::Fail;

@@ -1,8 +1,8 @@
 //! Worlds that are driven by single events. Each belongs to a function with one exit, which passes it by reference.
 use crate::uses::two_events;
 use auditor::World;
-use plain_store::{Command, Name, Setup};
 use model::{Act, Event, Mark, Refusal, Stage};
+use plain_store::{Command, Name, Setup};
 use std::alloc::Global;
 use std::process::Abort;
 use std::test::Fail;

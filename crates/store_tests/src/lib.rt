@@ -5,12 +5,12 @@
 #[cfg(test)]
 mod images;
 #[cfg(test)]
+mod monitoring;
+#[cfg(test)]
 mod places;
 #[cfg(test)]
 mod printing;
 #[cfg(test)]
 mod stores;
-#[cfg(test)]
-mod monitoring;
 #[cfg(test)]
 mod weighing;

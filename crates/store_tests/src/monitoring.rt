@@ -1,7 +1,7 @@
 //! The monitor of the law `safe`, move by move on one bit, and on several bits.
+use model::{Access, Field, Move};
 use plain_store::Setup;
 use safe_monitor::SafeMonitor;
-use model::{Access, Field, Move};
 use std::alloc::{AllocError, Global};
 use std::test::Fail;
 

@@ -45,7 +45,7 @@ fn replies_to<S: Store>(
 fn replies<S: Store>(rt: &(impl Abort + AllocGlobal), store: &mut S) -> Result<(), Fail> {
     let scenario = read_scenario(rt.alloc(), CALLS.as_bytes())?;
     let reported = replies_to(rt.alloc(), store, &scenario.lines)?;
-    assert!(rt; reported.as_str() == REPLIES, "{told}");
+    assert!(rt; reported.as_str() == REPLIES, "{reported}");
     Ok(())
 }
 

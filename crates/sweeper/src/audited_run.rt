@@ -10,8 +10,8 @@ ghost use Rattle.sweeper.specs.Runners.{Accepts, Follows, RunsBy, RunsOn, due};
 ghost use Rattle.sweeper.specs.Sweeps.{steps_of};
 
 use auditor::{Auditor, Law};
-use plain_store::{NestedTypes, Setup};
 use model::{Access, Event};
+use plain_store::{NestedTypes, Setup};
 use std::alloc::{AllocError, Global};
 use std::marker::Model;
 use world::{Core, EventOutcome, Flicks, StepOutcome, event_marks, step_marks};
@@ -180,7 +180,9 @@ impl AuditedRun {
         ensures setup { self.new.core.setup ≡ self.old.core.setup }
     {
         let made = self.core.run(process, &mut flicks.twin(), steps);
-        let law = self.auditor.observe_run(process, flicks, steps, made.newest);
+        let law = self
+            .auditor
+            .observe_run(process, flicks, steps, made.newest);
         let newest = self.entries.saturating_add(u64::from(steps - 1));
         self.bad = first_bad(self.bad, newest, law);
         self.entries = newest.saturating_add(1);

@@ -23,8 +23,8 @@
 //! ```
 #![tactic(auto)]
 
-mod laws_of_sweeps;
 mod audited_run;
+mod laws_of_sweeps;
 mod runs;
 mod shown;
 mod sweeping;

@@ -4,8 +4,8 @@ ghost use Rattle.sweeper.specs.Runners.{MakesCall, MakesCalls, MakesRun, OfRun, 
 ghost use Rattle.sweeper.specs.Sweeps.{cut_off, goes, most as most_of, round, rounds, steps_of};
 
 use crate::audited_run::AuditedRun;
-use plain_store::Command;
 use model::Event;
+use plain_store::Command;
 use world::Flicks;
 
 /// The most rounds of a run, and the most steps of each of its calls.

@@ -6,8 +6,8 @@ ghost use Rattle.sweeper.specs.Tallies.{CanRun, CanSweep, CountsRun, OfSweep, Ro
 
 use crate::audited_run::AuditedRun;
 use crate::swept::Swept;
-use plain_store::{Command, Setup};
 use model::Event;
+use plain_store::{Command, Setup};
 use std::alloc::{AllocError, Global};
 
 /// More events or calls than any memory holds. Up to this number no count wraps.

@@ -13,8 +13,8 @@ ghost use Rattle.world.specs.Shows.{Shows};
 
 use anyhow::{Result, bail};
 use board::{Board, Driven, Image, Port};
-use plain_store::{Command, Name, Setup, Value, show_line};
 use model::Field;
+use plain_store::{Command, Name, Setup, Value, show_line};
 use safe_bit::Move;
 use std::sync::Wait;
 use std::thread::{self, Threads};

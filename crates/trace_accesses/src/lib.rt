@@ -27,17 +27,17 @@
 
 mod limits;
 mod making;
+mod monitor;
+mod monitored;
 mod moves;
 mod overlaps;
 mod possible;
 mod rows;
-mod monitor;
-mod monitored;
 mod words;
 
+pub use monitor::AccessMonitor;
 pub use picture_layout::{WaveCount, WaveLimit};
 pub use rows::written_cells_have_waves;
-pub use monitor::AccessMonitor;
 
 #[cfg(test)]
 mod tests;

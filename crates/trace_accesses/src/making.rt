@@ -7,9 +7,9 @@ ghost use Rattle.trace_accesses.specs.Accesses.{monitored_by};
 ghost use Rattle.trace_accesses.specs.Keeping.{HasRows, rows_taken};
 ghost use Rattle.trace_accesses.specs.Rows.{counts_from, waves_since};
 
+use crate::monitored::{MonitoredAccess, change};
 use crate::overlaps::{begin, overlaps};
 use crate::rows::{WaveRows, counts};
-use crate::monitored::{MonitoredAccess, change};
 use picture_layout::WaveLimit;
 use trace::CellAccess;
 use trace_memory::CellMemory;

@@ -7,9 +7,9 @@ ghost use Rattle.trace_accesses.specs.Keeping.{HasTaken, HasMonitored, OfTaken};
 ghost use Rattle.picture_layout.specs.declared.limits.WaveLimit.{WaveLimit as Limit};
 
 use crate::making::make;
+use crate::monitored::MonitoredAccess;
 use crate::possible::possible;
 use crate::rows::WaveRows;
-use crate::monitored::MonitoredAccess;
 use picture_layout::{ShownAccess, WaveLimit};
 use std::alloc::{AllocError, Global};
 use std::marker::Model;
@@ -133,7 +133,7 @@ impl AccessMonitor {
             (λ past. result
             ≡ monitored_access self.old.memory.setup self.old.limit past
             (trace_entry process (possible_access self.old.memory.setup process access.now)
-                marks)) }
+            marks)) }
     {
         let number = self.entries;
         self.entries += 1;

@@ -6,8 +6,8 @@ ghost use Rattle.trace.specs.{cell_text, register_name as name_of_register};
 ghost use Rattle.trace_accesses.specs.Accesses.{shown_as, shown_change};
 ghost use Rattle.trace_accesses.specs.Words.{begin_words, unlike, value_words, words_of};
 
+use crate::monitored::{MonitoredAccess, RowChange};
 use crate::moves::{kind, step};
-use crate::monitored::{RowChange, MonitoredAccess};
 use picture_layout::{ShownAccess, WaveChange};
 use std::alloc::{AllocError, Global};
 use std::fmt;

@@ -6,7 +6,7 @@ ghost use Rattle.trace.specs.{trace_entry};
 ghost use Rattle.trace_calls.specs.Calls.{ended_call, open_call};
 ghost use Rattle.trace_calls.specs.Keeping.{HasListed, OfListed, ended_between as call_ended_between};
 
-use crate::kept::{TraceCallState, TraceCall};
+use crate::kept::{TraceCall, TraceCallState};
 use crate::moves::has_call;
 use crate::opened::{MOST_PROCESSES, OpenMoves};
 use std::marker::Model;

@@ -13,7 +13,7 @@ use crate::headings::line_of_entries;
 use crate::views::TraceView;
 use draw::Canvas;
 use files::{Fault, Sink};
-use picture::{Reads, RunLine, LineContent};
+use picture::{LineContent, Reads, RunLine};
 use std::alloc::{AllocError, Global};
 use trace::{LockMark, TraceEntry, TraceSetup};
 use trace_accesses::AccessMonitor;
@@ -180,9 +180,15 @@ impl TraceDrawing {
         let source = line_of_entries(setup) + 1;
         let at = self.entries;
         let line_content = LineContent::LockEnded { entries: at };
-        let height = self
-            .canvas
-            .end(RunLine { source, at, line_content }, reported, output)?;
+        let height = self.canvas.end(
+            RunLine {
+                source,
+                at,
+                line_content,
+            },
+            reported,
+            output,
+        )?;
         Ok(DrawnBands {
             shows: self.shows,
             height,

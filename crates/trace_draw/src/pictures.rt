@@ -119,7 +119,9 @@ impl TracePicture {
     {
         let title = title(view.alloc, setup)?;
         let reported = reported_by(view.alloc, view.judged, &self.reporter)?;
-        let bands = self.entries.end(view, setup, reported.text.as_slice(), output)?;
+        let bands = self
+            .entries
+            .end(view, setup, reported.text.as_slice(), output)?;
         Ok(DrawnTrace {
             title,
             bands,
@@ -129,7 +131,11 @@ impl TracePicture {
 }
 
 /// Returns what a judge tells of the entries that it has observed, and its exit status; nothing and 0 if it is not asked.
-fn reported_by(alloc: Global, judged: bool, reporter: &TraceReporter) -> Result<TraceReport, AllocError>
+fn reported_by(
+    alloc: Global,
+    judged: bool,
+    reporter: &TraceReporter,
+) -> Result<TraceReport, AllocError>
     ensures { IfOk result (λ reported. (s : Setup) (entries : List Entry) (numbers : List ℕ) →
         HasReported judged reporter.now s entries numbers →
         ReportsIfJudged judged s entries numbers reported.text.items reported.status) }

@@ -110,7 +110,7 @@ impl TraceState {
             (λ past. option_to_list result
             ≡ filter
             (keeps_with self.now.memory.setup past
-                (trace_entry process (Some access.now) marks.now)) (option_to_list value)) }
+            (trace_entry process (Some access.now) marks.now)) (option_to_list value)) }
     {
         let value = value?;
         let reading = Some(access.reading(value));

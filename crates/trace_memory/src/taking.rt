@@ -56,10 +56,11 @@ impl CellMemory {
     fn change(&mut self, before: CellState, access: &CellAccess)
         requires { IsTrue (has_cell self.old.setup access.now.cell) }
         ensures { self.new
-            ≡ record self.old
-            { cells = slice_set self.old.cells (place_of access.now.cell)
-            (state_after (register_of self.old.setup access.now.cell).width before
-                access.now.how); } }
+            ≡ record self.old {
+              cells = slice_set self.old.cells (place_of access.now.cell)
+                  (state_after (register_of self.old.setup access.now.cell).width before
+                  access.now.how);
+            } }
     {
         if let Some(width) = self.width_of(access.cell) {
             let mut cell = before;

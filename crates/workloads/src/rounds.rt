@@ -59,7 +59,7 @@ fn play<T: Print + AllocGlobal + Threads + Sync>(
 fn report<T: Print + AllocGlobal>(rt: &T, setup: &Setup, remaining: &BoardResult<'_>) -> Result<()>
     requires { checked setup.now ≡ Ok tt }
 {
-    print!(rt; "{left}")?;
+    print!(rt; "{remaining}")?;
     if setup.version == 1 {
         let closing = &remaining.closing;
         let verdict = weigh(

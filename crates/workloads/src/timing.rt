@@ -17,6 +17,6 @@ pub fn report<T: Print + Eprint + Clock>(
     start: &Instant,
 ) -> io::Result<()> {
     let passed = start.elapsed(rt)?;
-    println!(rt; "{run}: {left}")?;
+    println!(rt; "{run}: {remaining}")?;
     eprintln!(rt; "{steps} {} {run}", passed.as_nanos())
 }

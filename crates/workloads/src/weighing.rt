@@ -11,8 +11,8 @@ use crate::timing::report;
 use anyhow::{Result, bail};
 use call_check::{Image, weigh};
 use histories::{History, called_in_turn};
-use plain_store::Setup;
 use model::Placed;
+use plain_store::Setup;
 use std::rt::Clock;
 use std::time::Instant;
 

@@ -18,11 +18,12 @@ mod looking;
 use crate::queue::listed;
 use crate::seats::{Seat, is_occupied, note_waiting, waiting};
 use choices::Flicks;
+use model::{Access, Event, Refusal, Stage, Taken};
 use plain_store::{Command, NestedTypes, Reply, Setup};
 use process::{
-    AccessMade, AccessesMade, BitMemory, EventOutcome, Image, Process, StepOutcome, newest, open_memory,
+    AccessMade, AccessesMade, BitMemory, EventOutcome, Image, Process, StepOutcome, newest,
+    open_memory,
 };
-use model::{Access, Event, Refusal, Stage, Taken};
 use smallvec::SmallVec;
 use std::alloc::{AllocError, Global};
 use std::marker::Model;
@@ -151,7 +152,11 @@ impl Core {
     ///
     /// Returns the [`Refusal`] of an event that is refused; the core and `effect` are then unchanged. It is never
     /// [`Refusal::Memory`]: the owner of a history reserves its memory before a call.
-    pub fn event(&mut self, event: &Event, effect: &mut EventOutcome) -> Result<Option<Access>, Refusal>
+    pub fn event(
+        &mut self,
+        event: &Event,
+        effect: &mut EventOutcome,
+    ) -> Result<Option<Access>, Refusal>
         ensures accepted { IfOk result (CoreAdds self.old event.now effect.new) }
         ensures shows { OnOk result (CoreMakes self.old event.now effect.new self.new) }
         ensures pending { OnOk result (PendedUnlessCall event.now self.old effect.new self.new) }

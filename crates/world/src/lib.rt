@@ -24,14 +24,14 @@ mod queue;
 mod seats;
 mod world;
 
-pub use cores::Core;
 pub use choices::{Divisor, Flick, Flicks};
+pub use cores::Core;
 pub use history_laws;
 pub use laws;
 pub use marks::{event_marks, step_marks};
-pub use process::{
-    AccessMade, AccessProgress, AccessesMade, BitCopy, CopyState, EventOutcome, EventMade, Image, Process,
-    RegisterName, Settling, StepOutcome, KnownTicket,
-};
 pub use model::{Act, Event, Mark, Refusal, Stage, Taken};
+pub use process::{
+    AccessMade, AccessProgress, AccessesMade, BitCopy, CopyState, EventMade, EventOutcome, Image,
+    KnownTicket, Process, RegisterName, Settling, StepOutcome,
+};
 pub use world::World;

@@ -3,8 +3,8 @@ ghost use Rattle.std.specs.Prelude.{◌≡◌, [], ◌∷◌, map};
 ghost use Rattle.model.specs.{placed};
 ghost use Rattle.process.specs.{act_of, marks_of, marks_reported};
 
-use process::{EventOutcome, EventMade, StepOutcome};
 use model::{Act, Mark};
+use process::{EventMade, EventOutcome, StepOutcome};
 use smallvec::SmallVec;
 use std::alloc::Global;
 

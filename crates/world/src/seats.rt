@@ -9,8 +9,8 @@ ghost use Rattle.world.specs.Changes.{reported, waiting_in, waits_in};
 ghost use Rattle.world.specs.Going.{access_made, marks_made, registers_made, seat_made};
 ghost use Rattle.world.specs.Seats.{seat_stepped};
 
-use process::{AccessMade, BitMemory, EventOutcome, Process, StepOutcome};
 use model::{Access, Event};
+use process::{AccessMade, BitMemory, EventOutcome, Process, StepOutcome};
 
 /// The state of one process in a world.
 #[derive(Drop)]

@@ -17,9 +17,9 @@ mod looking;
 use crate::cores::Core;
 use crate::marks::act_made;
 use choices::Flicks;
-use plain_store::{NestedTypes, Reply, Setup};
-use process::{AccessMade, AccessesMade, EventOutcome, EventMade, Image, StepOutcome};
 use model::{Access, Act, Event, Refusal, Stage, Taken};
+use plain_store::{NestedTypes, Reply, Setup};
+use process::{AccessMade, AccessesMade, EventMade, EventOutcome, Image, StepOutcome};
 use smallvec::SmallVec;
 use std::alloc::{AllocError, Global};
 use std::marker::Model;
@@ -99,7 +99,11 @@ impl World {
     /// # Errors
     ///
     /// Returns the same [`Refusal`] as `event`; the world and `effect` are then unchanged.
-    pub fn make(&mut self, event: &Event, effect: &mut EventOutcome) -> Result<Option<Access>, Refusal>
+    pub fn make(
+        &mut self,
+        event: &Event,
+        effect: &mut EventOutcome,
+    ) -> Result<Option<Access>, Refusal>
         ensures accepted { IfOk result (AddsEvent self.old event.now effect.new) }
         ensures shows { OnOk result (GoesOn self.old event.now self.new) }
         ensures refused { IfErr result (λ refusal. IsTurnedAway self.old event.now refusal) }

@@ -16,8 +16,8 @@ ghost use Rattle.draw.specs.declared.views.AccessView.{AccessView as Seen};
 use crate::drawing::{Drawing, lines_of_setup};
 use crate::read_monitor::ReadMonitor;
 use crate::views::AccessView;
-use picture::{Form, LineContent};
 use model::{Access, Entry};
+use picture::{Form, LineContent};
 use record_accesses::plain_store::{NestedTypes, Setup};
 use scenario::{Fault, Sink};
 use std::alloc::{AllocError, Global};
@@ -129,7 +129,12 @@ impl RecordDrawing {
     /// # Errors
     ///
     /// Returns [`Fault::Write`] if a call of the sink fails, and [`Fault::Memory`] if memory is lacking.
-    pub fn end<W: Sink>(&mut self, setup: &Setup, reported: &[u8], output: &mut W) -> Result<u64, Fault>
+    pub fn end<W: Sink>(
+        &mut self,
+        setup: &Setup,
+        reported: &[u8],
+        output: &mut W,
+    ) -> Result<u64, Fault>
         requires { W.failures output.old < 2 ^ 64 - 1 }
         ensures drawn { IfOk result
             (DrawsLast self.old.drawing.canvas (W.taken output.old) (W.taken output.new)

@@ -19,7 +19,7 @@ use crate::records::sheet::{DrawnEntry, RecordPicture};
 use crate::surroundings::{around_picture, write_page_end};
 use crate::writing::write_markup;
 use judge::source_lines::Lines;
-use judge::{ExplainingJudge, AnyLockJudge, Judging, Reporting, ThisLockJudge, Trial};
+use judge::{AnyLockJudge, ExplainingJudge, Judging, Reporting, ThisLockJudge, Trial};
 use picture::{FIRST_BAND, Form, PictureOptions, Subject};
 use scenario::{Fault, FaultKind, Sink, Source, write_all};
 use std::alloc::{AllocError, Global};
@@ -88,7 +88,9 @@ pub fn draw_judged_record<R: Source, W: Sink>(
         JudgedBy::ThisLock => judged_page::<ExplainingJudge<ThisLockJudge>, R, W>(
             alloc, options, input, output,
         ),
-        JudgedBy::AnyLock => judged_page::<ExplainingJudge<AnyLockJudge>, R, W>(alloc, options, input, output),
+        JudgedBy::AnyLock => judged_page::<ExplainingJudge<AnyLockJudge>, R, W>(
+            alloc, options, input, output,
+        ),
     }
 }
 
@@ -272,7 +274,7 @@ fn draw_lines<R: Source, W: Sink>(
     ensures drawn { IfOk result
         (λ drawn. IfSome (R.to_come input.old)
         (DrawsAllBands sheet.old.options sheet.old.form drawn (W.taken output.old)
-            (W.taken output.new))) }
+        (W.taken output.new))) }
     ensures good { IfOk result (λ drawn. checked drawn.setup ≡ Ok tt) }
     ensures end { IfOk result (λ _. IsAtEnd (R.to_come input.new)) }
     ensures fault { IfErr result (λ fault. IsDrawFault fault (R.to_come input.old)) }
@@ -302,8 +304,8 @@ fn judge_bands<H: Judging, R: Source, W: Sink>(
     ensures drawn { IfOk result
         (λ answer. IfSome (R.to_come input.old)
         (IsOfRecord
-            (IsJudged H.Keeps H.Reports answer.1
-            (DrawsBandsOf options form answer.0 (W.taken output.old) (W.taken output.new))))) }
+        (IsJudged H.Keeps H.Reports answer.1
+        (DrawsBandsOf options form answer.0 (W.taken output.old) (W.taken output.new))))) }
     ensures good { IfOk result (λ answer. checked answer.0.setup ≡ Ok tt) }
     ensures end { IfOk result (λ _. IsAtEnd (R.to_come input.new)) }
     ensures fault { IfErr result (λ fault. IsDrawFault fault (R.to_come input.old)) }
@@ -332,9 +334,9 @@ fn judge_sheet<H: Judging, R: Source, W: Sink>(
     ensures drawn { IfOk result
         (λ answer. IfSome (R.to_come input.old)
         (IsOfRecord
-            (IsJudged H.Keeps H.Reports answer.1
-            (DrawsBandsOf sheet.old.options sheet.old.form answer.0 (W.taken output.old)
-            (W.taken output.new))))) }
+        (IsJudged H.Keeps H.Reports answer.1
+        (DrawsBandsOf sheet.old.options sheet.old.form answer.0 (W.taken output.old)
+        (W.taken output.new))))) }
     ensures good { IfOk result (λ answer. checked answer.0.setup ≡ Ok tt) }
     ensures end { IfOk result (λ _. IsAtEnd (R.to_come input.new)) }
     ensures fault { IfErr result (λ fault. IsDrawFault fault (R.to_come input.old)) }
@@ -402,8 +404,8 @@ fn end_judged<H: Judging, W: Sink>(
         trial.observer sheet.old first (W.taken output.old) →
         IfSome to_come
         (IsOfRecord
-            (IsJudged H.Keeps H.Reports answer.1
-            (DrawsBandsOf sheet.old.options sheet.old.form answer.0 first (W.taken output.new))))) }
+        (IsJudged H.Keeps H.Reports answer.1
+        (DrawsBandsOf sheet.old.options sheet.old.form answer.0 first (W.taken output.new))))) }
     ensures good { IfOk result (λ answer. checked answer.0.setup ≡ Ok tt) }
     ensures fault { IfErr result
         (λ fault. (to_come first : Option (List ℕ)) →

@@ -72,7 +72,7 @@ impl RecordPicture {
         ensures fault { IfErr result
             (λ fault. LineStops fault number
             (λ kind. (before : Option Progress) → self.old.reader ≡ before →
-                line_read line.now before ≡ Err kind)) }
+            line_read line.now before ≡ Err kind)) }
         ensures failures { W.failures output.new ≡ W.failures output.old + failed_write result }
     {
         if self.observes_none() {
@@ -101,7 +101,7 @@ impl RecordPicture {
         ensures fault { IfErr result
             (λ fault. LineStops fault number
             (λ kind. (before : Option Progress) → self.old.reader ≡ before →
-                line_read line.now before ≡ Err kind)) }
+            line_read line.now before ≡ Err kind)) }
         ensures failures { W.failures output.new ≡ W.failures output.old + failed_write result }
     {
         if self.observes_step(line, output)? {
@@ -169,7 +169,7 @@ impl RecordPicture {
         ensures fault { IfErr result
             (λ fault. LineStops fault number
             (λ kind. (before : Option Progress) → self.old.reader ≡ before →
-                line_read line.now before ≡ Err kind)) }
+            line_read line.now before ≡ Err kind)) }
         ensures failures { W.failures output.new ≡ W.failures output.old + failed_write result }
     {
         let _nested: NestedTypes = None;
@@ -197,17 +197,21 @@ impl RecordPicture {
     /// # Errors
     ///
     /// Returns [`Fault::Write`] if a call of the sink fails, and [`Fault::Memory`] if memory is lacking.
-    pub fn end<W: Sink>(&mut self, reported: &[u8], output: &mut W) -> Result<Option<DrawnEntry>, Fault>
+    pub fn end<W: Sink>(
+        &mut self,
+        reported: &[u8],
+        output: &mut W,
+    ) -> Result<Option<DrawnEntry>, Fault>
         requires { W.failures output.old < 2 ^ 64 - 1 }
         ensures none { IfOk result (λ drawn. drawn ≡ None → self.old.reader ≡ None) }
         ensures drawn { IfOk result
             (λ drawn. IfSome drawn
             (λ d. (p : Progress) (past : Past) (first : Option (List ℕ)) →
-                self.old.reader ≡ Some p →
-                Stands self.old (Some p) past first (W.taken output.old) →
-                (d.setup ≡ p.head.setup)
-                × EndsAsked self.old.options self.old.form p.head.setup past reported.now d.shows
-                d.opening.items d.height first (W.taken output.new))) }
+            self.old.reader ≡ Some p →
+            Stands self.old (Some p) past first (W.taken output.old) →
+            (d.setup ≡ p.head.setup)
+            × EndsAsked self.old.options self.old.form p.head.setup past reported.now d.shows
+            d.opening.items d.height first (W.taken output.new))) }
         ensures present { IfOk result (λ drawn. IfSome drawn (λ _. IsSome self.old.reader)) }
         ensures good { IfOk result (λ drawn. IfSome drawn (λ d. checked d.setup ≡ Ok tt)) }
         ensures fault { IfErr result IsWriteFault }

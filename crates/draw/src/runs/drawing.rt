@@ -17,12 +17,12 @@ mod observing;
 
 use crate::drawing::{Drawing, lines_of_setup};
 use crate::views::AccessView;
-use scenario_run::{ScenarioRun, Summary, TurnReport, newest_words};
 use observing::draw_line;
-use picture::{Form, PictureOptions, LineContent};
+use picture::{Form, LineContent, PictureOptions};
 use record_accesses::plain_store::{NestedTypes, Setup};
 use scenario::progress::{LinePosition, ProgressObserver};
 use scenario::{Fault, Scenario, Sink};
+use scenario_run::{ScenarioRun, Summary, TurnReport, newest_words};
 use std::alloc::Global;
 
 /// The picture of a run so far.
@@ -68,7 +68,13 @@ pub(crate) fn draw_bands<W: Sink, L: ProgressObserver>(
 {
     let mut run = RunDrawing::new(alloc, &scenario.setup, form, options)?;
     let mut scenario_run = ScenarioRun::new(alloc, &scenario.setup)?;
-    draw_lines(scenario, &mut scenario_run, &mut run, output, progress_observer)
+    draw_lines(
+        scenario,
+        &mut scenario_run,
+        &mut run,
+        output,
+        progress_observer,
+    )
 }
 
 /// Does the work of [`draw_bands`] with a course and a drawing that have just begun. It borrows them, because a value that
@@ -174,7 +180,9 @@ impl RunDrawing {
                 };
                 self.drawing.draw_line(line_content, output)
             }
-            TurnReport::Tired(process) => self.drawing.draw_line(LineContent::Tired(*process), output),
+            TurnReport::Tired(process) => self
+                .drawing
+                .draw_line(LineContent::Tired(*process), output),
             TurnReport::Shown(store) => {
                 let words = newest_words(self.alloc, store)?;
                 self.drawing.draw_line(LineContent::Shown(words), output)

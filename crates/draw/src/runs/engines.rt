@@ -14,10 +14,10 @@ use crate::runs::drawing::draw_bands;
 use crate::runs::nowhere::NullSink;
 use crate::surroundings::{around_picture, write_page_end};
 use crate::writing::write_markup;
-use scenario_run::Summary;
 use picture::{FIRST_BAND, Form, Markup, PictureOptions, Subject, page_head};
-use scenario::progress::{SecondRun, ProgressObserver};
+use scenario::progress::{ProgressObserver, SecondRun};
 use scenario::{Fault, Scenario, Sink, Source, read_input, read_scenario};
+use scenario_run::Summary;
 use std::alloc::Global;
 
 /// Reads a scenario file, and writes the page of its run: a picture in bands, each of which is written when it is full.
@@ -91,7 +91,14 @@ fn draw_behind<W: Sink, L: ProgressObserver>(
     ensures failures { W.failures output.new ≡ W.failures output.old + failed_write result }
 {
     write_markup(head, output)?;
-    let drawn = draw_bands(alloc, scenario, Form::Page, options, output, progress_observer)?;
+    let drawn = draw_bands(
+        alloc,
+        scenario,
+        Form::Page,
+        options,
+        output,
+        progress_observer,
+    )?;
     write_page_end(alloc, drawn.opening.as_slice(), output)?;
     Ok(drawn.summary)
 }
@@ -124,7 +131,14 @@ fn draw_framed<W: Sink, L: ProgressObserver>(
     ensures failures { W.failures output.new ≡ W.failures output.old + failed_write result }
 {
     write_markup(&frame.head, output)?;
-    let drawn = draw_bands(alloc, scenario, frame.form, frame.options, output, progress_observer)?;
+    let drawn = draw_bands(
+        alloc,
+        scenario,
+        frame.form,
+        frame.options,
+        output,
+        progress_observer,
+    )?;
     write_markup(&frame.end, output)?;
     Ok(drawn.summary)
 }
@@ -205,7 +219,15 @@ fn draw_scenario<W: Sink, L: ProgressObserver>(
 {
     match form {
         Form::Page => draw_page(alloc, options, file, scenario, output, progress_observer),
-        Form::Picture(top) => draw_picture(alloc, top, options, file, scenario, output, progress_observer),
+        Form::Picture(top) => draw_picture(
+            alloc,
+            top,
+            options,
+            file,
+            scenario,
+            output,
+            progress_observer,
+        ),
     }
 }
 
@@ -229,7 +251,14 @@ fn draw_picture<W: Sink, L: ProgressObserver>(
     ensures failures { W.failures output.new ≡ W.failures output.old + failed_write result }
 {
     let form = Form::Picture(top);
-    let first = draw_bands(alloc, scenario, form, options, &mut NullSink, progress_observer)?;
+    let first = draw_bands(
+        alloc,
+        scenario,
+        form,
+        options,
+        &mut NullSink,
+        progress_observer,
+    )?;
     let (head, end) = around_picture(
         alloc,
         Subject::Run,

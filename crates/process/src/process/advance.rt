@@ -10,12 +10,12 @@ ghost use Rattle.process.specs.Reporting.{changes_reported, marks_reported};
 ghost use Rattle.process.specs.Working.{AreMarksOn, IsMoved, IsStepped, KeepsPlace, reply_taken, state_at};
 
 use super::Process;
+use crate::activity::Activity;
 use crate::call_part::CallPart;
 use crate::entering::{clear, enter, part_over};
 use crate::outcomes::StepOutcome;
-use crate::activity::Activity;
-use plain_store::{Answer, Reply};
 use model::{Access, Field};
+use plain_store::{Answer, Reply};
 use registers::{Cursor, RegisterAccessKind};
 
 impl Process {

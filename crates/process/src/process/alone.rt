@@ -5,10 +5,10 @@ ghost use Rattle.process.specs.Alone.{answer_of, called_inside, change_of, full_
 ghost use Rattle.process.specs.Places.{changes_read, withdrawn};
 
 use super::Process;
-use crate::entering::{clear, enter};
 use crate::activity::Activity;
-use plain_store::{Answer, Command, Reply};
+use crate::entering::{clear, enter};
 use model::{Field, TornBit};
+use plain_store::{Answer, Command, Reply};
 
 impl Process {
     /// Returns the ticket with which it ends its doorway, or waits.

@@ -5,11 +5,11 @@ ghost use Rattle.process.specs.Places.{failed, may_fail, stage_doing, withdrawn}
 ghost use Rattle.process.specs.Working.{IsOfCommit, is_torn_at, reply_taken, taken_at};
 
 use super::Process;
+use crate::activity::Activity;
 use crate::call_part::CallPart;
 use crate::entering::clear;
-use crate::activity::Activity;
-use plain_store::Reply;
 use model::Field;
+use plain_store::Reply;
 use registers::Cursor;
 
 impl Process {

@@ -9,9 +9,9 @@ ghost use Rattle.process.specs.Working.{settling_at};
 
 use super::Process;
 use crate::access_request::AccessRequest;
-use crate::call_part::CallPart;
-use crate::looks::{AccessProgress, Settling, KnownTicket};
 use crate::activity::Activity;
+use crate::call_part::CallPart;
+use crate::looks::{AccessProgress, KnownTicket, Settling};
 use model::{Access, Move, bit_of};
 use registers::{Cursor, RegisterAccessKind};
 

@@ -4,8 +4,8 @@ ghost use Rattle.model.specs.{refused_at};
 ghost use Rattle.process.specs.Places.{WantsNoMemory, is_full, next_number, refusal_of};
 
 use super::Process;
-use plain_store::Setup;
 use model::{Event, Refusal, Stage};
+use plain_store::Setup;
 
 impl Process {
     /// Returns the reason for which an event of this process is refused, if it is: its stage, or one call too many. It does

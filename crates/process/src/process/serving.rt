@@ -9,8 +9,8 @@ ghost use Rattle.process.specs.Reporting.{changes_reported, marks_reported};
 
 use super::Process;
 use super::advance::go_on;
-use crate::outcomes::StepOutcome;
 use crate::activity::Activity;
+use crate::outcomes::StepOutcome;
 use choices::Flicks;
 use model::Access;
 use registers::{AccessMade, AccessesMade, BitMemory, given};
@@ -33,7 +33,12 @@ impl Process {
     /// Makes its next access on the memory, by this flick, and writes its outcome to `reported`. Returns the access, and whether
     /// it ended a read that a write overlapped.
     #[inline]
-    pub fn step(&mut self, memory: &mut BitMemory, flick: bool, reported: &mut StepOutcome) -> AccessMade
+    pub fn step(
+        &mut self,
+        memory: &mut BitMemory,
+        flick: bool,
+        reported: &mut StepOutcome,
+    ) -> AccessMade
         requires enabled { may_step self.old.doing ≡ true }
         requires memory { AreOf self.old.setup memory.old }
         ensures access { result.access ≡ answered_at self.old memory.old flick }

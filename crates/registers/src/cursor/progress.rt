@@ -3,8 +3,8 @@ ghost use Rattle.std.specs.Prelude.{◌≡◌, ◌≤◌, false, length, slice_i
 ghost use Rattle.registers.specs.Progress.{accesses_in_all, accesses_made, last_access, access_on, last_read, last_write};
 
 use super::{Cursor, RegisterAccessKind, word_at};
-use reader_copies::has_flag;
 use model::{Access, Move};
+use reader_copies::has_flag;
 
 impl Cursor {
     /// Returns how many accesses of its register access it has made.

@@ -7,8 +7,8 @@ ghost use Rattle.registers.specs.Wordwise.{AreAhead, more_bits};
 
 use super::{Cursor, RegisterAccessKind, word_at};
 use crate::access_made::AccessMade;
-use reader_copies::{all_flags, choose, has_flag, mask, one_flag};
 use model::{Access, Move};
+use reader_copies::{all_flags, choose, has_flag, mask, one_flag};
 
 impl Cursor {
     /// Returns the next move of a read; its end returns `value`.
@@ -108,9 +108,10 @@ impl Cursor {
         requires reads { self.old.run ≡ RegisterAccessKind.Reads }
         requires ahead { AreAhead self.old n }
         ensures { self.new
-            ≡ record self.old
-            { bit = self.old.bit + n;
-            bits = more_bits n (λ j. flag_in word ((self.old.bit + j) % 64)) self.old.bits } }
+            ≡ record self.old {
+              bit = self.old.bit + n;
+              bits = more_bits n (λ j. flag_in word ((self.old.bit + j) % 64)) self.old.bits;
+            } }
     {
         let bit = self.bit as usize;
         let old = word_at(&self.words, bit);

@@ -11,8 +11,8 @@ use super::BitMemory;
 use crate::cursor::{lane_number, low_bits};
 use crate::fields::RegisterName;
 use crate::word_bytes::bytes_of;
-use plain_store::Setup;
 use model::width_of;
+use plain_store::Setup;
 
 impl BitMemory {
     /// Returns the number that a register of at most 32 bits holds.

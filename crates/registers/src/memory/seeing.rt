@@ -13,9 +13,9 @@ use super::BitMemory;
 use crate::cursor::{Cursor, RegisterAccessKind, lane_number};
 use crate::fields::{BitCopy, RegisterName};
 use crate::word_bytes::register_bytes;
-use plain_store::Setup;
-use reader_copies::{CopyState, Copies};
 use model::{Access, width_of};
+use plain_store::Setup;
+use reader_copies::{Copies, CopyState};
 
 impl BitMemory {
     /// Returns the state of a copy of a bit.

@@ -8,9 +8,9 @@ ghost use Rattle.scenario_run.specs.Turns.{makes_steps as has_steps, part_of_lin
 ghost use Rattle.scenario_run.specs.declared.play_limit.PlayLimit.TheVariants.{End};
 
 use super::ScenarioRun;
-use crate::run_observers::RunObserver;
-use crate::reports::TurnReport;
 use crate::play_limit::{LineMade, PlayLimit};
+use crate::reports::TurnReport;
+use crate::run_observers::RunObserver;
 use scenario::progress::{LinePosition, ProgressObserver};
 use scenario::{Fault, Line, Scenario};
 

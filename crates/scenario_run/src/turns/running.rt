@@ -11,8 +11,8 @@ ghost use Rattle.scenario_run.specs.Turns.{rest_of, turns_in};
 
 use super::ScenarioRun;
 use super::steps::{goes_on, pass_by, turn_step};
-use crate::run_observers::RunObserver;
 use crate::reports::TurnReport;
+use crate::run_observers::RunObserver;
 use model::{Refusal, Stage};
 use scenario::{Fault, Target};
 use smallvec::SmallVec;

@@ -9,10 +9,10 @@ ghost use Rattle.scenario_run.specs.Courses.{scenario_run};
 ghost use Rattle.scenario_run.specs.Observing.{ObservesStep, LeavesRoom, MakesStep, PassesAlone, StopsBy};
 ghost use Rattle.scenario_run.specs.Reporting.{reported_step};
 
+use crate::reports::{Accepted, TurnReport, UnmarkedStep};
 use crate::run_observers::RunObserver;
-use crate::reports::{Accepted, UnmarkedStep, TurnReport};
-use plain_store::NestedTypes;
 use model::{Event, Refusal};
+use plain_store::NestedTypes;
 use scenario::Fault;
 use world::{AccessMade, EventOutcome, Flicks, StepOutcome, World};
 

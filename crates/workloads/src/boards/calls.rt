@@ -3,8 +3,8 @@ ghost use Rattle.board_runs.specs.board.{IsOf, SamePort};
 
 use board_runs::{Board, Driven, Port};
 use choices::Flicks;
-use plain_store::Command;
 use model::Refusal;
+use plain_store::Command;
 
 /// An upper bound on the word steps of a call that waits for no process.
 const STEPS: u64 = 65_536;

@@ -4,8 +4,8 @@ ghost use Rattle.plain_store.specs.{checked};
 
 use crate::counters::counter;
 use call_check::Image;
-use plain_store::{Answer, Caller, Command, NestedTypes, Reply, Setup, Store, Value, opened};
 use model::Placed;
+use plain_store::{Answer, Caller, Command, NestedTypes, Reply, Setup, Store, Value, opened};
 use std::alloc::{AllocError, Global};
 
 /// The commands that the processes of a setup call in turn. The counter opens at 0 in version 2; in version 1 it is absent, and

@@ -10,8 +10,8 @@ ghost use Rattle.world.specs.Walks.{remaining_in};
 
 use super::Core;
 use crate::marks::step_marks;
-use process::{BitCopy, CopyState, Process, RegisterName, StepOutcome};
 use model::{Access, Act, Entry, Move, Refusal};
+use process::{BitCopy, CopyState, Process, RegisterName, StepOutcome};
 use std::alloc::Global;
 
 impl Core {

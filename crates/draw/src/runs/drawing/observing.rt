@@ -7,9 +7,9 @@ ghost use Rattle.draw.specs.Drawings.{observes};
 ghost use Rattle.draw.specs.RunDrawings.{DrawsLine, GoesOnDrawing, tally};
 
 use super::RunDrawing;
-use scenario_run::{ScenarioRun, RunObserver, UnmarkedStep, TurnReport};
 use model::Move;
 use scenario::{Fault, Line, Sink};
+use scenario_run::{RunObserver, ScenarioRun, TurnReport, UnmarkedStep};
 
 /// Makes the turns of a line, and draws each turn before the next one is made.
 pub(super) fn draw_line<W: Sink>(
