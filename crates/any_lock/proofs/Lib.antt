@@ -12,7 +12,7 @@ pub mod Rooms
 pub mod Reported
 pub mod Alone
 pub mod Cuts
-pub mod Headlines
+pub mod MainTheorems
 pub mod Stands
 pub mod Took
 pub mod Once

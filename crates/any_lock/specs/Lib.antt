@@ -8,11 +8,11 @@ pub mod Verdicts
 pub mod Keeping
 pub mod Shown
 pub mod Judging
-pub mod Headline
+pub mod MainTheorem
 pub mod Reasons
 pub mod Changes
 pub use Changes.{MaysKeepAllLaws, changed, mark_with}
-pub use Headline.{AnswersWhatItTook, GoodSaysTheHeadline, KeepsHeadlineThroughout, OvertakesNobody}
+pub use MainTheorem.{AnswersWhatItTook, GoodSaysTheMainTheorem, KeepsMainTheoremThroughout, OvertakesNobody}
 pub use Judging.{AreReasonsAt, AreReasonsIf, AreReasonsOf, BothObserved, HasJudged, JudgeState}
 pub use Keeping.{LockRunState, Knows, accessed, accessed_by, at_rest, is_taken, is_taken_as, marked, marked_all, refusal_on}
 pub use Laws.{breaks_access, breaks_history, breaks_marks, breaks_overtaken, breaks_safe, breaks_together, broken_inside, broken_later, ends_wrongly, first_broken, is_that, right_reply}

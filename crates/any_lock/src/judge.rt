@@ -1,7 +1,7 @@
 ghost use Rattle.std.specs.Prelude.{◌≡◌, ◌+◌, ◌-◌, ◌^◌, ◌<◌, [], IfOk, Ok, length};
 ghost use Rattle.plain_store.specs.{checked};
 ghost use Rattle.safe_monitor.specs.{entry_by};
-ghost use Rattle.any_lock.specs.Headline.{SaysHeadline};
+ghost use Rattle.any_lock.specs.MainTheorem.{SaysMainTheorem};
 ghost use Rattle.any_lock.specs.Judging.{HasJudged, ObserveOn, IsExplained, JudgesOn, OfJudged, ReportsReasons, Finds};
 ghost use Rattle.any_lock.specs.Verdicts.{verdict_of};
 
@@ -96,7 +96,7 @@ impl AnyLockJudge {
         ensures count { result.entries ≡ self.now.entries }
         ensures verdict { OfJudged self.now (λ s entries. result.verdict ≡ verdict_of s entries) }
         ensures entries { OfJudged self.now (λ _ entries. result.entries ≡ length entries) }
-        ensures headline { OfJudged self.now (SaysHeadline result.verdict) }
+        ensures main_theorem { OfJudged self.now (SaysMainTheorem result.verdict) }
     {
         Audited {
             verdict: self.verdict,

@@ -1,7 +1,7 @@
 ghost use Rattle.std.specs.Prelude.{◌≡◌, IfOk, Ok, length};
 ghost use Rattle.plain_store.specs.{checked};
 ghost use Rattle.any_lock.specs.Changes.{MaysKeepAllLaws};
-ghost use Rattle.any_lock.specs.Headline.{GoodSaysTheHeadline, SaysHeadline};
+ghost use Rattle.any_lock.specs.MainTheorem.{GoodSaysTheMainTheorem, SaysMainTheorem};
 ghost use Rattle.any_lock.specs.Verdicts.{verdict_of};
 
 use crate::any_lock_law::AnyLockLaw;
@@ -21,7 +21,8 @@ pub fn judge_all(
     requires good { checked setup.now ≡ Ok tt }
     ensures verdict { IfOk result (λ judged. judged.verdict ≡ verdict_of setup.now entries.now) }
     ensures entries { IfOk result (λ judged. judged.entries ≡ length entries.now) }
-    ensures headline { IfOk result (λ judged. SaysHeadline judged.verdict setup.now entries.now) }
+    ensures main_theorem { IfOk result
+        (λ judged. SaysMainTheorem judged.verdict setup.now entries.now) }
 {
     let mut judge = AnyLockJudge::new(alloc, setup)?;
     for entry in entries {
@@ -34,8 +35,8 @@ pub fn judge_all(
 /// The meaning of a good verdict, for any record. No two processes are inside together, and none enters while another is
 /// ahead of it. Each command is taken at its position with the sequential store's reply there, and no interrupted call
 /// is answered. Positions keep the order of calls that do not overlap.
-pub fn good_says_the_headline()
-    ensures { GoodSaysTheHeadline }
+pub fn good_says_the_main_theorem()
+    ensures { GoodSaysTheMainTheorem }
 {}
 
 /// A bad entry with the change that its reasons state keeps all laws.

@@ -19,7 +19,7 @@ mod shown;
 pub use any_lock_law::AnyLockLaw;
 pub use changes::changed;
 pub use judge::AnyLockJudge;
-pub use judging::{changed_entries_keep_all_laws, good_says_the_headline, judge_all};
+pub use judging::{changed_entries_keep_all_laws, good_says_the_main_theorem, judge_all};
 pub use process_views::{BegunAccess, ProcessView};
 pub use reasons::{Reasons, Refused, Remedy};
 pub use refusals::{AccessRefusal, MarkRefusal};

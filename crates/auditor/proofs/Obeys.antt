@@ -11,7 +11,7 @@ use Rattle.safe_monitor.proofs.laws.FrameEvents.{Accepted, accepted}
 use Rattle.safe_monitor.proofs.laws.FrameInside.{inside-is}
 use Rattle.safe_monitor.proofs.laws.FrameMarks.{entered-is}
 use Rattle.safe_monitor.proofs.laws.SafeRecords.{ends_as_it_may}
-use Rattle.world.proofs.history_laws_proofs.Headlines.{alone, history_is_one, in_turn}
+use Rattle.world.proofs.history_laws_proofs.MainTheorems.{alone, history_is_one, in_turn}
 use Rattle.world.proofs.WorldShows.{past-after}
 use Rattle.safe_monitor.specs.declared.verdicts.Law.TheVariants as law
 use Rattle.auditor.specs.{IsMade, IsOfEvent, KeepsAll, KeepsProgram, KeepsUnit, KeepsTogether, OwesAt, reports_event}

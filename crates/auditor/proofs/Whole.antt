@@ -2,13 +2,13 @@
 use Rattle.std.proofs.Common.{◌≡◌, List, [], ◌∷◌, reverse, Option, Some, None, Ok, refl, sym, ap, subst, ◌∙◌}
 use Rattle.std.proofs.lemmas.List.{reverse-reverse}
 use Rattle.plain_store.specs.{Setup, checked}
-use Rattle.model.specs.{AreGiven, Entry, Event, KeepsHeadlineThroughout, Past, entry_of, past_of}
+use Rattle.model.specs.{AreGiven, Entry, Event, KeepsMainTheoremThroughout, Past, entry_of, past_of}
 use Rattle.model.proofs.Width.{is_good}
 use Rattle.safe_monitor.proofs.laws.HeldThere.{access_there}
 use Rattle.world.proofs.WorldShows.{past-after}
 use Rattle.auditor.specs.{AllKeep, AuditorState, GoodAccessesAreThere, GoodIsOfEvents, HasObserved, IsGoodOfEvents, IsOfEvent, IsTrueRecord, IsVerdict, OfEventsIsGood, Law, Verdict}
 use Rattle.world.proofs.history_laws_proofs.Given.{given_before}
-use Rattle.world.proofs.history_laws_proofs.Headlines.{throughout}
+use Rattle.world.proofs.history_laws_proofs.MainTheorems.{throughout}
 use Rattle.auditor.proofs.Obeys.{obeys}
 use Rattle.auditor.proofs.Recovers.{recovers}
 use Rattle.auditor.proofs.Unique.{good_only}
@@ -26,7 +26,7 @@ true_record a s entries same observed = subst (λ s. IsTrueRecord s entries) sam
   events = reverse observed.events;
   record_is = ap (λ l. reverse (past_of a.core.setup l)) twice ∙ ap reverse observed.past_is ∙ reverse-reverse entries;
   given = subst (AreGiven a.core.setup) (sym twice) observed.shows.given;
-  headline = subst (KeepsHeadlineThroughout a.core.setup) observed.past_is (throughout a.core.setup observed.shows.good observed.events observed.shows.given);
+  main_theorem = subst (KeepsMainTheoremThroughout a.core.setup) observed.past_is (throughout a.core.setup observed.shows.good observed.events observed.shows.given);
 })
   where
     twice : reverse (reverse observed.events) ≡ observed.events

@@ -1,7 +1,7 @@
 -- The laws that an entry keeps, decided by the entries before it, and the verdict on a record.
 use Rattle.std.specs.Prelude.{◌≡◌, ℕ, ◌<◌, Bool, true, false, List, [], ◌∷◌, ◌++◌, length, map, reverse, Some, Ok, IsTrue}
 use Rattle.plain_store.specs.{Setup, checked}
-use Rattle.model.specs.{AreGiven, Entry, Event, KeepsHeadlineThroughout, Mark, OvertakesNobody, Past, Stage, TakesItsPlace, entry_of, has, inside, is_entered, past_of, placed, record_of, stage, stepped}
+use Rattle.model.specs.{AreGiven, Entry, Event, KeepsMainTheoremThroughout, Mark, OvertakesNobody, Past, Stage, TakesItsPlace, entry_of, has, inside, is_entered, past_of, placed, record_of, stage, stepped}
 use Rattle.model.specs.declared.marks.Mark.TheVariants.{Called, Failed, Withdrew, Restarted}
 use Rattle.model.specs.declared.stages.Stage.TheVariants.{Idle, Settling, Down}
 use Rattle.safe_monitor.specs.{AllAreOfThere, KeepsSafe}
@@ -55,7 +55,7 @@ KeepsTogether past e = IsTrue (has is_entered e) → (j : ℕ) → IsTrue (insid
 
 -- The verdict.
 
--- an entry keeps a law, by the entries before it; the last two laws belong to the main theorem, which the code calls the headline
+-- an entry keeps a law, by the entries before it; the last two laws belong to the main theorem
 abbrev pub Keeps : Law → Setup → Past → Entry → Type 0
 Keeps law.Safe s past e = KeepsSafe s past e
 Keeps law.Program s past e = KeepsProgram s past e
@@ -113,7 +113,7 @@ pub record IsTrueRecord (s : Setup) (entries : List Entry) : Type 0 where
   pub events : List Event
   pub record_is : record_of s events ≡ entries
   pub given : AreGiven s (reverse events)
-  pub headline : KeepsHeadlineThroughout s (reverse entries)
+  pub main_theorem : KeepsMainTheoremThroughout s (reverse entries)
 
 -- if the entries are the record of some list of events, whose names, values and counts are what their types allow, the verdict is good
 abbrev pub IsGoodOfEvents : Setup → List Entry → Verdict Law → Type 0

@@ -13,7 +13,7 @@ use Rattle.laws.proofs.Frame.{Does, Happens, a_call, a_withdrawal, a_failure, a_
 use Rattle.laws.proofs.FrameEvents.{accepted, does_all}
 use Rattle.history_laws.specs.{changes_taken}
 use Rattle.history_laws.proofs.CountedChanges.{history-takes, taken_at}
-use Rattle.history_laws.proofs.DataHeadline.{taken}
+use Rattle.history_laws.proofs.DataMainTheorem.{taken}
 use Rattle.history_laws.proofs.Given.{given_before}
 use Rattle.history_laws.proofs.Reported.{SaysAfter, says}
 use Rattle.history_laws.proofs.Took.{EachAnswer, begins, goes, doing-few}

@@ -26,8 +26,8 @@ use Rattle.laws.proofs.HeldCells.{held-is}
 use Rattle.history_laws.proofs.Codec.{bytes_read, store_is_read}
 use Rattle.history_laws.proofs.CountedChanges.{then}
 use Rattle.history_laws.proofs.DataAlways.{data_of}
-use Rattle.history_laws.proofs.DataHeadline as headline
-use Rattle.history_laws.proofs.Headlines.{throughout}
+use Rattle.history_laws.proofs.DataMainTheorem as main_theorem
+use Rattle.history_laws.proofs.MainTheorems.{throughout}
 use Rattle.history_laws.proofs.Sound.{IsStoreOf}
 use Rattle.history_laws.proofs.Sounding.{after_is_same}
 use Rattle.process.specs.{newest_version}
@@ -84,7 +84,7 @@ bits-are s events words views f none p field below version =
     range_same (λ k. (cell_after s past (copy p field 0 k)).value) (λ k. slice_index words (word_of s (copy p field 0 k)) == 1) (width s field) false (λ k inside_.
     let a = copy p field 0 k in
     let there : IsThere s a = record { owner = below; reader = omega (arith, below); bit = inside_ } in
-    let whole : (cell_held s past a).writing ≡ false = ap (λ (c : Cell). c.writing) (held-is s past a) ∙ headline.whole s f.good events none a version in
+    let whole : (cell_held s past a).writing ≡ false = ap (λ (c : Cell). c.writing) (held-is s past a) ∙ main_theorem.whole s f.good events none a version in
     ap (λ w. w == 1) (f.bits a there) ∙ bit-value (cell_held s past a) whole ∙ ap (λ (c : Cell). c.value) (held-is s past a))
 
 version-is : (s : Setup) (events : List Event) (words : List ℕ) (views : List ViewState) → Shows s events words views → is_somebody_inside s (past_of s events) ≡ false → (p : ℕ) → p < s.processes → version_shown s words p ≡ version_held s (past_of s events) p
@@ -159,7 +159,7 @@ pub closes : (s : Setup) (id : ℕ) (v : ViewState) (words : List ℕ) (t : Stat
 closes s id v words t image agree at same live zero_ still joined is = record {
   events = events;
   given = f.given;
-  headline = throughout s f.good events f.given;
+  main_theorem = throughout s f.good events f.given;
   quiet = quiet;
   calls = ap (λ (o : OwnView). o.calls) mine;
   seen = k.seen;
@@ -167,7 +167,7 @@ closes s id v words t image agree at same live zero_ still joined is = record {
   store =
       is
       ∙ ap (λ ws. store_in s.slots (callers_of s) (bytes_shown s ws)) (sym same)
-      ∙ ap (store_in s.slots (callers_of s)) (bytes-are s events t.words t.views f none ∙ headline.newest s f.good events f.given none ∙ sym (bytes_read s store sound))
+      ∙ ap (store_in s.slots (callers_of s)) (bytes-are s events t.words t.views f none ∙ main_theorem.newest s f.good events f.given none ∙ sym (bytes_read s store sound))
       ∙ store_is_read (call s 0 Ask 0) store sound
       ∙ sym (changed_store (opening_store s) (history s past));
 }

@@ -2,7 +2,7 @@
 use Rattle.std.specs.Prelude.{◌≡◌, ℕ, ◌+◌, ◌<◌, false, true, List, ◌++◌, take, slice_get, Ok, Some}
 use mathlib.Core.Option.{some}
 use lib.ListN.{get_elem?}
-use Rattle.model.specs.{EachPastGiven, Event, KeepsHeadlineThroughout, Past, Placed, Taken, count_changes, history, past_of, process_of, refused, stage, store_after}
+use Rattle.model.specs.{EachPastGiven, Event, KeepsMainTheoremThroughout, Past, Placed, Taken, count_changes, history, past_of, process_of, refused, stage, store_after}
 use Rattle.plain_store.specs.{Answer, Setup, Value, changes, checked, opening_store}
 use Rattle.plain_store.specs.declared.Answer.TheVariants as answer
 use Rattle.plain_store.specs.declared.Command.TheVariants.{Read, Write}
@@ -40,9 +40,9 @@ abbrev pub RefusalsAreTheRecords : Type 0
 RefusalsAreTheRecords = EachView λ s events v since. (event : Event) → process_of event ≡ v.own.process → refused s (past_of s events) event ≡ refusal_in s (with_events s v.own since) event
 
 -- If words and views agree, they show the record of some events, in which the begin and the end of each read are neighbours, and that record keeps the main theorem.
-abbrev pub BoardsKeepTheHeadline : Type 0
-BoardsKeepTheHeadline = (s : Setup) (words : List ℕ) (views : List ViewState) → Agree s words views →
-    (events : List Event) × Shows s events words views × (are_neighbours (past_of s events) ≡ true) × KeepsHeadlineThroughout s (past_of s events)
+abbrev pub BoardsKeepTheMainTheorem : Type 0
+BoardsKeepTheMainTheorem = (s : Setup) (words : List ℕ) (views : List ViewState) → Agree s words views →
+    (events : List Event) × Shows s events words views × (are_neighbours (past_of s events) ≡ true) × KeepsMainTheoremThroughout s (past_of s events)
 
 -- The store after the changes alone is the store after the history. So it is at each position of the history: the changes among its first k commands make the store after them.
 abbrev pub ChangesMakeTheStore : Type 0

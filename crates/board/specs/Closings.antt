@@ -6,7 +6,7 @@ use Rattle.std.specs.Slots.{slots_items}
 use Rattle.std.specs.declared.alloc.Global.{Global}
 use Rattle.atomic_table.specs.declared.Closed.{Closed}
 use Rattle.atomic_table.specs.Seated.{TableId}
-use Rattle.model.specs.{AreGiven, Event, Field, KeepsHeadlineThroughout, Placed, Taken, Version, bytes_of_bits, copy, image_bytes, image_field, lists_of, newest_process, past_of, processes, stamp_field, store_after, version_of, width}
+use Rattle.model.specs.{AreGiven, Event, Field, KeepsMainTheoremThroughout, Placed, Taken, Version, bytes_of_bits, copy, image_bytes, image_field, lists_of, newest_process, past_of, processes, stamp_field, store_after, version_of, width}
 use Rattle.model.specs.declared.access.Field.TheVariants.{Commit}
 use Rattle.model.specs.safe_number.{number_of_bits}
 use Rattle.plain_store.specs.{Contents, Setup, callers_of}
@@ -116,7 +116,7 @@ pub record HasJoined (count : ℕ) (v w : ViewState) : Type 0 where
 pub record Leaves (s : Setup) (its_calls : Calls) (has_seen : List Taken) (image : Contents) : Type 0 where
   pub events : List Event
   pub given : AreGiven s events
-  pub headline : KeepsHeadlineThroughout s (past_of s events)
+  pub main_theorem : KeepsMainTheoremThroughout s (past_of s events)
   pub quiet : (p : ℕ) → p < s.processes → IsQuiet (doing s p (past_of s events))
   pub calls : its_calls ≡ calls_of s 0 (past_of s events)
   pub seen : IsPrefix has_seen (changes_of s (past_of s events))

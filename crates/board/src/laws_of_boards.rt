@@ -1,5 +1,5 @@
 //! The laws of boards, for every setup that passes the check.
-ghost use Rattle.board.specs.BoardLaws.{AllChangesMakeTheStore, BoardsKeepTheHeadline, CallsAreInTheChanges, ChangesMakeTheStore, OwnWritesAreRead, RefusalsAreTheRecords, StagesAreTheRecords, SeenStaysSeen, IsInLonger, WordsAreOfBits, WordsReportTheirBits};
+ghost use Rattle.board.specs.BoardLaws.{AllChangesMakeTheStore, BoardsKeepTheMainTheorem, CallsAreInTheChanges, ChangesMakeTheStore, OwnWritesAreRead, RefusalsAreTheRecords, StagesAreTheRecords, SeenStaysSeen, IsInLonger, WordsAreOfBits, WordsReportTheirBits};
 
 /// Each single-reader bit has a word of its own, from which it can be found, and each word is of an existing bit.
 pub fn words_are_of_single_bits()
@@ -17,8 +17,8 @@ pub fn views_report_the_record()
 /// Words and views agree between any two word steps, and then the record that they show keeps the main theorem: under
 /// every schedule of the threads, no two processes are inside together, no process overtakes, the answers are those of
 /// one history, no read of the data is overlapped, and `TicketsFull`, `StampsFull` and `Ask` are answered as in a world.
-pub fn boards_keep_the_headline()
-    ensures headline { BoardsKeepTheHeadline }
+pub fn boards_keep_the_main_theorem()
+    ensures main_theorem { BoardsKeepTheMainTheorem }
 {}
 
 /// One list of changes: the store after the changes alone is the store after the history, at each position. The calls of

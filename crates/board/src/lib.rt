@@ -29,7 +29,7 @@ pub use board::Board;
 pub use closing::{Closing, NotQuiet};
 pub use driving::Driven;
 pub use laws_of_boards::{
-    boards_keep_the_headline, calls_are_in_one_list, views_report_the_record,
+    boards_keep_the_main_theorem, calls_are_in_one_list, views_report_the_record,
     words_are_of_single_bits,
 };
 pub use model::Placed;

@@ -2,7 +2,7 @@
 ghost use Rattle.std.specs.Prelude.{◌≡◌, ◌++◌, [], ◌∷◌, ⊤, true, Ok, IfOk, OnOk, reverse};
 ghost use Rattle.plain_store.specs.{checked};
 ghost use Rattle.scenario_run.specs.model.declared.Refusal.TheVariants.{Memory};
-ghost use Rattle.scenario_run.specs.model.{AreGiven, KeepsHeadlineThroughout, is_event, record_of as record_made};
+ghost use Rattle.scenario_run.specs.model.{AreGiven, KeepsMainTheoremThroughout, is_event, record_of as record_made};
 ghost use Rattle.judge.specs.record_file.{FitLines};
 ghost use Rattle.scenario.specs.{script};
 ghost use Rattle.engines.specs.Listings.{RecordsEvent, event_reported};
@@ -112,7 +112,8 @@ pub fn record_of(alloc: Global, setup: &Setup, events: &[Event]) -> Result<Recor
     requires { checked setup.now ≡ Ok tt }
     ensures entries { IfOk result (λ made. made ≡ record_made setup.now events.now) }
     ensures given { OnOk result (AreGiven setup.now (reverse events.now)) }
-    ensures headline { IfOk result (λ made. KeepsHeadlineThroughout setup.now (reverse made)) }
+    ensures main_theorem { IfOk result
+        (λ made. KeepsMainTheoremThroughout setup.now (reverse made)) }
     ensures fit { IfOk result (λ made. FitLines made) }
     ensures read_again { IfOk result (IsReadAgain setup.now) }
 {

@@ -6,7 +6,7 @@ ghost use Rattle.scenario.specs.{script};
 ghost use Rattle.engines.specs.Replayings.{IsRunSummary};
 ghost use Rattle.engines.specs.Sinks.{Wrote, WroteFront};
 ghost use Rattle.scenario.specs.files.{ReadsFront};
-ghost use Rattle.scenario_run.specs.{CanCount, InputKeepsHeadline, IsSummaryOf, RunKeepsHeadline, Took, TookPart, can_count_less, ended, part_before, part_on, part_unobserved, replay_text, replayed, text_longer, text_of, took_none, took_on};
+ghost use Rattle.scenario_run.specs.{CanCount, InputKeepsMainTheorem, IsSummaryOf, RunKeepsMainTheorem, Took, TookPart, can_count_less, ended, part_before, part_on, part_unobserved, replay_text, replayed, text_longer, text_of, took_none, took_on};
 ghost use Rattle.scenario_run.specs.Writing.{Counts, IsWriteFault, failed_write};
 
 use crate::writing::{write_end, write_turn};
@@ -42,7 +42,7 @@ pub fn replay<R: Source, W: Sink, L: ProgressObserver>(
         (streams ⟦<R as Source>⟧ ⟦<W as Sink>⟧ input.new output.new) }
     ensures input { ReadsFront (R.to_come input.old) (R.to_come input.new) }
     ensures summary { IfOk result (λ summary. IsSummaryOf (R.to_come input.old) summary) }
-    ensures headline { OnOk result (InputKeepsHeadline (R.to_come input.old)) }
+    ensures main_theorem { OnOk result (InputKeepsMainTheorem (R.to_come input.old)) }
 {
     let file = read_input(alloc, input)?;
     let scenario = read_scenario(alloc, file.as_slice())?;
@@ -60,7 +60,7 @@ fn replay_scenario<W: Sink, L: ProgressObserver>(
     ensures written { Wrote W.taken result output.old output.new (replayed (script scenario.now)) }
     ensures front { WroteFront W.taken output.old output.new (replayed (script scenario.now)) }
     ensures summary { IfOk result (IsRunSummary (script scenario.now)) }
-    ensures headline { OnOk result (RunKeepsHeadline (script scenario.now)) }
+    ensures main_theorem { OnOk result (RunKeepsMainTheorem (script scenario.now)) }
     ensures fault { IfErr result IsWriteFault }
     ensures failures { W.failures output.new ≡ W.failures output.old + failed_write result }
 {

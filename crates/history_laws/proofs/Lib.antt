@@ -44,10 +44,10 @@ pub mod ReadStamps
 pub mod ImageReads
 pub mod TrueMarks
 pub mod DataMore
-pub mod DataHeadline
+pub mod DataMainTheorem
 -- One history
 pub mod HistoryItems
 pub mod StoreNumbers
 pub mod Asked
 pub mod Answered
-pub mod Headlines
+pub mod MainTheorems

@@ -2,7 +2,7 @@
 //! law holds for every setup that passes the check, every list of events, including refused ones, and every
 //! flick. If a law mentions a store, the names, values and counts of the events are assumed to be within what
 //! their types allow.
-ghost use Rattle.model.specs.Headline.{AskAnswersTheLatestChange, AskReportsOfCutCalls, Headline, HeadlineThroughout, ImagesAreOfTheStore, ImagesAreRead, MutualExclusion, NewestIsTheHistorys, NoOvertaking, OneHistory, StampsFullAfterAllChanges, VersionReadsAreUnoverlapped, VersionsAreWholeOutside};
+ghost use Rattle.model.specs.MainTheorem.{AskAnswersTheLatestChange, AskReportsOfCutCalls, MainTheorem, MainTheoremThroughout, ImagesAreOfTheStore, ImagesAreRead, MutualExclusion, NewestIsTheHistorys, NoOvertaking, OneHistory, StampsFullAfterAllChanges, VersionReadsAreUnoverlapped, VersionsAreWholeOutside};
 ghost use Rattle.history_laws.specs.Stamps.{HistoryStaysWhileInside, StampsCountTheChanges};
 ghost use Rattle.history_laws.specs.DataLaws.{ChangesFitTheStamps, NewestStampCountsTheChanges, NumbersAscend, RepliesAreThoseOfTheirPlaces};
 
@@ -61,9 +61,9 @@ pub fn ask_reports_of_changes()
 ///
 /// The theorem is about each entry and the past that it is added to, and so about each entry of a past. Mutual
 /// exclusion and no overtaking also hold if names and values are not what their types allow.
-pub fn headline()
-    ensures entries { Headline }
-    ensures pasts { HeadlineThroughout }
+pub fn main_theorem()
+    ensures entries { MainTheorem }
+    ensures pasts { MainTheoremThroughout }
     ensures mutual_exclusion { MutualExclusion }
     ensures no_overtaking { NoOvertaking }
     ensures one_history { OneHistory }

@@ -35,7 +35,7 @@ raced board plans ports answers image h all lists stand leaves = record {
   end = λ calls at.
       let a = answer_at ports answers lists (in_order board plans ports h) 0 calls at in
       let l = leaves 0 a.0 a.1 (in_order board plans ports h 0 a.0 a.1) in
-      (changes_of board.setup (past_of board.setup l.events), record { events = l.events; given = l.given; headline = l.headline; are = refl }, subst (λ (xs : List Placed). StandsIn board.setup 0 xs (changes_of board.setup (past_of board.setup l.events))) a.2 l.stands, l.store);
+      (changes_of board.setup (past_of board.setup l.events), record { events = l.events; given = l.given; main_theorem = l.main_theorem; are = refl }, subst (λ (xs : List Placed). StandsIn board.setup 0 xs (changes_of board.setup (past_of board.setup l.events))) a.2 l.stands, l.store);
 }
 
 -- The board can be closed: all its ports are present, and at rest.

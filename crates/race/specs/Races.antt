@@ -2,7 +2,7 @@
 use Rattle.std.specs.Prelude.{◌≡◌, ◌≤◌, ℕ, [], vec_capacity, List, length, map, slice_get, Some}
 use Rattle.std.specs.Global.{Vec}
 use Rattle.plain_store.specs.{Answer, Command, Contents, Setup}
-use Rattle.model.specs.{AreGiven, Event, KeepsHeadlineThroughout, Placed, Taken, past_of, store_after}
+use Rattle.model.specs.{AreGiven, Event, KeepsMainTheoremThroughout, Placed, Taken, past_of, store_after}
 use Rattle.model.specs.declared.stages.Stage.TheVariants.{Idle}
 use Rattle.board.specs.{BoardState, Closing, EachIsInRecord, IsOf, PortState, StandsIn, changes_of, lists_in, new_own, stage_in}
 use Rattle.race.specs.declared.racing.PlanPromise.{PlanPromise}
@@ -20,7 +20,7 @@ pub record AreMade (plan : List Command) (calls : List Placed) : Type 0 where
 pub record AreChanges (s : Setup) (list : List Taken) : Type 0 where
   pub events : List Event
   pub given : AreGiven s events
-  pub headline : KeepsHeadlineThroughout s (past_of s events)
+  pub main_theorem : KeepsMainTheoremThroughout s (past_of s events)
   pub are : list ≡ changes_of s (past_of s events)
 
 -- The end of a race. Each plan's calls were made and answered. The calls of each process by itself appear in the changes of the record of some events. The image is that of the store after one such list of changes, whose record keeps the main theorem, and in which the calls of process 0 appear.

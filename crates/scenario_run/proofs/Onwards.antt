@@ -2,9 +2,9 @@
 use Rattle.std.proofs.Common.{◌≡◌, ℕ, List, [], Option, ap, ◌∙◌}
 use Rattle.std.specs.Io.KnownBytes.{Appends}
 use Rattle.plain_store.specs.{Setup}
-use Rattle.world.proofs.history_laws_proofs.Headlines.{throughout}
+use Rattle.world.proofs.history_laws_proofs.MainTheorems.{throughout}
 use Rattle.scenario.specs.{Line, Script}
-use Rattle.scenario_run.specs.{ScenarioRunState, Follows, Happening, Plays, Run, RunKeepsHeadline, Summary, run_at_start, runs, summary_of, text_of, tried}
+use Rattle.scenario_run.specs.{ScenarioRunState, Follows, Happening, Plays, Run, RunKeepsMainTheorem, Summary, run_at_start, runs, summary_of, text_of, tried}
 use Rattle.scenario_run.specs.Writing.{Counts}
 use Rattle.scenario_run.proofs.Played.{played_good}
 
@@ -31,7 +31,7 @@ pub onward_numbers : (s : Setup) (lines : List Line) (scenario_run : ScenarioRun
 onward_numbers s lines scenario_run summary taken old new u counted = run_numbers s u.now scenario_run summary taken u.follows u.setup u.counts counted ∙ ap (λ (r : Run). summary_of s r.happened) u.whole
 
 -- the main theorem holds of the whole run
-pub run_headline : {L : Type 0} {Observes : L → Setup → List Happening → List Happening → L → Type 0} {before : Run} {scenario_run : ScenarioRunState} {was is : L} (said : Script) → Plays Observes said.setup before (runs said.setup said.lines run_at_start) scenario_run was is → RunKeepsHeadline said
-run_headline said plays =
+pub run_main_theorem : {L : Type 0} {Observes : L → Setup → List Happening → List Happening → L → Type 0} {before : Run} {scenario_run : ScenarioRunState} {was is : L} (said : Script) → Plays Observes said.setup before (runs said.setup said.lines run_at_start) scenario_run was is → RunKeepsMainTheorem said
+run_main_theorem said plays =
     let (good, given) = played_good plays in
-    record { good = good; given = given; headline = throughout said.setup good (tried (runs said.setup said.lines run_at_start).happened) given }
+    record { good = good; given = given; main_theorem = throughout said.setup good (tried (runs said.setup said.lines run_at_start).happened) given }

@@ -8,7 +8,7 @@ use Rattle.scenario.specs.files.Engines.{Streams, Ran, text_by, text_or_none}
 use Rattle.scenario.specs.{Script, scenario_of}
 use Rattle.scenario.specs.files.{Fault, LineFault, ReadsInput, WritesFront}
 use Rattle.scenario.specs.files.declared.faults.Fault.TheVariants.{Line, Read, Write, Memory}
-use Rattle.scenario_run.specs.{InputKeepsHeadline, IsSummaryOf, IsWriteFault, RunKeepsHeadline, Summary, ended, failed_write, happenings, summary_of}
+use Rattle.scenario_run.specs.{InputKeepsMainTheorem, IsSummaryOf, IsWriteFault, RunKeepsMainTheorem, Summary, ended, failed_write, happenings, summary_of}
 
 -- a fault stays a fault when the result is dropped
 pub ended_err : {A : Type 0} (result : Result A Fault) (P : Fault → Type 0) → IsErrAnd result P → IsErrAnd (ended result) P
@@ -57,10 +57,10 @@ pub replay_numbers : (result : Result Summary Fault) (bytes : List ℕ) (said : 
 replay_numbers result bytes said old new read good is = input_answer result (λ said summary. summary ≡ summary_of said.setup (happenings said)) bytes said old new read good is
 
 -- the run of a replay is that of the whole input
-pub replay_headline : (result : Result Summary Fault) (bytes : List ℕ) (said : Script) (old new : Option (List ℕ)) → ReadsInput old new bytes → scenario_of bytes ≡ Ok said →
-    OnOk result (RunKeepsHeadline said) → OnOk result (InputKeepsHeadline old)
-replay_headline (Err e) bytes said old new read good keeps = tt
-replay_headline (Ok summary) bytes said None new read good keeps = tt
-replay_headline (Ok summary) bytes said (Some input) new read good keeps =
+pub replay_main_theorem : (result : Result Summary Fault) (bytes : List ℕ) (said : Script) (old new : Option (List ℕ)) → ReadsInput old new bytes → scenario_of bytes ≡ Ok said →
+    OnOk result (RunKeepsMainTheorem said) → OnOk result (InputKeepsMainTheorem old)
+replay_main_theorem (Err e) bytes said old new read good keeps = tt
+replay_main_theorem (Ok summary) bytes said None new read good keeps = tt
+replay_main_theorem (Ok summary) bytes said (Some input) new read good keeps =
     let same : scenario_of bytes ≡ scenario_of input = input_reports scenario_of input bytes new scenario_reports_at_limit read in
     (said, sym same ∙ good, keeps)

@@ -3,7 +3,7 @@ use Rattle.std.proofs.Common.{◌≡◌, ℕ, Bool, List, [], ◌∷◌, map, le
 use Rattle.plain_store.specs.{Setup}
 use Rattle.model.specs.{Event, Refusal, Taken, entry_of, history, past_of, placed}
 use Rattle.model.specs.declared.events.Event.TheVariants.{Step}
-use Rattle.world.specs.{Adds, GoesOn, IsRefused, KeepsTheHeadline, StepsQuietly, ReportsOverlapped}
+use Rattle.world.specs.{Adds, GoesOn, IsRefused, KeepsTheMainTheorem, StepsQuietly, ReportsOverlapped}
 use Rattle.world.specs.Shows.{Shows, WorldState}
 use Rattle.world.specs.process.{act_of, marks_of}
 use Rattle.world.specs.process.declared.outcomes.EventOutcome.TheVariants.{Steps}
@@ -39,22 +39,22 @@ some_is n m is = cc
 
 module _ (w w' : WorldState) (p : ℕ) (flick : Bool) (leads : Leads) (r : Result AccessMade Refusal) (adds : IfOk r (λ (made : AccessMade). Adds w (Step p flick) p (act_of (length w.history) (record { access = Some made.access; effect = Steps leads })))) (on : OnOk r (GoesOn w (Step p flick) w')) (setup : OnOk r (w'.setup ≡ w.setup)) where
   -- a Step without a mark
-  abbrev step_quiet : (one : AccessMade) → r ≡ Ok one → leads ≡ step.Nothing → IfOk r (λ (made : AccessMade). KeepsTheHeadline w p (act_of (length w.history) (record { access = Some made.access; effect = Steps leads }))) → StepsQuietly w p flick w'
-  step_quiet one made nothing headline = record {
+  abbrev step_quiet : (one : AccessMade) → r ≡ Ok one → leads ≡ step.Nothing → IfOk r (λ (made : AccessMade). KeepsTheMainTheorem w p (act_of (length w.history) (record { access = Some made.access; effect = Steps leads }))) → StepsQuietly w p flick w'
+  step_quiet one made nothing main_theorem = record {
     access = one.access;
     adds = subst (λ leads. Adds w (Step p flick) p (act_of (length w.history) (record { access = Some one.access; effect = Steps leads }))) nothing
         (subst (λ (r : Result AccessMade Refusal). IfOk r (λ (made : AccessMade). Adds w (Step p flick) p (act_of (length w.history) (record { access = Some made.access; effect = Steps leads })))) made adds);
     shows = subst (λ (r : Result AccessMade Refusal). OnOk r (GoesOn w (Step p flick) w')) made on;
-    headline = subst (λ leads. KeepsTheHeadline w p (act_of (length w.history) (record { access = Some one.access; effect = Steps leads }))) nothing
-        (subst (λ (r : Result AccessMade Refusal). IfOk r (λ (made : AccessMade). KeepsTheHeadline w p (act_of (length w.history) (record { access = Some made.access; effect = Steps leads })))) made headline);
+    main_theorem = subst (λ leads. KeepsTheMainTheorem w p (act_of (length w.history) (record { access = Some one.access; effect = Steps leads }))) nothing
+        (subst (λ (r : Result AccessMade Refusal). IfOk r (λ (made : AccessMade). KeepsTheMainTheorem w p (act_of (length w.history) (record { access = Some made.access; effect = Steps leads })))) made main_theorem);
     setup = subst (λ (r : Result AccessMade Refusal). OnOk r (w'.setup ≡ w.setup)) made setup;
   }
 
   -- a Step without a mark, which is observed
-  pub step_observed : {L : Type 0} (R : L → Setup → List Happening → List Happening → L → Type 0) (one : AccessMade) (number : ℕ) (was is : L) → r ≡ Ok one → leads ≡ step.Nothing → IfOk r (λ (made : AccessMade). KeepsTheHeadline w p (act_of (length w.history) (record { access = Some made.access; effect = Steps leads }))) → IfOk r (λ (made : AccessMade). ReportsOverlapped w made.access made.overlapped) →
+  pub step_observed : {L : Type 0} (R : L → Setup → List Happening → List Happening → L → Type 0) (one : AccessMade) (number : ℕ) (was is : L) → r ≡ Ok one → leads ≡ step.Nothing → IfOk r (λ (made : AccessMade). KeepsTheMainTheorem w p (act_of (length w.history) (record { access = Some made.access; effect = Steps leads }))) → IfOk r (λ (made : AccessMade). ReportsOverlapped w made.access made.overlapped) →
       ((events : List Event) → Shows w events → number ≡ number_read (doing w.setup p (past_of w.setup events))) → ObservesUnmarked R (record { process = p; flick = flick; access = one.access; overlapped = one.overlapped; number = Some number }) was is → ObservesStep R w p flick w' was is
-  step_observed R one number was is made nothing headline overlaps number_is observed =
-      let q = step_quiet one made nothing headline in
+  step_observed R one number was is made nothing main_theorem overlaps number_is observed =
+      let q = step_quiet one made nothing main_theorem in
       record { step = q; observes = λ before shows. observed w.setup before (steps_on w w' p flick (Some number) before q shows (λ n some. some_is number n some ∙ number_is (tried before) shows) (λ none. absurd (cc)) one.overlapped (overlaps_of w r one made overlaps)) }
 
   -- a Step that is reported, made or refused

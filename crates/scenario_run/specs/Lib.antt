@@ -29,7 +29,7 @@ pub use Happenings.{Happening, Lacks, Looks, Tires, Tries, accepted, past_after,
 pub use Judging.{Audits}
 pub use Observing.{Comes, ComesAlong, ComesDown, ComesOn, ComesTo, Happens, ObservesPassing, ObservesStep, ObservesUnmarked, IsNewest, LeavesRoom, MakesStep, PassBy, PassQuietly, PassWithin, PassesAlone, Plays, PlaysLine, PlaysLines, RunsAlone, RunsTo, StepsOn, StepsWithin, StopsAlone, StopsBy, StopsLine, StopsLines, ReportsStep, overlapped_in, room_wanted}
 pub use Parts.{IsFront, IsLineMade, IsPart, MadeNewest, PlaysPart, PlaysUntil, events_in, events_to}
-pub use Replays.{InputKeepsHeadline, IsSummaryOf, RunKeepsHeadline, ended}
+pub use Replays.{InputKeepsMainTheorem, IsSummaryOf, RunKeepsMainTheorem, ended}
 pub use RunRecords.{accepted_events, listed, run_record}
 pub use Runs.{Run, after_pick_in, go_limit, goes, happenings, has_step, is_there, may_step, enabled, next_step, past_in, pick_among, picked, run_after, run_at_start, runs, stepped, steps, wanders, with_happening}
 pub use Steppers.{IsAlone, IsAway, remaining_after, turns_drawn}

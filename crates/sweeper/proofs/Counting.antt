@@ -5,10 +5,10 @@ use Rattle.std.proofs.lemmas.List.{length-append, length_push, reverse-append, t
 use Rattle.std.proofs.lemmas.List.Elements.{All-push, filter-append}
 use Rattle.std.proofs.lemmas.List.Filters.{length-filter_both}
 use Rattle.plain_store.specs.{Command, Setup}
-use Rattle.model.specs.{Event, KeepsHeadlineThroughout, past_of, process_of}
+use Rattle.model.specs.{Event, KeepsMainTheoremThroughout, past_of, process_of}
 use Rattle.model.specs.declared.events.Event.TheVariants.{Fail}
 use Rattle.auditor.specs.{AllKeep}
-use Rattle.world.proofs.history_laws_proofs.Headlines.{throughout}
+use Rattle.world.proofs.history_laws_proofs.MainTheorems.{throughout}
 use Rattle.auditor.proofs.Whole.{good_of}
 use Rattle.sweeper.specs.{Accepts, BadRun, CanRun, CanSweep, Counts, CountsRun, Cut, HasSwept, IsRun, MakesRun, OfSweep, RunnerState, RunsOn, Swept, Sweeper, SweepsOn, bad_run, counted, cut, cut_off, cuts, is_accepted, is_cut, on_from}
 use Rattle.sweeper.proofs.Dues.{few_due}
@@ -30,8 +30,8 @@ counts_more : (s : Setup) (cs : List Cut) (found : Swept) (c : Cut) (r : RunnerS
 counts_more s cs found c r number value met same run counts = record {
   good = All-push (λ (c : Cut). AllKeep s (past_of s c.run.events)) cs c counts.good
       (subst (λ (s : Setup). AllKeep s (past_of s c.run.events)) same (good_of r.core.setup run.follows.shows.good c.run.events run.follows.shows.given));
-  headline = All-push (λ (c : Cut). KeepsHeadlineThroughout s (past_of s c.run.events)) cs c counts.headline
-      (subst (λ (s : Setup). KeepsHeadlineThroughout s (past_of s c.run.events)) same (throughout r.core.setup run.follows.shows.good c.run.events run.follows.shows.given));
+  main_theorem = All-push (λ (c : Cut). KeepsMainTheoremThroughout s (past_of s c.run.events)) cs c counts.main_theorem
+      (subst (λ (s : Setup). KeepsMainTheoremThroughout s (past_of s c.run.events)) same (throughout r.core.setup run.follows.shows.good c.run.events run.follows.shows.given));
   runs = ap (λ n. n + 1) counts.runs ∙ sym (length_push cs c);
   all = ap (λ n. n + 1) counts.all ∙ sym (length_push cs c);
   stuck = (λ i. counts.stuck i + cond (run.stuck i) 1 0) ∙ sym (stuck_more cs c);

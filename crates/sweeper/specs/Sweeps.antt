@@ -2,7 +2,7 @@
 use Rattle.std.specs.Prelude.{◌≡◌, ℕ, zero, suc, Bool, true, false, ◌&&◌, ◌||◌, List, [], ◌∷◌, ◌++◌, length, map, filter, fold, reverse, Option, None, Some, Ok, is_none, nat_lt, cond}
 use Rattle.std.specs.List.{All, list_all, list_any, AllZip}
 use Rattle.plain_store.specs.{Command, Setup, checked, is_command}
-use Rattle.model.specs.{AreGiven, Entry, Event, KeepsHeadlineThroughout, Stage, past_of, process_of, processes, refused, stage}
+use Rattle.model.specs.{AreGiven, Entry, Event, KeepsMainTheoremThroughout, Stage, past_of, process_of, processes, refused, stage}
 use Rattle.model.specs.declared.events.Event.TheVariants.{Call, Step, Fail, Restart}
 use Rattle.model.specs.declared.stages.Stage.TheVariants.{Idle, Settling, Down}
 use Rattle.auditor.specs.{IsVerdict, Law, Verdict}
@@ -118,12 +118,12 @@ abbrev pub IsSwept : Setup → List Event → List (ℕ × Command) → Swept �
 IsSwept s events calls found = IsFound s (cuts s calls (reverse events)) found
 
 -- each entry of each of these runs keeps the main theorem
-abbrev pub KeepHeadline : Setup → List Cut → Type 0
-KeepHeadline s cs = All (λ (c : Cut). KeepsHeadlineThroughout s (past_of s c.run.events)) cs
+abbrev pub KeepMainTheorem : Setup → List Cut → Type 0
+KeepMainTheorem s cs = All (λ (c : Cut). KeepsMainTheoremThroughout s (past_of s c.run.events)) cs
 
 -- each entry of each run of a sweep of these events, the oldest first, keeps the main theorem
-abbrev pub SweptKeepHeadline : Setup → List Event → List (ℕ × Command) → Type 0
-SweptKeepHeadline s events calls = KeepHeadline s (cuts s calls (reverse events))
+abbrev pub SweptKeepMainTheorem : Setup → List Event → List (ℕ × Command) → Type 0
+SweptKeepMainTheorem s events calls = KeepMainTheorem s (cuts s calls (reverse events))
 
 -- every run is good
 abbrev pub AreAllGood : Swept → Type 0

@@ -10,12 +10,12 @@ use Rattle.sweeper.specs.declared.swept.BadRun.{BadRun}
 use Rattle.sweeper.specs.declared.swept.Swept.{Swept}
 use Rattle.sweeper.specs.declared.sweeping.Sweeper.{Sweeper}
 use Rattle.sweeper.specs.Runners.{Follows, due}
-use Rattle.sweeper.specs.Sweeps.{Cut, KeepHeadline, cut, cuts}
+use Rattle.sweeper.specs.Sweeps.{Cut, KeepMainTheorem, cut, cuts}
 
 -- in these runs each entry keeps all laws and the main theorem, and the counts are those of the runs
 pub record Counts (s : Setup) (cs : List Cut) (found : Swept) : Type 0 where
   pub good : All (λ (c : Cut). AllKeep s (past_of s c.run.events)) cs
-  pub headline : KeepHeadline s cs
+  pub main_theorem : KeepMainTheorem s cs
   pub runs : found.runs ≡ length cs
   pub all : found.good ≡ length cs
   pub stuck : found.stuck ≡ length (filter (λ (c : Cut). c.run.stuck) cs)

@@ -1,7 +1,7 @@
 //! A sweep: one runner takes the events, and after each accepted event another runner continues from there twice.
 ghost use Rattle.std.specs.Prelude.{◌≡◌, ◌+◌, ℕ, reverse, IfOk, Ok};
 ghost use Rattle.plain_store.specs.{checked};
-ghost use Rattle.sweeper.specs.Sweeps.{AreAllGood, AreDownInTime, IsFound, IsSwept, KeepHeadline, SweptKeepHeadline, cuts};
+ghost use Rattle.sweeper.specs.Sweeps.{AreAllGood, AreDownInTime, IsFound, IsSwept, KeepMainTheorem, SweptKeepMainTheorem, cuts};
 ghost use Rattle.sweeper.specs.Tallies.{CanRun, CanSweep, CountsRun, OfSweep, RoomAtFirst, SweepsNone, SweepsOn};
 
 use crate::audited_run::AuditedRun;
@@ -31,7 +31,8 @@ pub fn sweep(
     requires { checked setup.now ≡ Ok tt }
     ensures swept { IfOk result (λ found. IsSwept setup.now events.now calls.now found) }
     ensures good { IfOk result (λ found. AreAllGood found) }
-    ensures headline { IfOk result (λ found. SweptKeepHeadline setup.now events.now calls.now) }
+    ensures main_theorem { IfOk result
+        (λ found. SweptKeepMainTheorem setup.now events.now calls.now) }
     ensures down { IfOk result (λ found. AreDownInTime setup.now (reverse events.now)) }
 {
     if MOST < events.len() || MOST < calls.len() {
@@ -106,8 +107,8 @@ impl Sweeper {
         ensures found { OfSweep self.now
             (λ s calls before. IsFound s (cuts s calls before) result) }
         ensures good { OfSweep self.now (λ s calls before. AreAllGood result) }
-        ensures headline { OfSweep self.now
-            (λ s calls before. KeepHeadline s (cuts s calls before)) }
+        ensures main_theorem { OfSweep self.now
+            (λ s calls before. KeepMainTheorem s (cuts s calls before)) }
         ensures down { OfSweep self.now (λ s calls before. AreDownInTime s before) }
     {
         self.found

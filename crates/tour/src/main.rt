@@ -8,7 +8,7 @@ ghost use Rattle.plain_store.specs.{checked};
 ghost use Rattle.model.specs.declared.Event.{Event as Happening};
 ghost use Rattle.model.specs.declared.Stage.TheVariants.{Inside};
 ghost use Rattle.model.specs.{inside, past_of, process_of};
-ghost use Rattle.world.specs.{KeepsTheHeadline, stage_in};
+ghost use Rattle.world.specs.{KeepsTheMainTheorem, stage_in};
 ghost use Rattle.world.specs.Shows.{Shows};
 
 use anyhow::{Result, bail};
@@ -64,9 +64,10 @@ fn fail_and_look_up<T: Print>(rt: &T, world: &mut World, counter: Name) -> Resul
     go(rt, world, 0, false, Stage::Idle)
 }
 
-/// Makes an event, and prints its marks. The main theorem (the headline) holds of its entry.
+/// Makes an event, and prints its marks. The main theorem holds of its entry.
 fn make<T: Print>(rt: &T, world: &mut World, event: Event) -> Result<Act>
-    ensures headline { IfOk result (λ act. KeepsTheHeadline world.old (process_of event) act) }
+    ensures main_theorem { IfOk result
+        (λ act. KeepsTheMainTheorem world.old (process_of event) act) }
 {
     let Ok(act) = world.event(event) else {
         bail!("an event is refused");
@@ -86,7 +87,7 @@ fn go<T: Print>(rt: &T, world: &mut World, process: u8, flick: bool, stage: Stag
 {
     for _ in 0..u16::MAX {
         if matches!(world.stage(process), Some(now) if now == stage) {
-            world::history_laws::headline();
+            world::history_laws::main_theorem();
             return Ok(());
         }
         make(rt, world, Event::Step(process, flick))?;

@@ -18,7 +18,7 @@ use Rattle.world.proofs.CoreKeeps.{IsNext, next-goes, next-keeps}
 use Rattle.world.proofs.CoreOverlaps.{reports-overlapped}
 use Rattle.world.proofs.CoreRefused.{step-within}
 use Rattle.process.proofs.Left.{remaining-fewer, remaining-quiet, remaining-stays}
-use Rattle.world.proofs.WorldHeadline.{keeps_headline}
+use Rattle.world.proofs.WorldMainTheorem.{keeps_main_theorem}
 use Rattle.world.proofs.WorldReporting.{reported-same}
 use Rattle.world.proofs.QueueBegun.{begun-at}
 use Rattle.world.proofs.WorldOpen.{is-seated, seat-remaining, seat-shown}
@@ -69,7 +69,7 @@ quietly-by c new p flick access g taken = record {
   access = access;
   adds = g.adds taken;
   shows = g.makes.goes taken;
-  headline = keeps_headline (with_history c taken) (with_history new taken) (Step p flick) p _ (g.adds taken) (g.makes.goes taken) g.setup;
+  main_theorem = keeps_main_theorem (with_history c taken) (with_history new taken) (Step p flick) p _ (g.adds taken) (g.makes.goes taken) g.setup;
   setup = g.setup;
 }
 

@@ -22,7 +22,7 @@ pub mod CoreKeeps
 pub mod CoreLooks
 pub mod CoreLast
 pub mod CoreOverlaps
-pub mod WorldHeadline
+pub mod WorldMainTheorem
 pub mod CoreRefused
 pub mod CoreNext
 pub mod CoreWalks

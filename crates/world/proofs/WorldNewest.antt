@@ -11,7 +11,7 @@ use Rattle.laws.specs.{call, is_inside}
 use Rattle.laws.proofs.FrameInside.{inside-is}
 use Rattle.history_laws.proofs.Codec.{bytes_read, store_is_read}
 use Rattle.history_laws.proofs.DataAlways.{data_of}
-use Rattle.history_laws.proofs.DataHeadline as headline
+use Rattle.history_laws.proofs.DataMainTheorem as main_theorem
 use Rattle.history_laws.proofs.Sound.{IsStoreOf}
 use Rattle.process.specs.{newest_store}
 use Rattle.process.proofs.NewestWith.{newest-with}
@@ -40,7 +40,7 @@ newest-store s good events given none =
     let store : Contents = store_after s (history s past) in
     let sound : IsStoreOf s store = (data_of s good events given).kept.sound in
     newest-with s good past
-    ∙ ap (store_in s.slots (callers_of s)) (headline.newest s good events given none ∙ sym (bytes_read s store sound)) ∙ store_is_read (call s 0 Ask 0) store sound
+    ∙ ap (store_in s.slots (callers_of s)) (main_theorem.newest s good events given none ∙ sym (bytes_read s store sound)) ∙ store_is_read (call s 0 Ask 0) store sound
 
 -- there is no newest store while a process is inside
 pub newest-none : (c : CoreState) → list_any (λ (seat : Seat). is_inside seat.process.doing) c.seats ≡ true → InEachCorePast c (λ s past. None ≡ newest s past)

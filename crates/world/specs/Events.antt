@@ -1,6 +1,6 @@
 -- The effect of an accepted event on a world, in every record that the world shows.
 use Rattle.std.specs.Prelude.{◌≡◌, ◌⊎◌, ℕ, ◌+◌, ◌≤◌, Bool, true, cond, nat_lt, List, ◌∷◌, length, Option, None, Some}
-use Rattle.model.specs.{Access, Act, Entry, Event, KeepsHeadline, Past, Refusal, Stage, entry_of, is_call, past_of, process_of, refused, stage}
+use Rattle.model.specs.{Access, Act, Entry, Event, KeepsMainTheorem, Past, Refusal, Stage, entry_of, is_call, past_of, process_of, refused, stage}
 use Rattle.model.specs.declared.events.Event.TheVariants.{Step}
 use Rattle.model.specs.declared.refusals.Refusal.TheVariants.{Memory}
 use Rattle.process.specs.{EventOutcome, StepOutcome, act_of}
@@ -30,8 +30,8 @@ abbrev pub Adds : WorldState → Event → ℕ → Act → Type 0
 Adds w event p act = (events : List Event) → Shows w events → entry_of w.setup (past_of w.setup events) event ≡ Some (entry_with p act)
 
 -- the entry with this act keeps the main theorem, after each record that the world shows
-abbrev pub KeepsTheHeadline : WorldState → ℕ → Act → Type 0
-KeepsTheHeadline w p act = (events : List Event) → Shows w events → KeepsHeadline w.setup (past_of w.setup events) (entry_with p act)
+abbrev pub KeepsTheMainTheorem : WorldState → ℕ → Act → Type 0
+KeepsTheMainTheorem w p act = (events : List Event) → Shows w events → KeepsMainTheorem w.setup (past_of w.setup events) (entry_with p act)
 
 -- the act of an event with this access and this effect; a command that it takes is the next of the history
 abbrev pub act_next : WorldState → Option Access → EventOutcome → Act
@@ -41,15 +41,15 @@ act_next w access effect = act_of (length w.history) (record { access = access; 
 abbrev pub AddsEvent : WorldState → Event → EventOutcome → Option Access → Type 0
 AddsEvent w event effect access = Adds w event (process_of event) (act_next w access effect)
 
-abbrev pub EventKeepsHeadline : WorldState → Event → EventOutcome → Option Access → Type 0
-EventKeepsHeadline w event effect access = KeepsTheHeadline w (process_of event) (act_next w access effect)
+abbrev pub EventKeepsMainTheorem : WorldState → Event → EventOutcome → Option Access → Type 0
+EventKeepsMainTheorem w event effect access = KeepsTheMainTheorem w (process_of event) (act_next w access effect)
 
 -- a step adds the entry with this access and this outcome; below, this entry keeps the main theorem
 abbrev pub AddsStep : WorldState → ℕ → Bool → StepOutcome → Access → Type 0
 AddsStep w p flick reported access = AddsEvent w (Step p flick) (Steps reported) (Some access)
 
-abbrev pub StepKeepsHeadline : WorldState → ℕ → StepOutcome → Access → Type 0
-StepKeepsHeadline w p reported access = KeepsTheHeadline w p (act_next w (Some access) (Steps reported))
+abbrev pub StepKeepsMainTheorem : WorldState → ℕ → StepOutcome → Access → Type 0
+StepKeepsMainTheorem w p reported access = KeepsTheMainTheorem w p (act_next w (Some access) (Steps reported))
 
 -- the world then shows the event too
 abbrev pub GoesOn : WorldState → Event → WorldState → Type 0

@@ -4,7 +4,7 @@ use Rattle.model.specs.safe_bit.{Move, is_overlapped}
 use Rattle.model.specs.safe_bit.declared.Move.TheVariants.{EndRead}
 use Rattle.model.specs.{Access, Entry, Past, moves_of}
 use Rattle.model.specs.declared.events.Event.TheVariants.{Step}
-use Rattle.world.specs.Events.{Adds, GoesOn, InEachPast, KeepsTheHeadline}
+use Rattle.world.specs.Events.{Adds, GoesOn, InEachPast, KeepsTheMainTheorem}
 use Rattle.choices.specs.{FlickState, after_flick, flick_of}
 use Rattle.world.specs.Seats.{Seat}
 use Rattle.world.specs.Shows.{WorldState}
@@ -32,7 +32,7 @@ pub record StepsQuietly (old : WorldState) (p : ℕ) (flick : Bool) (new : World
   pub access : Access
   pub adds : AddsQuietly old p flick access
   pub shows : GoesOn old (Step p flick) new
-  pub headline : KeepsTheHeadline old p (record { access = Some access; marks = [] })
+  pub main_theorem : KeepsTheMainTheorem old p (record { access = Some access; marks = [] })
   pub setup : new.setup ≡ old.setup
 
 -- the number of the next steps of p that are within a register access of its call; 0 if p does not exist

@@ -7,7 +7,7 @@ ghost use Rattle.model.specs.declared.Event.TheVariants.{Call, Step};
 ghost use Rattle.model.specs.declared.Refusal.TheVariants.{Memory};
 ghost use Rattle.model.specs.{ahead, history, is_call, newest, process_of, refused};
 ghost use Rattle.world.specs.Cores.{CoreTurnsAway, HasRoomToTake, MakesRoomForCall, history_with, with_history};
-ghost use Rattle.world.specs.Events.{Adds, AddsEvent, AddsStep, EventKeepsHeadline, GoesOn, InEachPast, IsRefused, IsTurnedAway, KeepsTheHeadline, StepKeepsHeadline, UnlessRefused, stage_in};
+ghost use Rattle.world.specs.Events.{Adds, AddsEvent, AddsStep, EventKeepsMainTheorem, GoesOn, InEachPast, IsRefused, IsTurnedAway, KeepsTheMainTheorem, StepKeepsMainTheorem, UnlessRefused, stage_in};
 ghost use Rattle.world.specs.Shows.{Shows};
 ghost use Rattle.process.specs.declared.outcomes.EventOutcome.TheVariants.{Steps};
 ghost use Rattle.world.specs.Walks.{KeepOthers, ReportsOverlapped, Walks, remaining_in};
@@ -83,7 +83,8 @@ impl World {
         ensures unchanged { OnErr result (self.new ≡ self.old) }
         ensures setup { OnOk result (self.new.setup ≡ self.old.setup) }
         ensures through { UnlessRefused self.old event (is_call event ≡ false → IsOk result) }
-        ensures headline { IfOk result (λ act. KeepsTheHeadline self.old (process_of event) act) }
+        ensures main_theorem { IfOk result
+            (λ act. KeepsTheMainTheorem self.old (process_of event) act) }
     {
         let place = self.history.len() as u64;
         let mut effect = EventOutcome::Steps(StepOutcome::Nothing);
@@ -110,7 +111,7 @@ impl World {
         ensures unchanged { OnErr result (self.new ≡ self.old) }
         ensures unreported { OnErr result (effect.new ≡ effect.old) }
         ensures setup { OnOk result (self.new.setup ≡ self.old.setup) }
-        ensures headline { IfOk result (EventKeepsHeadline self.old event.now effect.new) }
+        ensures main_theorem { IfOk result (EventKeepsMainTheorem self.old event.now effect.new) }
     {
         if let Err(refusal) = reserve(&mut self.history, &self.core, event) {
             return Err(refusal);
@@ -155,8 +156,8 @@ impl World {
         ensures unreported { OnErr result (reported.new ≡ reported.old) }
         ensures setup { OnOk result (self.new.setup ≡ self.old.setup) }
         ensures through { UnlessRefused self.old (Step process flick) (IsOk result) }
-        ensures headline { IfOk result
-            (λ made. StepKeepsHeadline self.old process reported.new made.access) }
+        ensures main_theorem { IfOk result
+            (λ made. StepKeepsMainTheorem self.old process reported.new made.access) }
         ensures others { KeepOthers self.old.seats process self.new.seats }
     {
         match self.core.step(process, flick, reported) {

@@ -22,5 +22,5 @@ returns c =
     record {
       verdict = c.judged.ensures.verdict c.args.setup.now c.args.entries.now all;
       entries = c.judged.ensures.entries c.args.setup.now c.args.entries.now all;
-      headline = c.judged.ensures.headline c.args.setup.now c.args.entries.now all;
+      main_theorem = c.judged.ensures.main_theorem c.args.setup.now c.args.entries.now all;
     }

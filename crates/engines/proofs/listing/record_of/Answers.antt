@@ -1,8 +1,8 @@
 use Rattle.std.proofs.Common.{◌≡◌, ◌∷◌, ◌+◌, ℕ, List, reverse, take, ap, sym, subst, ◌∙◌, arith}
 use Rattle.std.proofs.lemmas.List.{reverse-reverse}
 use Rattle.plain_store.specs.{Setup}
-use Rattle.scenario_run.specs.model.{Event, KeepsHeadlineThroughout, past_of}
-use Rattle.scenario_run.proofs.history_laws.Headlines.{throughout}
+use Rattle.scenario_run.specs.model.{Event, KeepsMainTheoremThroughout, past_of}
+use Rattle.scenario_run.proofs.history_laws.MainTheorems.{throughout}
 use Rattle.scenario_run.specs.world.Shows.{Shows}
 use Rattle.engines.specs.{Records}
 use Rattle.engines.proofs.FitRecords.{given_again}
@@ -38,11 +38,11 @@ returns-clause-entries c =
     let now = c.loop-event.invariant in
     (all_recorded s events c.loop-event.event-index c.loop-event.world c.loop-event.entries.items (omega arith) now.shows now.setup now.entries).1
 
-pub returns-clause-headline : goal.returns-clause-headline
-returns-clause-headline c =
+pub returns-clause-main_theorem : goal.returns-clause-main_theorem
+returns-clause-main_theorem c =
     let s : Setup = c.args.setup.now in
     let events : List Event = c.args.events.now in
-    subst (KeepsHeadlineThroughout s) (sym (ap reverse (returns-clause-entries c) ∙ reverse-reverse (past_of s (reverse events)))) (throughout s c.requires (reverse events) (returns-clause-given c))
+    subst (KeepsMainTheoremThroughout s) (sym (ap reverse (returns-clause-entries c) ∙ reverse-reverse (past_of s (reverse events)))) (throughout s c.requires (reverse events) (returns-clause-given c))
 
 pub returns-clause-fit : goal.returns-clause-fit
 returns-clause-fit c = (given_again c.args.setup.now c.requires c.args.events.now (returns-clause-given c) (omega arith) c.loop-event.entries.items (returns-clause-entries c)).0

@@ -4,7 +4,7 @@ use Rattle.scenario.proofs.files.EngineEnds.{kept, ran_to_line}
 use Rattle.scenario.specs.{scenario_of, script}
 use Rattle.scenario.specs.files.declared.faults.Fault.TheVariants.{Line}
 use Rattle.scenario_run.specs.{ended, replayed}
-use Rattle.scenario_run.proofs.ReplayEnds.{ended_err, engine_ran, replay_headline, replay_numbers}
+use Rattle.scenario_run.proofs.ReplayEnds.{ended_err, engine_ran, replay_main_theorem, replay_numbers}
 use Rattle.engines.proofs.replaying.replay.Goals as goal
 
 pub returns-in_err-scenario-clause-ran : goal.returns-in_err-scenario-clause-ran
@@ -22,7 +22,7 @@ returns-clause-summary g c =
     replay_numbers c.replay_scenario.result c.in_ok-file.file.items (script c.in_ok-scenario.scenario) _ _
     c.in_ok-file.ensures.input (rw c.as_slice.ensures.value at c.in_ok-scenario.ensures.said) c.replay_scenario.ensures.summary
 
-pub returns-clause-headline : goal.returns-clause-headline
-returns-clause-headline g c =
-    replay_headline c.replay_scenario.result c.in_ok-file.file.items (script c.in_ok-scenario.scenario) _ _
-    c.in_ok-file.ensures.input (rw c.as_slice.ensures.value at c.in_ok-scenario.ensures.said) c.replay_scenario.ensures.headline
+pub returns-clause-main_theorem : goal.returns-clause-main_theorem
+returns-clause-main_theorem g c =
+    replay_main_theorem c.replay_scenario.result c.in_ok-file.file.items (script c.in_ok-scenario.scenario) _ _
+    c.in_ok-file.ensures.input (rw c.as_slice.ensures.value at c.in_ok-scenario.ensures.said) c.replay_scenario.ensures.main_theorem

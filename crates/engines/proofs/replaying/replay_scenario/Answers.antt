@@ -2,8 +2,8 @@ use Rattle.std.proofs.Common.{◌≡◌, ◌+◌, ◌∙◌, [], ap, arith, subs
 use Rattle.scenario.specs.files.{WritesFront}
 use Rattle.scenario.specs.{Script, script}
 use Rattle.std.specs.Io.KnownBytes.{Appends}
-use Rattle.scenario_run.specs.{IsWriteFault, RunKeepsHeadline, Summary, Writes, WritesPart, happenings, replayed, run_at_start, runs, summary_of, text_of}
-use Rattle.scenario_run.proofs.Onwards.{run_headline, run_numbers}
+use Rattle.scenario_run.specs.{IsWriteFault, RunKeepsMainTheorem, Summary, Writes, WritesPart, happenings, replayed, run_at_start, runs, summary_of, text_of}
+use Rattle.scenario_run.proofs.Onwards.{run_main_theorem, run_numbers}
 use Rattle.scenario_run.proofs.Played.{on_fault}
 use Rattle.scenario_run.proofs.Written.{failed_same, front_all}
 use Rattle.engines.proofs.Replayings.{counts_none, replay_cut, replay_end_cut, replay_written}
@@ -73,7 +73,7 @@ returns g c =
       written = ok;
       front = front_all _ _ _ ok;
       summary = subst (λ said. last ≡ summary_of said.setup (happenings said)) same numbers;
-      headline = subst RunKeepsHeadline same (run_headline said plays);
+      main_theorem = subst RunKeepsMainTheorem same (run_main_theorem said plays);
       fault = tt;
       failures = omega (arith, whole, c.in_ok-write_end.ensures.failures);
     }

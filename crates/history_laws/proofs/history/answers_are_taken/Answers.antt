@@ -1,5 +1,5 @@
 -- Answers state what was taken.
-use Rattle.history_laws.proofs.Headlines.{answered_take_no_more, answers_are_taken, stand}
+use Rattle.history_laws.proofs.MainTheorems.{answered_take_no_more, answers_are_taken, stand}
 use Rattle.history_laws.proofs.history.answers_are_taken.Goals as goal
 
 pub returns : goal.returns

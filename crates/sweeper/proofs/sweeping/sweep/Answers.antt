@@ -27,4 +27,4 @@ returns c =
     let before : List Event = reverse c.args.events.now in
     let swept = subst (λ (l : List Event). SweptBy s calls (reverse l) c.loop-event.sweeper) (take_all c.loop-event.event-index c.args.events.now (omega (arith, c.loop-event-test.false))) c.loop-event.invariant.swept in
     let found = c.found.ensures in
-    record { swept = found.found s calls before swept; good = found.good s calls before swept; headline = found.headline s calls before swept; down = found.down s calls before swept }
+    record { swept = found.found s calls before swept; good = found.good s calls before swept; main_theorem = found.main_theorem s calls before swept; down = found.down s calls before swept }

@@ -13,7 +13,7 @@ returns-in_default-clause-observed g c =
 pub returns-clause-observed : goal.returns-clause-observed
 returns-clause-observed g c =
     let s = c.step-stepped in
-    step_observed c.args.world.now s.new.self c.args.process c.args.flick s.new.reported s.result s.ensures.accepted s.ensures.shows s.ensures.setup g.L.RunObserver.Observes c.in-Some.made c.number_read.result c.args.observer.now c.step.new.self c.in-Some.ensures.step.0 c.in-Some.ensures.step.1 s.ensures.headline s.ensures.overlapped c.number_read.ensures
+    step_observed c.args.world.now s.new.self c.args.process c.args.flick s.new.reported s.result s.ensures.accepted s.ensures.shows s.ensures.setup g.L.RunObserver.Observes c.in-Some.made c.number_read.result c.args.observer.now c.step.new.self c.in-Some.ensures.step.0 c.in-Some.ensures.step.1 s.ensures.main_theorem s.ensures.overlapped c.number_read.ensures
     c.in_ok-step.ensures.observed
 
 pub returns-in_err-step-clause-cut : goal.returns-in_err-step-clause-cut
@@ -21,4 +21,4 @@ returns-in_err-step-clause-cut g c =
     let s = c.step-stepped in
     let fault = c.in_err-step.field-0.0 in
     on_fault c.from_residual.result fault (λ fault. ObservesStep (StopsBy g.L.RunObserver.Stops fault) c.args.world.now c.args.process c.args.flick s.new.self c.args.observer.now c.step.new.self) c.from_residual.ensures.1
-    (step_observed c.args.world.now s.new.self c.args.process c.args.flick s.new.reported s.result s.ensures.accepted s.ensures.shows s.ensures.setup (StopsBy g.L.RunObserver.Stops fault) c.in-Some.made c.number_read.result c.args.observer.now c.step.new.self c.in-Some.ensures.step.0 c.in-Some.ensures.step.1 s.ensures.headline s.ensures.overlapped c.number_read.ensures c.in_err-step.ensures.cut)
+    (step_observed c.args.world.now s.new.self c.args.process c.args.flick s.new.reported s.result s.ensures.accepted s.ensures.shows s.ensures.setup (StopsBy g.L.RunObserver.Stops fault) c.in-Some.made c.number_read.result c.args.observer.now c.step.new.self c.in-Some.ensures.step.0 c.in-Some.ensures.step.1 s.ensures.main_theorem s.ensures.overlapped c.number_read.ensures c.in_err-step.ensures.cut)

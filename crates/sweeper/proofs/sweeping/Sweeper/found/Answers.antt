@@ -9,6 +9,6 @@ pub returns : goal.returns
 returns c = record {
   found = λ s calls before swept. is_found s (cuts s calls before) c.args.self.now.found swept.counts;
   good = λ s calls before swept. (swept.counts.all ∙ sym swept.counts.runs, swept.counts.none_bad);
-  headline = λ s calls before swept. swept.counts.headline;
+  main_theorem = λ s calls before swept. swept.counts.main_theorem;
   down = λ s calls before swept. all_down s (subst (λ (s : Setup). checked s ≡ Ok tt) swept.walker_setup swept.follows.shows.good) before;
 }

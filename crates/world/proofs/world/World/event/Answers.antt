@@ -2,7 +2,7 @@ use Rattle.std.proofs.Common.{rules, ◌≡◌, ◌∙◌, IfOk, ap, length, sub
 use Rattle.process.specs.{act_of}
 use Rattle.model.specs.{process_of}
 use Rattle.std.specs.Prelude.{IfErr, OnErr, OnOk}
-use Rattle.world.specs.{Adds, GoesOn, IsTurnedAway, KeepsTheHeadline, WorldState}
+use Rattle.world.specs.{Adds, GoesOn, IsTurnedAway, KeepsTheMainTheorem, WorldState}
 use Rattle.world.proofs.world.World.event.Goals.{in-Ok, in-Err}
 use Rattle.world.proofs.world.World.event.Goals as goal
 
@@ -18,16 +18,16 @@ returns-clause-accepted c =
       | in-Err w ↦ subst (λ r. IfOk r (λ act. Adds old c.args.event p act)) (sym w.result-is) tt
     ]
 
-pub returns-clause-headline : goal.returns-clause-headline
-returns-clause-headline c =
+pub returns-clause-main_theorem : goal.returns-clause-main_theorem
+returns-clause-main_theorem c =
     let old = c.args.self.now in
     let p = process_of c.args.event in
     let place : c.len-place.result ≡ length c.self.inside.history.items = search rules in
     elim c.match-make.branch [
       | in-Ok w ↦
           let is = w.act_made.ensures ∙ ap (λ k. act_of k (record { access = w.in-Ok.access; effect = c.make.new.effect })) (place ∙ ap (λ (v : WorldState). length v.history) c.self.view_is) in
-          subst (λ r. IfOk r (λ act. KeepsTheHeadline old p act)) (sym w.result-is) (subst (KeepsTheHeadline old p) (sym is) w.in-Ok.ensures.headline)
-      | in-Err w ↦ subst (λ r. IfOk r (λ act. KeepsTheHeadline old p act)) (sym w.result-is) tt
+          subst (λ r. IfOk r (λ act. KeepsTheMainTheorem old p act)) (sym w.result-is) (subst (KeepsTheMainTheorem old p) (sym is) w.in-Ok.ensures.main_theorem)
+      | in-Err w ↦ subst (λ r. IfOk r (λ act. KeepsTheMainTheorem old p act)) (sym w.result-is) tt
     ]
 
 pub returns-clause-shows : goal.returns-clause-shows

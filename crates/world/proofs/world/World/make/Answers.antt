@@ -2,9 +2,9 @@ use Rattle.std.proofs.Common.{◌∷◌, List, Some, ap, length, sym, subst, ◌
 use Rattle.std.specs.Vec.{vec_capacity}
 use Rattle.process.specs.{act_of, marks_of}
 use Rattle.model.specs.{Taken, process_of, reply_taken}
-use Rattle.world.specs.{Adds, CoreState, GoesOn, IsRefused, IsTurnedAway, KeepsTheHeadline, KeepsWorld, call_in, with_history, with_taken}
+use Rattle.world.specs.{Adds, CoreState, GoesOn, IsRefused, IsTurnedAway, KeepsTheMainTheorem, KeepsWorld, call_in, with_history, with_taken}
 use Rattle.world.specs.Shows.{Shows, WorldState}
-use Rattle.world.proofs.WorldHeadline.{keeps_headline}
+use Rattle.world.proofs.WorldMainTheorem.{keeps_main_theorem}
 use Rattle.world.proofs.WorldKeeps.{made_keeps, made_room, wider_keeps}
 use Rattle.world.proofs.world.World.make.Goals as goal
 
@@ -39,13 +39,13 @@ returns-in-Ok-clause-shows c =
 pub returns-in-Err-event-clause-refused : goal.returns-in-Err-event-clause-refused
 returns-in-Err-event-clause-refused c = inl (subst (λ (w : WorldState). IsRefused w c.args.event.now (Some c.in-Err-event.refusal)) c.self.view_is (c.in-Err-event.ensures.refused c.self.inside.history.items))
 
-pub returns-in-Ok-clause-headline : goal.returns-in-Ok-clause-headline
-returns-in-Ok-clause-headline c =
+pub returns-in-Ok-clause-main_theorem : goal.returns-in-Ok-clause-main_theorem
+returns-in-Ok-clause-main_theorem c =
     let i = c.self.inside in
     let p = process_of c.args.event.now in
     let last = call_in c.event.new.self.seats p in
-    subst (λ (w : WorldState). KeepsTheHeadline w p (act_of (length w.history) (record { access = c.in-Ok.access; effect = c.event.new.effect }))) c.self.view_is
-    (keeps_headline (with_history i.core i.history.items) (with_history c.event.new.self (with_taken i.history.items p last.0 last.1 (reply_taken (marks_of c.event.new.effect)))) c.args.event.now p _
+    subst (λ (w : WorldState). KeepsTheMainTheorem w p (act_of (length w.history) (record { access = c.in-Ok.access; effect = c.event.new.effect }))) c.self.view_is
+    (keeps_main_theorem (with_history i.core i.history.items) (with_history c.event.new.self (with_taken i.history.items p last.0 last.1 (reply_taken (marks_of c.event.new.effect)))) c.args.event.now p _
     (c.in-Ok.ensures.accepted i.history.items) (c.in-Ok.ensures.shows.goes i.history.items) c.in-Ok.ensures.setup)
 
 pub invariant_of-self : goal.invariant_of-self

@@ -4,9 +4,9 @@ use Rattle.model.specs.declared.events.Event.TheVariants.{Step}
 use Rattle.model.specs.{reply_taken}
 use Rattle.process.specs.declared.outcomes.EventOutcome.TheVariants.{Steps}
 use Rattle.process.specs.{act_of, marks_reported}
-use Rattle.world.specs.{Adds, CoreState, GoesOn, IsRefused, KeepOthers, KeepsTheHeadline, KeepsWorld, ReportsOverlapped, call_in, with_history, with_taken}
+use Rattle.world.specs.{Adds, CoreState, GoesOn, IsRefused, KeepOthers, KeepsTheMainTheorem, KeepsWorld, ReportsOverlapped, call_in, with_history, with_taken}
 use Rattle.world.specs.Shows.{Shows, WorldState}
-use Rattle.world.proofs.WorldHeadline.{keeps_headline}
+use Rattle.world.proofs.WorldMainTheorem.{keeps_main_theorem}
 use Rattle.world.proofs.WorldKeeps.{step_keeps}
 use Rattle.world.proofs.world.World.step.Goals as goal
 
@@ -37,12 +37,12 @@ returns-in-Err-clause-through c = λ events shows none.
     let both : Some c.in-Err.refusal ≡ None = sym (is events shows) ∙ none in
     absurd (cc)
 
-pub returns-in-Ok-clause-headline : goal.returns-in-Ok-clause-headline
-returns-in-Ok-clause-headline c =
+pub returns-in-Ok-clause-main_theorem : goal.returns-in-Ok-clause-main_theorem
+returns-in-Ok-clause-main_theorem c =
     let before = c.self.inside.history.items in
     let last = call_in c.step.new.self.seats c.args.process in
-    subst (λ (w : WorldState). KeepsTheHeadline w c.args.process (act_of (length w.history) (record { access = Some c.in-Ok.made.access; effect = Steps c.step.new.reported }))) c.self.view_is
-    (keeps_headline (with_history c.self.inside.core before) (with_history c.step.new.self (with_taken before c.args.process last.0 last.1 (reply_taken (marks_reported c.step.new.reported)))) (Step c.args.process c.args.flick) c.args.process _
+    subst (λ (w : WorldState). KeepsTheMainTheorem w c.args.process (act_of (length w.history) (record { access = Some c.in-Ok.made.access; effect = Steps c.step.new.reported }))) c.self.view_is
+    (keeps_main_theorem (with_history c.self.inside.core before) (with_history c.step.new.self (with_taken before c.args.process last.0 last.1 (reply_taken (marks_reported c.step.new.reported)))) (Step c.args.process c.args.flick) c.args.process _
     (c.in-Ok.ensures.accepted before) (c.in-Ok.ensures.shows.goes before) c.in-Ok.ensures.setup)
 
 pub returns-in-Ok-clause-others : goal.returns-in-Ok-clause-others

@@ -255,7 +255,7 @@ abbrev pub AskReportsOfCutCalls : Type 0
 AskReportsOfCutCalls = EachPastGiven ReportsOfCutCalls
 
 -- The main theorem, of one entry and the past that it is added to. The processes go inside one at a time, and not before a waiting process whose doorway ended before their own began. Their replies are those of one thread that takes the commands of one history. The data that they read is whole. The answers `TicketsFull`, `StampsFull` and the replies to `Ask` are true.
-pub record KeepsHeadline (s : Setup) (past : Past) (e : Entry) : Type 0 where
+pub record KeepsMainTheorem (s : Setup) (past : Past) (e : Entry) : Type 0 where
   pub alone : IsAlone (e ∷ past)  -- no two are inside together, a failed one among them until its unit lets go
   pub overtakes : OvertakesNobody past e  -- no process enters past one that waits and had finished its doorway before the other began its own
   pub place : TakesItsPlace s past e  -- a command that is taken has its position, and the sequential store's reply there
@@ -273,12 +273,12 @@ pub record KeepsHeadline (s : Setup) (past : Past) (e : Entry) : Type 0 where
   pub reports : ReportsOfCutCalls s (e ∷ past)  -- so `Ask` reports of a call that was cut whether it was taken as a change
 
 -- The main theorem: each entry of every record keeps it.
-abbrev pub Headline : Type 0
-Headline = EachEntryGiven KeepsHeadline
+abbrev pub MainTheorem : Type 0
+MainTheorem = EachEntryGiven KeepsMainTheorem
 
 -- The main theorem for one past: each of its entries keeps it.
-abbrev pub KeepsHeadlineThroughout : Setup → Past → Type 0
-KeepsHeadlineThroughout s past = (later earlier : Past) (e : Entry) → past ≡ later ++ e ∷ earlier → KeepsHeadline s earlier e
+abbrev pub KeepsMainTheoremThroughout : Setup → Past → Type 0
+KeepsMainTheoremThroughout s past = (later earlier : Past) (e : Entry) → past ≡ later ++ e ∷ earlier → KeepsMainTheorem s earlier e
 
-abbrev pub HeadlineThroughout : Type 0
-HeadlineThroughout = EachPastGiven KeepsHeadlineThroughout
+abbrev pub MainTheoremThroughout : Type 0
+MainTheoremThroughout = EachPastGiven KeepsMainTheoremThroughout

@@ -1,8 +1,8 @@
--- One history, and the headline, put together.
+-- One history, and the main theorem, put together.
 use Rattle.std.proofs.Common.{◌≡◌, List, [], ◌∷◌, ◌++◌, Option, None, Some, Ok, refl, ap, subst}
 use Rattle.plain_store.specs.{Setup, checked}
 use Rattle.model.specs.{AreGiven, Entry, Event, Past, entry_of, past_of}
-use Rattle.model.specs.Headline.{AnsweredCallsTakeNoMore, AnswersAreTaken, AnswersAreInHistory, AsksTheLatestChange, CallsTakeOnce, CallsTakeWhatTheyAnswer, CutCallsAreNotAnswered, Headline, IsAlone, KeepsHeadline, KeepsHeadlineThroughout, KeepsOrder, MutualExclusion, NoOvertaking, OneHistory, PlacesKeepOrder, TakenOnce, ReportsOfCutCalls}
+use Rattle.model.specs.MainTheorem.{AnsweredCallsTakeNoMore, AnswersAreTaken, AnswersAreInHistory, AsksTheLatestChange, CallsTakeOnce, CallsTakeWhatTheyAnswer, CutCallsAreNotAnswered, MainTheorem, IsAlone, KeepsMainTheorem, KeepsMainTheoremThroughout, KeepsOrder, MutualExclusion, NoOvertaking, OneHistory, PlacesKeepOrder, TakenOnce, ReportsOfCutCalls}
 use Rattle.model.proofs.Width.{is_good}
 use Rattle.laws.proofs.Always.{inv_of}
 use Rattle.laws.proofs.Theorems as lock
@@ -10,7 +10,7 @@ use Rattle.laws.proofs.DoorwayEnds.{full_names_the_lowest, waiters_read_none}
 use Rattle.history_laws.proofs.Answered.{answered_whole, answers_stand}
 use Rattle.history_laws.proofs.Asked.{ask_answers, ask_reports}
 use Rattle.history_laws.proofs.CallSpans.{before}
-use Rattle.history_laws.proofs.DataHeadline.{full, taken, unoverlapped}
+use Rattle.history_laws.proofs.DataMainTheorem.{full, taken, unoverlapped}
 use Rattle.history_laws.proofs.DataMore.{images_of_the_store}
 use Rattle.history_laws.proofs.Given.{given_before}
 use Rattle.history_laws.proofs.Order as history
@@ -54,8 +54,8 @@ history_is_one = record {
 with-entry : (s : Setup) (P : Past → Type 0) (events : List Event) (event : Event) (e : Entry) → entry_of s (past_of s events) event ≡ Some e → P (past_of s (event ∷ events)) → P (e ∷ past_of s events)
 with-entry s P events event e is = subst P (ap (λ o. elim o as (λ _. Past) [ None ↦ past_of s events | Some x ↦ x ∷ past_of s events ]) is)
 
-pub the_headline : Headline
-the_headline s h events event e given is = record {
+pub the_main_theorem : MainTheorem
+the_main_theorem s h events event e given is = record {
   alone = with-entry s IsAlone events event e is (alone s h (event ∷ events));
   overtakes = in_turn s h events event e is;
   place = taken s h events event e given is;
@@ -73,21 +73,21 @@ the_headline s h events event e given is = record {
   reports = with-entry s (ReportsOfCutCalls s) events event e is (ask_reports taken s h (event ∷ events) given);
 }
 
--- Each entry of a past keeps the headline: it was added by an event, to the past before it.
-pub throughout : (s : Setup) → checked s ≡ Ok tt → (events : List Event) → AreGiven s events → KeepsHeadlineThroughout s (past_of s events)
+-- Each entry of a past keeps the main theorem: it was added by an event, to the past before it.
+pub throughout : (s : Setup) → checked s ≡ Ok tt → (events : List Event) → AreGiven s events → KeepsMainTheoremThroughout s (past_of s events)
 throughout s h [] given [] earlier e split = cc
 throughout s h [] given (x ∷ later) earlier e split = cc
 throughout s h (event ∷ events) given later earlier e split =
     go (entry_of s (past_of s events) event) refl (throughout s h events (given_before s event events given)) later split
   where
     Keeps : Type 0
-    Keeps = KeepsHeadline s earlier e
+    Keeps = KeepsMainTheorem s earlier e
 
-    go : (o : Option Entry) → entry_of s (past_of s events) event ≡ o → KeepsHeadlineThroughout s (past_of s events) → (later : Past) →
+    go : (o : Option Entry) → entry_of s (past_of s events) event ≡ o → KeepsMainTheoremThroughout s (past_of s events) → (later : Past) →
         elim o as (λ _. Past) [ None ↦ past_of s events | Some f ↦ f ∷ past_of s events ] ≡ later ++ e ∷ earlier → Keeps
     go None is before later split = before later earlier e split
     go (Some f) is before [] split =
         let same : f ≡ e = cc in
         let rest : past_of s events ≡ earlier = cc in
-        subst (λ (p : Past). KeepsHeadline s p e) rest (subst (KeepsHeadline s (past_of s events)) same (the_headline s h events event f given is))
+        subst (λ (p : Past). KeepsMainTheorem s p e) rest (subst (KeepsMainTheorem s (past_of s events)) same (the_main_theorem s h events event f given is))
     go (Some f) is before (x ∷ later) split = let rest : past_of s events ≡ later ++ e ∷ earlier = cc in before later earlier e rest

@@ -2,7 +2,7 @@
 use Rattle.std.proofs.Common.{[], ◌∷◌, ◌++◌, reverse, subst}
 use Rattle.plain_store.specs.{Setup}
 use Rattle.model.specs.{Past}
-use Rattle.any_lock.specs.{GoodSaysTheHeadline, KeepsHeadlineThroughout}
+use Rattle.any_lock.specs.{GoodSaysTheMainTheorem, KeepsMainTheoremThroughout}
 use Rattle.any_lock.proofs.Alone.{AllKeep, all_alone, all_keep, overtakes_nobody, takes_its_place}
 use Rattle.any_lock.proofs.Cuts.{answers_no_cut_call}
 use Rattle.any_lock.proofs.Stands.{stands_in_history}
@@ -15,7 +15,7 @@ before : (s : Setup) (later rest : Past) → AllKeep s (later ++ rest) → AllKe
 before s [] rest all = all
 before s (x ∷ later) rest all = before s later rest all.1
 
-pub throughout : (s : Setup) (past : Past) → AllKeep s past → KeepsHeadlineThroughout s past
+pub throughout : (s : Setup) (past : Past) → AllKeep s past → KeepsMainTheoremThroughout s past
 throughout s past all later earlier e split =
     let kept : AllKeep s (e ∷ earlier) = before s later (e ∷ earlier) (subst (AllKeep s) split all) in
     record {
@@ -29,5 +29,5 @@ throughout s past all later earlier e split =
       order = places_keep_order s (e ∷ earlier) kept;
     }
 
-pub good_says : GoodSaysTheHeadline
+pub good_says : GoodSaysTheMainTheorem
 good_says s entries good = throughout s (reverse entries) (all_keep s (reverse entries) good)

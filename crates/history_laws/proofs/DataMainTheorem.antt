@@ -1,4 +1,4 @@
--- The headline's statements on data.
+-- The main theorem's statements on data.
 use Rattle.model.specs.{ImagesAreRead, NewestIsTheHistorys, StampsFullAfterAllChanges, TakenInHistory, VersionReadsAreUnoverlapped, VersionsAreWholeOutside, past_of}
 use Rattle.model.proofs.Width.{is_good}
 use Rattle.history_laws.proofs.DataAlways.{data_of}

@@ -19,7 +19,7 @@ abbrev pub AnswersWhatItTook : Past → Entry → Type 0
 AnswersWhatItTook past e = (a : Answer) → Contains e.marks (Answered a) → IsAnswerTo a (all_takings (its_call e.process (e ∷ past)))
 
 -- The main theorem, for one entry and the entries before it.
-pub record KeepsHeadline (s : Setup) (past : Past) (e : Entry) : Type 0 where
+pub record KeepsMainTheorem (s : Setup) (past : Past) (e : Entry) : Type 0 where
   pub alone : IsAlone (e ∷ past)  -- no two processes are inside together
   pub overtakes : OvertakesNobody past e  -- no process enters while another is ahead
   pub place : TakesItsPlace s past e  -- a command is taken at its position, with the sequential store's reply there
@@ -30,13 +30,13 @@ pub record KeepsHeadline (s : Setup) (past : Past) (e : Entry) : Type 0 where
   pub order : PlacesKeepOrder (e ∷ past)  -- positions keep the order of calls that do not overlap
 
 -- Each of these entries keeps the main theorem.
-abbrev pub KeepsHeadlineThroughout : Setup → Past → Type 0
-KeepsHeadlineThroughout s past = (later earlier : Past) (e : Entry) → past ≡ later ++ e ∷ earlier → KeepsHeadline s earlier e
+abbrev pub KeepsMainTheoremThroughout : Setup → Past → Type 0
+KeepsMainTheoremThroughout s past = (later earlier : Past) (e : Entry) → past ≡ later ++ e ∷ earlier → KeepsMainTheorem s earlier e
 
 -- If this verdict is good, each of these entries keeps the main theorem.
-abbrev pub SaysHeadline : Verdict AnyLockLaw → Setup → List Entry → Type 0
-SaysHeadline verdict s entries = verdict ≡ Good → KeepsHeadlineThroughout s (reverse entries)
+abbrev pub SaysMainTheorem : Verdict AnyLockLaw → Setup → List Entry → Type 0
+SaysMainTheorem verdict s entries = verdict ≡ Good → KeepsMainTheoremThroughout s (reverse entries)
 
--- A good verdict says the headline.
-abbrev pub GoodSaysTheHeadline : Type 0
-GoodSaysTheHeadline = (s : Setup) (entries : List Entry) → verdict_of s entries ≡ Good → KeepsHeadlineThroughout s (reverse entries)
+-- A good verdict says the main theorem.
+abbrev pub GoodSaysTheMainTheorem : Type 0
+GoodSaysTheMainTheorem = (s : Setup) (entries : List Entry) → verdict_of s entries ≡ Good → KeepsMainTheoremThroughout s (reverse entries)

@@ -1,5 +1,0 @@
-use Rattle.history_laws.proofs.Headlines.{throughout}
-use Rattle.board.proofs.laws_of_boards.boards_keep_the_headline.Goals as goal
-
-pub returns : goal.returns
-returns c = record { headline = λ s words views agree. (agree.0, agree.1, agree.2, throughout s agree.1.good agree.0 agree.1.given) }
