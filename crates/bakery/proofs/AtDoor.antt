@@ -1,6 +1,6 @@
 -- The parts of a call at the door, and the results of its accesses there.
 use Rattle.std.proofs.Common.{◌≡◌, ℕ, ◌+◌, ◌==◌, Bool, true, false, cond, List, [], ◌∷◌, ◌++◌, refl, sym, ap, subst}
-use Rattle.model.specs.{Call, Mark, Place, Stage, Wait, bits_with, enter, entered_if_none, first_full, greatest, is_fresh, is_last, is_queued, is_waiting_stage, lets_by, marks_of, max_of, new_run, others, place_after, processes, run_after, stage_at, waits_of}
+use Rattle.model.specs.{Call, Mark, Place, Stage, Wait, bits_with, enter, entered_if_none, first_full, greatest, is_fresh, is_last, is_at_door, is_waiting_stage, lets_by, marks_of, max_of, new_run, others, place_after, processes, run_after, stage_at, waits_of}
 use Rattle.model.specs.declared.marks.Mark.TheVariants as mark
 use Rattle.model.specs.declared.stages.Stage.TheVariants as stage
 use Rattle.plain_store.specs.{Command}
@@ -18,7 +18,7 @@ pub data AtDoor : Part → Type 0 where
   refuses : (full : ℕ) → AtDoor (Refuses full)
   waits : (t : ℕ) (w : Wait) (ws : List Wait) → AtDoor (Waits t w ws)
 
-pub at-door : (part : Part) (fresh : Bool) → is_queued (stage_of part fresh) ≡ true → AtDoor part
+pub at-door : (part : Part) (fresh : Bool) → is_at_door (stage_of part fresh) ≡ true → AtDoor part
 at-door Raises fresh queued = raises
 at-door (Asks j js ts) fresh queued = asks j js ts
 at-door (TakesTicket t) fresh queued = takes t
@@ -57,7 +57,7 @@ stage-runs command number at = by at.part
 
 -- the result of an access from a part to a stage, with these marks
 pub record IsSaid (before : Stage) (part : Part) (next : Stage) (made : List Mark) : Type 0 where
-  pub going : is_queued next ≡ goes_on (reported_at next (ticket_at part) (full_at part))
+  pub going : is_at_door next ≡ goes_on (reported_at next (ticket_at part) (full_at part))
   pub waiting : is_waiting_stage next ≡ reports_wait (reported_at next (ticket_at part) (full_at part))
   pub marks : made ≡ marks_reported before (reported_at next (ticket_at part) (full_at part))
 
@@ -120,7 +120,7 @@ unmarked part (waits t w ws) true = refl
 unmarked part at false = refl
 
 -- each access from a queued stage has its result
-pub said : (c : Call) (at : Place) (v : Bool) → is_queued (stage_at at) ≡ true → IsSaid (stage_at at) at.part (stage_at (place_after c at v)) (marks_of c at v)
+pub said : (c : Call) (at : Place) (v : Bool) → is_at_door (stage_at at) ≡ true → IsSaid (stage_at at) at.part (stage_at (place_after c at v)) (marks_of c at v)
 said c at v queued =
     let door = at-door at.part (is_fresh at.run) queued in
     subst (IsSaid (stage_at at) at.part (stage_at (place_after c at v))) (sym (ap (λ (first : List Mark). first ++ cond (is_last c at.part at.run) (last_marks c at.part (bits_with at.run v)) []) (unmarked at.part door (is_fresh at.run)))) (by door (is_last c at.part at.run))

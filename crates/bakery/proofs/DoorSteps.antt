@@ -1,7 +1,7 @@
 -- A step of a door, at a place of any call.
 use Rattle.std.proofs.Common.{◌≡◌, ℕ, Bool, true, Option, refl, sym, ap, subst, ◌∙◌}
 use Rattle.plain_store.specs.declared.Command.TheVariants.{Ask}
-use Rattle.model.specs.{Call, Place, Stage, is_fresh, is_queued, is_waiting_stage, marks_of, place_after, stage_at}
+use Rattle.model.specs.{Call, Place, Stage, is_fresh, is_at_door, is_waiting_stage, marks_of, place_after, stage_at}
 use Rattle.process.specs.laws.{Doing, Rests, Lies, Runs, Closes, call, runs}
 use Rattle.model.specs.Closings as closing
 use Rattle.process.specs.{ProcessState, full_at, full_of, marks_on, may_step, stage_doing, stepped, ticket_at, ticket_of}
@@ -11,7 +11,7 @@ use Rattle.bakery.proofs.AnyCall.{same-after, same-marked}
 use Rattle.bakery.proofs.AtDoor.{AtDoor, at-door, said, stage-runs}
 
 -- a process at its door goes
-going-by : (d : Doing) → is_queued (stage_doing d) ≡ true → may_step d ≡ true
+going-by : (d : Doing) → is_at_door (stage_doing d) ≡ true → may_step d ≡ true
 going-by Rests queued = absurd (cc)
 going-by Lies queued = absurd (cc)
 going-by (Runs command number at) queued = refl
@@ -23,7 +23,7 @@ record IsReported (d : ProcessState) (flick v : Bool) : Type 0 where
   pub waiting : is_waiting (stepped d flick v) ≡ reports_wait (progress_on d (stepped d flick v))
   pub marks : marks_reported (stage_doing d.doing) (progress_on d (stepped d flick v)) ≡ marks_on d flick v
 
-reported-by : (d : ProcessState) (does : Doing) (flick v : Bool) → is_queued (stage_doing does) ≡ true → IsReported (record d { doing = does }) flick v
+reported-by : (d : ProcessState) (does : Doing) (flick v : Bool) → is_at_door (stage_doing does) ≡ true → IsReported (record d { doing = does }) flick v
 reported-by d Rests flick v queued = absurd (cc)
 reported-by d Lies flick v queued = absurd (cc)
 reported-by d (Closes command number (closing.Withdraws w)) flick v queued = absurd (cc)
@@ -37,7 +37,7 @@ reported-by d (Runs command number at) flick v queued =
     let s = said c at v queued in
     let next = stage-runs command number (place_after c at v) in
     record {
-      going = subst (λ stage. is_queued stage ≡ goes_on (reported_at stage (ticket_at at.part) (full_at at.part))) (sym next) s.going;
+      going = subst (λ stage. is_at_door stage ≡ goes_on (reported_at stage (ticket_at at.part) (full_at at.part))) (sym next) s.going;
       waiting = subst (λ stage. is_waiting_stage stage ≡ reports_wait (reported_at stage (ticket_at at.part) (full_at at.part))) (sym next) s.waiting;
       marks = subst (λ stage. marks_reported (stage_at at) (reported_at stage (ticket_at at.part) (full_at at.part)) ≡ marks_of c at v) (sym next) (sym s.marks);
     }
@@ -70,7 +70,7 @@ reports {s} {ticket} {full} {progress} {place} {then} {given} {v} d flick same g
 -- ANY CALL
 
 queued-at : (c : Call) (at : Place) (d : ProcessState) → d ≡ door_at c at → is_going d ≡ true → AtDoor at.part
-queued-at c at d is queued = at-door at.part (is_fresh at.run) (sym (ap (λ (x : ProcessState). is_queued (stage_doing x.doing)) is) ∙ queued)
+queued-at c at d is queued = at-door at.part (is_fresh at.run) (sym (ap (λ (x : ProcessState). is_at_door (stage_doing x.doing)) is) ∙ queued)
 
 pub any-after : (c : Call) (at : Place) (d : ProcessState) (flick v : Bool) → d ≡ door_at c at → is_going d ≡ true → (let then : ProcessState = record d { doing = runs Ask 0 (place_after c at v) } in stepped d flick v ≡ then)
 any-after c at d flick v is queued =

@@ -2,7 +2,7 @@
 use Rattle.std.specs.Prelude.{◌≡◌, ◌<◌, ℕ, Bool, true, false, List, [], ◌∷◌, length, IfSome, Option, None, Some}
 use Rattle.plain_store.specs.declared.Answer.TheVariants as answer
 use Rattle.plain_store.specs.declared.Command.TheVariants.{Ask}
-use Rattle.model.specs.{Access, Call, Field, Mark, Place, Raises, Stage, TornBit, access_at, enter, is_queued, is_waiting_stage, marks_of, place_after, stage_at, torn_at}
+use Rattle.model.specs.{Access, Call, Field, Mark, Place, Raises, Stage, TornBit, access_at, enter, is_at_door, is_waiting_stage, marks_of, place_after, stage_at, torn_at}
 use Rattle.model.specs.declared.marks.Mark.TheVariants as mark
 use Rattle.model.specs.declared.stages.Stage.TheVariants as stage
 use Rattle.process.specs.laws.{Runs, reads_of, runs}
@@ -13,7 +13,7 @@ use Rattle.bakery.specs.Locks.{LockRows, CanAccess, answered, lock_of, locks_wit
 
 -- the process is in its doorway, or waits
 abbrev pub is_going : ProcessState → Bool
-is_going d = is_queued (stage_doing d.doing)
+is_going d = is_at_door (stage_doing d.doing)
 
 abbrev pub is_waiting : ProcessState → Bool
 is_waiting d = is_waiting_stage (stage_doing d.doing)

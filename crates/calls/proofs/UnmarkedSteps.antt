@@ -13,12 +13,12 @@ use Rattle.world.proofs.WorldWithin.{inside-number}
 use Rattle.world.specs.process.{remaining_at, process_after}
 
 -- an access that ends the read of a number
-ends_read : (n k : ℕ) (how : Move) → ends_number n k how ≡ true → (v : Bool) × (how ≡ EndRead v) × (k + 1 ≡ n)
-ends_read n k (EndRead v) is = (v, refl, eqb-true (k + 1) n is)
-ends_read n k (BeginWrite v) is = absurd (cc)
-ends_read n k EndWrite is = absurd (cc)
-ends_read n k BeginRead is = absurd (cc)
-ends_read n k (Settle v) is = absurd (cc)
+ends_number-is : (n k : ℕ) (how : Move) → ends_number n k how ≡ true → (v : Bool) × (how ≡ EndRead v) × (k + 1 ≡ n)
+ends_number-is n k (EndRead v) is = (v, refl, eqb-true (k + 1) n is)
+ends_number-is n k (BeginWrite v) is = absurd (cc)
+ends_number-is n k EndWrite is = absurd (cc)
+ends_number-is n k BeginRead is = absurd (cc)
+ends_number-is n k (Settle v) is = absurd (cc)
 
 pub not_so : (b : Bool) → (b ≡ true → ⊥) → b ≡ false
 not_so true never = absurd (never refl)
@@ -28,7 +28,7 @@ not_so false never = refl
 pub inside_never : (s : Setup) → checked s ≡ Ok tt → (events : List Event) (p : ℕ) (flick : Bool) (a : Access) → entry_of s (past_of s events) (Step p flick) ≡ Some (record { process = p; access = Some a; marks = [] }) →
     0 < remaining_at (process_after s (past_of s events) p) → ends_number (width s a.field) a.bit a.how ≡ true → ⊥
 inside_never s good events p flick a adds some ends =
-    let r = ends_read (width s a.field) a.bit a.how ends in
+    let r = ends_number-is (width s a.field) a.bit a.how ends in
     inside-number s (is_good s good) events p flick r.0 (record { process = p; access = Some a; marks = [] }) a adds refl some r.1 r.2
 
 -- its process exists

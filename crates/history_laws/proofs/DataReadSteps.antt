@@ -2,7 +2,7 @@
 use Rattle.std.proofs.Common.{◌≡◌, ℕ, ◌<◌, ◌&&◌, Bool, true, false, List, ◌∷◌, length, None, Some, refl, ap, ◌∙◌, eq-eqb}
 use Rattle.std.proofs.lemmas.Bool.{false≢true}
 use Rattle.plain_store.specs.{Command, Setup}
-use Rattle.model.specs.{AsksCommit, AsksImage, AsksStamp, Call, Entry, Part, Past, Reading, access_at, before_image_read, ends_read, image_field, is_image, newest_process, place_after, read_at, valued, version_of, width}
+use Rattle.model.specs.{AsksCommit, AsksImage, AsksStamp, Call, Entry, Part, Past, Reading, access_at, before_image_read, is_end_of_read, image_field, is_image, newest_process, place_after, read_at, valued, version_of, width}
 use Rattle.laws.specs.{call}
 use Rattle.laws.proofs.Invariant.{Touches, Wires}
 use Rattle.laws.proofs.Reading.{ReadAccess}
@@ -25,7 +25,7 @@ pub looks_back : (s : Setup) (past : Past) (p : ℕ) (e : Entry) (command : Comm
     e.process ≡ p → e.access ≡ Some (valued s past flick (access_at c part (Reading read true))) → is_image (read_at c part).1 ≡ true → before_image_read p (e ∷ past) ≡ past
 looks_back s past p e command number part read flick mine access image =
     ap (λ b. elim b as (λ _. Past) [ true ↦ past | false ↦ before_image_read p past ])
-    ((λ i. eq-eqb e.process p mine i && elim (access i) as (λ _. Bool) [ None ↦ false | Some a ↦ is_image a.field && ends_read a.how ]) ∙ ap (λ b. b && true) image)
+    ((λ i. eq-eqb e.process p mine i && elim (access i) as (λ _. Bool) [ None ↦ false | Some a ↦ is_image a.field && is_end_of_read a.how ]) ∙ ap (λ b. b && true) image)
 
 -- An access of a read keeps the knowledge of p: the read continues, or p has the knowledge for the next part.
 pub data_reads : (s : Setup) (past past' : Past) (p : ℕ) (busy : ℕ → Bool) (command : Command) (number : ℕ) (m : Wires) (part : Part) (read : List Bool) (begun value : Bool) (touched : ℕ → ℕ → Touches) →

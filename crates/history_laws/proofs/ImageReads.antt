@@ -1,7 +1,7 @@
 -- A process that has read the newest image has read the image of the store after the history.
 use Rattle.std.proofs.Common.{◌≡◌, ℕ, ◌+◌, ◌<◌, ◌==◌, Bool, true, false, cond, List, [], ◌∷◌, ◌++◌, length, Some, refl, sym, ap, subst, ◌∙◌, eq-eqb}
 use Rattle.std.proofs.lemmas.Bool.{false≢true}
-use Rattle.model.specs.{Access, AsksCommit, AsksImage, AsksStamp, Call, Entry, Event, Field, Numbers, Part, Past, ReadSoFar, Reading, Version, Waits, access_at, bytes_of_bits, ends_read, entry_of, image_bytes, image_field, is_called, is_image, is_version, last_read, newest_process, own, past_of, read_at, read_so_far, since, stamp_field, value_of, valued, version_of, width, with_access}
+use Rattle.model.specs.{Access, AsksCommit, AsksImage, AsksStamp, Call, Entry, Event, Field, Numbers, Part, Past, ReadSoFar, Reading, Version, Waits, access_at, bytes_of_bits, is_end_of_read, entry_of, image_bytes, image_field, is_called, is_image, is_version, last_read, newest_process, own, past_of, read_at, read_so_far, since, stamp_field, value_of, valued, version_of, width, with_access}
 use Rattle.model.specs.declared.access.Field.TheVariants.{Image0, Image1}
 use Rattle.plain_store.specs.{Command, Contents, Setup, callers_of}
 use Rattle.model.specs.store_image.{IsImageOf}
@@ -72,7 +72,7 @@ pub record EndsImage (s : Setup) (past : Past) (p : ℕ) (e : Entry) (a : Access
   pub ends : EndsAt s past p e a command number bits (AsksImage vs)
 
 pub ends_image : (s : Setup) → IsGood s → (events : List Event) (event : Event) (e : Entry) → entry_of s (past_of s events) event ≡ Some e →
-    (a : Access) → e.access ≡ Some a → is_image a.field ≡ true → ends_read a.how ≡ true → EndsImage s (past_of s events) e.process e a
+    (a : Access) → e.access ≡ Some a → is_image a.field ≡ true → is_end_of_read a.how ≡ true → EndsImage s (past_of s events) e.process e a
 ends_image s g events event e is a access image ends =
     record { command = x.command; number = x.number; vs = at.0; bits = x.bits; ends = subst (EndsAt s past p e a x.command x.number x.bits) at.1 (x.step, x.is) }
   where
@@ -104,7 +104,7 @@ last_pushed (m ∷ k ∷ ns) n = last_pushed (k ∷ ns) n
 
 -- The number that a process has read with the last end of a read of an image is the image of the store after the history.
 pub last_image_read : (s : Setup) → IsGood s → (events : List Event) (event : Event) (e : Entry) → entry_of s (past_of s events) event ≡ Some e → Data s (past_of s events) →
-    (a : Access) → e.access ≡ Some a → is_image a.field ≡ true → ends_read a.how ≡ true → a.bit + 1 ≡ width s a.field →
+    (a : Access) → e.access ≡ Some a → is_image a.field ≡ true → is_end_of_read a.how ≡ true → a.bit + 1 ≡ width s a.field →
     last_read (read_so_far s (since is_called (own e.process (e ∷ past_of s events)))).finished ≡ image_bits s (store_of s (past_of s events))
 last_image_read s g events event e is known a access image ends last =
     ap (λ (r : ReadSoFar). last_read r.finished) more
@@ -155,7 +155,7 @@ last_image_read s g events event e is known a access image ends last =
 
 -- The bytes that a process reads as an image are an image.
 pub images_are_read : (s : Setup) → IsGood s → (events : List Event) (event : Event) (e : Entry) → entry_of s (past_of s events) event ≡ Some e → Data s (past_of s events) →
-    (a : Access) → e.access ≡ Some a → is_image a.field ≡ true → ends_read a.how ≡ true → a.bit + 1 ≡ width s a.field →
+    (a : Access) → e.access ≡ Some a → is_image a.field ≡ true → is_end_of_read a.how ≡ true → a.bit + 1 ≡ width s a.field →
     (store : Contents) × IsImageOf (callers_of s) (bytes_of_bits (image_bytes s) (last_read (read_so_far s (since is_called (own e.process (e ∷ past_of s events)))).finished)) store
 images_are_read s g events event e is known a access image ends last =
     let store : Contents = store_of s (past_of s events) in (

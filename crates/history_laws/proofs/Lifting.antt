@@ -2,7 +2,7 @@
 use Rattle.std.proofs.Common.{◌≡◌, ◌≢◌, ◌⊎◌, ℕ, ◌+◌, ◌<◌, ◌==◌, ◌&&◌, Bool, true, false, not, [], ◌∷◌, Option, Some, None, refl, sym, ap, subst, ◌∙◌, true≢false, inl, inr}
 use Rattle.std.proofs.lemmas.Bool.{cases_eq, ne_eqb}
 use Rattle.model.specs.reader_copies.Runs as copies
-use Rattle.model.specs.{AsksCommit, AsksImage, AsksStamp, Call, Clears, Closing, Entry, Field, Part, Past, Run, Settles, WritesCommit, WritesImage, WritesStamp, before_image_read, count_changes, ends_read, history, image_field, is_fresh, is_image, is_version, max_of, new_image, stamp_field, store_after}
+use Rattle.model.specs.{AsksCommit, AsksImage, AsksStamp, Call, Clears, Closing, Entry, Field, Part, Past, Run, Settles, WritesCommit, WritesImage, WritesStamp, before_image_read, count_changes, is_end_of_read, history, image_field, is_fresh, is_image, is_version, max_of, new_image, stamp_field, store_after}
 use Rattle.model.specs.declared.access.Field.TheVariants.{Choosing, Ticket, Commit, Stamp0, Stamp1, Image0, Image1}
 use Rattle.plain_store.specs.{Answer, Contents, Reply, Setup, changes, opening_store}
 use Rattle.plain_store.specs.declared.Answer.TheVariants as answer
@@ -144,10 +144,10 @@ abbrev pub Knows : Setup → Past → ℕ → Doing → Type 0
 Knows s past q d = KnowsData s past q (versions s past) (store_of s past) (wires s past q) (λ o. touches s past o q) d
 
 -- an entry that ends no read of q does not change its last read of an image
-pub read-kept : (q : ℕ) (e : Entry) (past : Past) (b : Bool) → (e.process == q) ≡ b → (b && elim e.access [ None ↦ false | Some a ↦ is_image a.field && ends_read a.how ]) ≡ false →
+pub read-kept : (q : ℕ) (e : Entry) (past : Past) (b : Bool) → (e.process == q) ≡ b → (b && elim e.access [ None ↦ false | Some a ↦ is_image a.field && is_end_of_read a.how ]) ≡ false →
     before_image_read q (e ∷ past) ≡ before_image_read q past
 read-kept q e past b is none =
-    ap (λ x. elim x as (λ _. Past) [ true ↦ past | false ↦ before_image_read q past ]) (ap (λ x. x && elim e.access [ None ↦ false | Some a ↦ is_image a.field && ends_read a.how ]) is ∙ none)
+    ap (λ x. elim x as (λ _. Past) [ true ↦ past | false ↦ before_image_read q past ]) (ap (λ x. x && elim e.access [ None ↦ false | Some a ↦ is_image a.field && is_end_of_read a.how ]) is ∙ none)
 
 pub read-others : (q : ℕ) (e : Entry) (past : Past) → e.process ≢ q → before_image_read q (e ∷ past) ≡ before_image_read q past
 read-others q e past h = read-kept q e past false (ne_eqb e.process q h) refl

@@ -2,7 +2,7 @@
 use Rattle.std.proofs.Common.{◌≡◌, ◌≢◌, ℕ, ◌==◌, ◌&&◌, Bool, true, false, cond, List, [], ◌∷◌, ◌++◌, length, map, Option, Some, None, refl, sym, ap, subst, ◌∙◌, true≢false}
 use Rattle.std.proofs.lemmas.Bool.{false≢true}
 use Rattle.model.specs.reader_copies.Runs as copies
-use Rattle.model.specs.{Access, AsksCommit, AsksImage, AsksStamp, Call, Clears, Entry, Event, Field, Mark, Next, Part, Past, Reading, Run, Wait, Waits, WritesCommit, WritesImage, WritesStamp, Writing, access_at, before_image_read, bits_with, ends_read, entered_if_none, entry_of, first_marks, history, is_commit, is_fresh, is_image, is_last, is_version, last_marks, lets_by, marks_of, past_of, placed, reply_taken, store_after, value_of, valued, waits_of}
+use Rattle.model.specs.{Access, AsksCommit, AsksImage, AsksStamp, Call, Clears, Entry, Event, Field, Mark, Next, Part, Past, Reading, Run, Wait, Waits, WritesCommit, WritesImage, WritesStamp, Writing, access_at, before_image_read, bits_with, is_end_of_read, entered_if_none, entry_of, first_marks, history, is_commit, is_fresh, is_image, is_last, is_version, last_marks, lets_by, marks_of, past_of, placed, reply_taken, store_after, value_of, valued, waits_of}
 use Rattle.model.specs.declared.access.Field.TheVariants.{Choosing, Ticket, Commit}
 use Rattle.plain_store.specs.declared.Answer.TheVariants as answer
 use Rattle.plain_store.specs.{Reply, Setup}
@@ -205,11 +205,11 @@ pub apart-read : (p : ℕ) (e : Entry) (past : Past) → IsApart e → before_im
 apart-read p e past apart = read-kept p e past (e.process == p) refl (go e.access refl)
   where
     ends : Option Access → Bool
-    ends x = elim x [ None ↦ false | Some a ↦ is_image a.field && ends_read a.how ]
+    ends x = elim x [ None ↦ false | Some a ↦ is_image a.field && is_end_of_read a.how ]
 
     go : (x : Option Access) → e.access ≡ x → ((e.process == p) && ends x) ≡ false
     go None h = and_false (e.process == p)
-    go (Some a) h = ap (λ b. (e.process == p) && (b && ends_read a.how)) (image-version a.field (apart a h)) ∙ and_false (e.process == p)
+    go (Some a) h = ap (λ b. (e.process == p) && (b && is_end_of_read a.how)) (image-version a.field (apart a h)) ∙ and_false (e.process == p)
 
 -- The process leaves the versions as they are.
 pub untouched : (s : Setup) (past : Past) (e : Entry) → reply_taken e.marks ≡ None → IsApart e → Untouched s past e

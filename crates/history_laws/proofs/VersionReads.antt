@@ -7,7 +7,7 @@ use Rattle.std.proofs.lemmas.List.FromFn.{get_or-range_with_len, length-range_wi
 use Rattle.model.specs.safe_bit.{Move, is_overlapped, read_value}
 use Rattle.model.specs.safe_bit.declared.Move.TheVariants.{BeginWrite, EndRead, EndWrite}
 use Rattle.model.proofs.safe_bit.Showing.{shows_moves}
-use Rattle.model.specs.{Access, Call, Closing, Entry, Event, Field, Part, Past, Place, Reading, Run, Withdraws, Writing, access_at, bit_written, cell_after, closing_after, copy, ended, ends_read, enter, entry_of, history, inside, is_last, is_over, is_read, is_somebody_inside, is_version, marks_of, moves_of, new_run, opening_bit, part_after, past-induction, past_of, place_after, placed, processes, read_at, run_after, value_of, valued, width, written_at}
+use Rattle.model.specs.{Access, Call, Closing, Entry, Event, Field, Part, Past, Place, Reading, Run, Withdraws, Writing, access_at, bit_written, cell_after, closing_after, copy, ended, is_end_of_read, enter, entry_of, history, inside, is_last, is_over, is_read, is_somebody_inside, is_version, marks_of, moves_of, new_run, opening_bit, part_after, past-induction, past_of, place_after, placed, processes, read_at, run_after, value_of, valued, width, written_at}
 use Rattle.model.specs.safe_number.{new_write}
 use Rattle.plain_store.specs.{Command, Setup}
 use Rattle.model.proofs.Opens.{opened}
@@ -212,7 +212,7 @@ untouched s g events p = past-induction AllUntouched s (λ g p. tt) more events 
 -- The statements.
 
 -- a move that ends a read is not a write
-not_write : (m : Move) → ends_read m ≡ true → is_write m ≡ false
+not_write : (m : Move) → is_end_of_read m ≡ true → is_write m ≡ false
 not_write (EndRead v) h = refl
 not_write _ h = absurd (false≢true h)
 
@@ -225,7 +225,7 @@ pub record EndsRead (s : Setup) (past : Past) (p : ℕ) (e : Entry) (a : Access)
   pub step : Stepping s past p e command number (record { part = part; run = Reading bits true })
   pub is : a ≡ valued s past step.flick (access_at (call s p command number) part (Reading bits true))
 
-pub ends_by : (s : Setup) (past : Past) (p : ℕ) (e : Entry) (d' : Doing) (a : Access) → Happens s past p e (doing s p past) d' → e.access ≡ Some a → ends_read a.how ≡ true → EndsRead s past p e a
+pub ends_by : (s : Setup) (past : Past) (p : ℕ) (e : Entry) (d' : Doing) (a : Access) → Happens s past p e (doing s p past) d' → e.access ≡ Some a → is_end_of_read a.how ≡ true → EndsRead s past p e a
 ends_by s past p e d' a (a_call command number was none m then) access ends = let f : None ≡ Some a = sym none ∙ access in cc
 ends_by s past p e d' a (a_withdrawal command number t w ws run was none m then) access ends = let f : None ≡ Some a = sym none ∙ access in cc
 ends_by s past p e d' a (a_failure command number may none m then) access ends = let f : None ≡ Some a = sym none ∙ access in cc
@@ -252,7 +252,7 @@ ends_by s past p e d' a (a_step command number at b flick was over made is m the
       step = record { access = b; flick = flick; does = k; not_over = o; is = made; made = same ∙ is; marks = m };
       is = is;
     }
-    go part (Reading bits false) k o m is = absurd (false≢true (sym (ap (λ (x : Access). ends_read x.how) is) ∙ ends))
+    go part (Reading bits false) k o m is = absurd (false≢true (sym (ap (λ (x : Access). is_end_of_read x.how) is) ∙ ends))
     go part (Writing w) k o m is = absurd (false≢true (sym (not_write a.how ends) ∙ ap (λ (x : Access). is_write x.how) is ∙ write ((bit_written (written_at c part).1 w).made % 2 == 0)))
       where
         v : Bool
@@ -264,7 +264,7 @@ ends_by s past p e d' a (a_step command number at b flick was over made is m the
 
 -- No read of a version is overlapped.
 pub version_read_unoverlapped : (s : Setup) → IsGood s → (events : List Event) (event : Event) (e : Entry) → entry_of s (past_of s events) event ≡ Some e →
-    (a : Access) → e.access ≡ Some a → is_version a.field ≡ true → ends_read a.how ≡ true → is_overlapped (moves_of a (past_of s events)) ≡ false
+    (a : Access) → e.access ≡ Some a → is_version a.field ≡ true → is_end_of_read a.how ≡ true → is_overlapped (moves_of a (past_of s events)) ≡ false
 version_read_unoverlapped s g events event e is a access v ends =
     sym (touched_cell s g events a)
     ∙ ap (λ (x : Access). (cell_after s past x).touched) x.is

@@ -2,7 +2,7 @@
 use Rattle.std.proofs.Common.{◌≡◌, ℕ, ◌<◌, ◌+◌, ◌==◌, ◌&&◌, not, Bool, true, false, cond, [], ◌∷◌, Option, Some, None, length, refl, sym, ap, subst, ◌∙◌, true≢false}
 use Rattle.model.specs.safe_bit.{Move}
 use Rattle.model.specs.safe_bit.declared.Move.TheVariants.{BeginWrite, EndWrite, BeginRead, EndRead, Settle}
-use Rattle.model.specs.{Access, Entry, Mark, Past, Withdraws, is_begin, last_write, own, unfinished}
+use Rattle.model.specs.{Access, Entry, Mark, Past, Withdraws, is_begin_of_write, last_write, own, unfinished}
 use Rattle.plain_store.specs.{Setup}
 use Rattle.model.specs.declared.marks.Mark.TheVariants as mark
 use Rattle.model.proofs.Opens.{last-none}
@@ -18,12 +18,12 @@ use Rattle.judge.proofs.Opened.{open_by}
 
 -- the last access of a write that p made, if it is a begin
 abbrev pub Unended : Option Access → Access → Type 0
-Unended last a = (last ≡ Some a) × (is_begin a.how ≡ true)
+Unended last a = (last ≡ Some a) × (is_begin_of_write a.how ≡ true)
 
 -- an open write is of this process, on a copy that exists, and its last write
 pub record IsLast (s : Setup) (p : ℕ) (last : Option Access) (b : BegunAccess) : Type 0 where
   pub last_is : last ≡ Some b.access
-  pub begins : is_begin b.access.how ≡ true
+  pub begins : is_begin_of_write b.access.how ≡ true
   pub owner : b.access.owner ≡ p
   pub reader : b.access.reader < s.processes
 
@@ -42,8 +42,8 @@ LastIsOpenIn o last _ = Unit {0}
 -- if no bit is left unfinished, the last access is not a begin
 pub finished : (n : ℕ) (last : Option Access) (o : Option BegunAccess) → unfinished n last ≡ None → LastIsOpen o last
 finished n last o none a unended closed =
-    let remaining_is : unfinished n last ≡ cond (not (is_begin a.how) && (a.reader + 1 == n)) None (Some a) = ap (unfinished n) unended.0 in
-    let begun : cond (not (is_begin a.how) && (a.reader + 1 == n)) None (Some a) ≡ Some a = ap (λ b. cond {A = Option Access} (not b && (a.reader + 1 == n)) None (Some a)) unended.1 in
+    let remaining_is : unfinished n last ≡ cond (not (is_begin_of_write a.how) && (a.reader + 1 == n)) None (Some a) = ap (unfinished n) unended.0 in
+    let begun : cond (not (is_begin_of_write a.how) && (a.reader + 1 == n)) None (Some a) ≡ Some a = ap (λ b. cond {A = Option Access} (not b && (a.reader + 1 == n)) None (Some a)) unended.1 in
     let f : None ≡ Some a = sym none ∙ remaining_is ∙ begun in cc
 
 -- an access, if it is a write that is open
@@ -60,28 +60,28 @@ open_write entry x = push (begins x.how)
     push true = refl
     push false = refl
 
-write_begun : (entry : ℕ) (x : Access) (b : BegunAccess) → write_of (open_by entry x) ≡ Some b → (b.access ≡ x) × (is_begin x.how ≡ true)
+write_begun : (entry : ℕ) (x : Access) (b : BegunAccess) → write_of (open_by entry x) ≡ Some b → (b.access ≡ x) × (is_begin_of_write x.how ≡ true)
 write_begun entry x b h = go x.how refl (sym (open_write entry x) ∙ h)
   where
     at : BegunAccess
     at = record { entry = entry; access = x }
 
-    go : (m : Move) → x.how ≡ m → of_write at m ≡ Some b → (b.access ≡ x) × (is_begin m ≡ true)
+    go : (m : Move) → x.how ≡ m → of_write at m ≡ Some b → (b.access ≡ x) × (is_begin_of_write m ≡ true)
     go (BeginWrite v) is same = let one : at ≡ b = cc in (ap (λ (y : BegunAccess). y.access) (sym one), refl)
     go _ is same = cc
 
 -- an access that begins a write has it open
-pub begun_open : (entry : ℕ) (x : Access) → is_begin x.how ≡ true → write_of (open_by entry x) ≡ None → ⊥
+pub begun_open : (entry : ℕ) (x : Access) → is_begin_of_write x.how ≡ true → write_of (open_by entry x) ≡ None → ⊥
 begun_open entry x begun closed = go x.how begun (sym (open_write entry x) ∙ closed)
   where
-    go : (m : Move) → is_begin m ≡ true → of_write (record { entry = entry; access = x }) m ≡ None → ⊥
+    go : (m : Move) → is_begin_of_write m ≡ true → of_write (record { entry = entry; access = x }) m ≡ None → ⊥
     go (BeginWrite v) h same = cc
     go EndWrite h same = true≢false (sym h)
     go BeginRead h same = true≢false (sym h)
     go (EndRead v) h same = true≢false (sym h)
     go (Settle v) h same = true≢false (sym h)
 
-begin_writes : (m : Move) → is_begin m ≡ true → is_write m ≡ true
+begin_writes : (m : Move) → is_begin_of_write m ≡ true → is_write m ≡ true
 begin_writes (BeginWrite v) h = refl
 begin_writes _ h = absurd (true≢false (sym h))
 
@@ -92,7 +92,7 @@ access_last s past e a acc plain by below b is_open =
     let writes : is_write a.how ≡ true = begin_writes a.how one.1 in
     record {
       last_is = ap last_write (own-own e.process e past refl) ∙ last-made e (own e.process past) a acc ∙ ap (λ b. cond b (Some a) (last_write (own e.process past))) writes ∙ ap Some (sym one.0);
-      begins = ap (λ (x : Access). is_begin x.how) one.0 ∙ one.1;
+      begins = ap (λ (x : Access). is_begin_of_write x.how) one.0 ∙ one.1;
       owner = ap (λ (x : Access). x.owner) one.0 ∙ by.writes writes;
       reader = subst (λ (x : Access). x.reader < s.processes) (sym one.0) below;
     }

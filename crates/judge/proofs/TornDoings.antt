@@ -1,7 +1,7 @@
 -- The torn bit of each process, and its last write, in the record of every list of events.
 use Rattle.std.proofs.Common.{◌≡◌, ◌≢◌, ℕ, ◌+◌, ◌*◌, ◌==◌, ◌&&◌, not, Bool, true, false, cond, List, ◌∷◌, Option, Some, None, length, refl, sym, ap, subst, ◌∙◌, arith, true≢false, ne_eqb}
 use Rattle.std.specs.List.{list_any}
-use Rattle.model.specs.{Access, Call, Closing, Entry, Event, Part, Past, Place, Reading, Run, Wait, Waits, Withdraws, Writing, access_at, closing_after, failing, has, history, is_begin, is_failed, is_finished, is_over, last_write, made_with, moves_of, opening_bit, own, past_of, place_after, settling_from, unfinished, value_of, written_at}
+use Rattle.model.specs.{Access, Call, Closing, Entry, Event, Part, Past, Place, Reading, Run, Wait, Waits, Withdraws, Writing, access_at, closing_after, failing, has, history, is_begin_of_write, is_failed, is_finished, is_over, last_write, made_with, moves_of, opening_bit, own, past_of, place_after, settling_from, unfinished, value_of, written_at}
 use Rattle.plain_store.specs.{Command, Setup}
 use Rattle.model.specs.declared.marks.Mark.TheVariants as mark
 use Rattle.model.specs.safe_bit.{read_value}
@@ -59,14 +59,14 @@ fails_torn s p command number mine o last open_last last_open = go last refl
         let its : IsLast s p last b = open_last b h in
         let both : Some a ≡ Some b.access = sym is ∙ its.last_is in
         let same : a ≡ b.access = cc in
-        let begins : is_begin a.how ≡ true = ap (λ (x : Access). is_begin x.how) same ∙ its.begins in
+        let begins : is_begin_of_write a.how ≡ true = ap (λ (x : Access). is_begin_of_write x.how) same ∙ its.begins in
         absurd (true≢false (sym fin ∙ ap (λ b. not b && (a.reader + 1 == n)) begins))
 
     -- its last write is not finished
     cut : (a : Access) → last ≡ Some a → (w : Option BegunAccess) → write_of o ≡ w → T (Some a)
-    cut a is None h = by (is_begin a.how) refl
+    cut a is None h = by (is_begin_of_write a.how) refl
       where
-        by : (b : Bool) → is_begin a.how ≡ b → T (Some a)
+        by : (b : Bool) → is_begin_of_write a.how ≡ b → T (Some a)
         by true k = absurd (last_open a (is, k) h)
         by false k =
             let made : made_with a ≡ 2 * a.reader + 2 = ap (λ b. 2 * a.reader + cond b 1 2) k in
@@ -75,7 +75,7 @@ fails_torn s p command number mine o last open_last last_open = go last refl
         let its : IsLast s p last b = open_last b h in
         let both : Some a ≡ Some b.access = sym is ∙ its.last_is in
         let same : a ≡ b.access = cc in
-        let begins : is_begin a.how ≡ true = ap (λ (x : Access). is_begin x.how) same ∙ its.begins in
+        let begins : is_begin_of_write a.how ≡ true = ap (λ (x : Access). is_begin_of_write x.how) same ∙ its.begins in
         let made : made_with a ≡ 2 * b.access.reader + 1 = ap (λ b. 2 * a.reader + cond b 1 2) begins ∙ ap (λ (x : Access). 2 * x.reader + 1) same in
         record { by = comes b h its.owner (ap (λ (x : Access). x.field) (sym same)) (ap (λ (x : Access). x.bit) (sym same)) (omega arith) its.reader made; apart = λ b. absurd (true≢false (sym b)) }
 
@@ -117,7 +117,7 @@ written_last past e a acc plain writes x unended closed =
     let last : last_write (own e.process (e ∷ past)) ≡ Some a = ap last_write (own-own e.process e past refl) ∙ last-made e (own e.process past) a acc ∙ ap (λ b. cond b (Some a) (last_write (own e.process past))) writes in
     let both : Some a ≡ Some x = sym last ∙ unended.0 in
     let same : a ≡ x = cc in
-    begun_open (length past) a (ap (λ (y : Access). is_begin y.how) same ∙ unended.1) (sym (ap write_of (opened_access past e a acc plain)) ∙ closed)
+    begun_open (length past) a (ap (λ (y : Access). is_begin_of_write y.how) same ∙ unended.1) (sym (ap write_of (opened_access past e a acc plain)) ∙ closed)
 
 -- after an access of a read, or none, if no bit is left unfinished
 still_last : (s : Setup) (past : Past) (e : Entry) (o : Option BegunAccess) → last_write (e ∷ own e.process past) ≡ last_write (own e.process past) → remaining s (own e.process past) ≡ None → LastIsOpen o (last_write (own e.process (e ∷ past)))

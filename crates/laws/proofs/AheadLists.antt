@@ -5,7 +5,7 @@ use Rattle.std.proofs.lemmas.List.Elements.{All-contains, All-filter, All-contai
 use Rattle.std.proofs.lemmas.List.FromFn.{length-range_with_len, get_or-range_with_len}
 use Rattle.std.proofs.lemmas.List.Kept.{AllPairs-filter}
 use Rattle.plain_store.specs.{Setup}
-use Rattle.model.specs.{Entry, Event, Past, Stage, ahead, doorway_begin, doorway_end, entry_of, has, is_ahead, is_before, is_entered, is_queued, is_waiting_stage, past_of, processes, stage}
+use Rattle.model.specs.{Entry, Event, Past, Stage, ahead, doorway_begin, doorway_end, entry_of, has, is_ahead, is_before, is_entered, is_at_door, is_waiting_stage, past_of, processes, stage}
 use Rattle.model.specs.declared.stages.Stage.TheVariants as stages
 use Rattle.model.proofs.Width.{IsGood}
 use Rattle.laws.specs.{WaitsBefore}
@@ -67,21 +67,21 @@ waits-is : (st : Stage) → is_waiting_stage st ≡ true → st ≡ stages.Waiti
 waits-is stages.Waiting h = refl
 waits-is _ h = cc
 
-list-is : (s : Setup) (p : ℕ) (past : Past) → is_queued (stage p past) ≡ true → ahead s p past ≡ filter (λ j. is_ahead past j p) (processes s)
+list-is : (s : Setup) (p : ℕ) (past : Past) → is_at_door (stage p past) ≡ true → ahead s p past ≡ filter (λ j. is_ahead past j p) (processes s)
 list-is s p past q = ap (λ b. elim b as (λ _. List ℕ) [ true ↦ filter (λ j. is_ahead past j p) (processes s) | false ↦ [] ]) q
 
-pub queued-only : (s : Setup) (p : ℕ) (past : Past) → is_queued (stage p past) ≡ false → ahead s p past ≡ []
+pub queued-only : (s : Setup) (p : ℕ) (past : Past) → is_at_door (stage p past) ≡ false → ahead s p past ≡ []
 queued-only s p past q = ap (λ b. elim b as (λ _. List ℕ) [ true ↦ filter (λ j. is_ahead past j p) (processes s) | false ↦ [] ]) q
 
 -- a process in the list is ahead by the look-back
 ahead-is : (s : Setup) (p : ℕ) (past : Past) (j : ℕ) → Contains (ahead s p past) j → Contains (processes s) j × (is_ahead past j p ≡ true)
-ahead-is s p past j h = go (is_queued (stage p past)) refl
+ahead-is s p past j h = go (is_at_door (stage p past)) refl
   where
-    go : (b : Bool) → is_queued (stage p past) ≡ b → Contains (processes s) j × (is_ahead past j p ≡ true)
+    go : (b : Bool) → is_at_door (stage p past) ≡ b → Contains (processes s) j × (is_ahead past j p ≡ true)
     go true q = kept (λ j. is_ahead past j p) (processes s) j (subst (λ l. Contains l j) (list-is s p past q) h)
     go false q = let (k, l, e) = subst (λ l. Contains l j) (queued-only s p past q) h in absurd (omega (arith, l))
 
-pub ahead_are : (s : Setup) (past : Past) (p : ℕ) → is_queued (stage p past) ≡ true → (j : ℕ) → Contains (ahead s p past) j ↔ WaitsBefore s past p j
+pub ahead_are : (s : Setup) (past : Past) (p : ℕ) → is_at_door (stage p past) ≡ true → (j : ℕ) → Contains (ahead s p past) j ↔ WaitsBefore s past p j
 ahead_are s past p q j = (to, from)
   where
     to : Contains (ahead s p past) j → WaitsBefore s past p j
@@ -94,9 +94,9 @@ ahead_are s past p q j = (to, from)
     from (l, w, b) = subst (λ l. Contains l j) (sym (list-is s p past q)) (keeps (λ j. is_ahead past j p) (processes s) j (process s j l) (λ i. is_waiting_stage (w i) && b i))
 
 pub ascends : (s : Setup) (past : Past) (p : ℕ) → AllPairs (λ i j. i < j) (ahead s p past)
-ascends s past p = go (is_queued (stage p past)) refl
+ascends s past p = go (is_at_door (stage p past)) refl
   where
-    go : (b : Bool) → is_queued (stage p past) ≡ b → AllPairs (λ i j. i < j) (ahead s p past)
+    go : (b : Bool) → is_at_door (stage p past) ≡ b → AllPairs (λ i j. i < j) (ahead s p past)
     go true q = subst (AllPairs (λ i j. i < j)) (sym (list-is s p past q)) (AllPairs-filter (λ i j. i < j) (λ j. is_ahead past j p) (processes s) (ascending s.processes))
     go false q = subst (AllPairs (λ i j. i < j)) (sym (queued-only s p past q)) (λ i j d less long. absurd (omega (arith, long)))
 
@@ -112,7 +112,7 @@ all_waiters s g events p st none j = (λ h. (there.0 h).1, back)
     past = past_of s events
 
     there : Contains (ahead s p past) j ↔ WaitsBefore s past p j
-    there = ahead_are s past p (ap is_queued st) j
+    there = ahead_are s past p (ap is_at_door st) j
 
     back : stage j past ≡ stages.Waiting → Contains (ahead s p past) j
     back w =

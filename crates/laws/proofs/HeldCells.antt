@@ -6,7 +6,7 @@ use Rattle.model.specs.safe_bit.Cell.{Cell, BitCall, Makes, Drops, AreWritesInTu
 use Rattle.model.specs.safe_bit.{Move, Shows, read_value}
 use Rattle.model.specs.safe_bit.declared.Move.TheVariants.{BeginWrite, EndWrite, BeginRead, EndRead, Settle}
 use Rattle.model.proofs.safe_bit.Showing.{answer-shows, shows_dropped, shows_moves}
-use Rattle.model.specs.{Access, Entry, Event, Mark, Past, ends_read, entry_of, is_failed, moves_of, opening_bit, past_of, same_bit}
+use Rattle.model.specs.{Access, Entry, Event, Mark, Past, is_end_of_read, entry_of, is_failed, moves_of, opening_bit, past_of, same_bit}
 use Rattle.plain_store.specs.{Setup}
 use Rattle.model.specs.Newest as record_cells
 use Rattle.model.proofs.Singles.{is_write}
@@ -162,7 +162,7 @@ held_ends s g events event e h a acc v how calm =
     ends_as_it_may s (past_of s events) event e h a v acc how (sym shows.touched ∙ calm) ∙ sym (shows.untouched calm)
 
 -- a move may be made where its write is in turn, and where a read is open if it ends one, and only then
-pub may_move : (c : Cell) (m : Move) → MayWrite c m → (is_write m ≡ false → c.reading ≡ ends_read m) → ((v : Bool) → m ≡ EndRead v → c.touched ≡ false → v ≡ c.value) → MayMove c m
+pub may_move : (c : Cell) (m : Move) → MayWrite c m → (is_write m ≡ false → c.reading ≡ is_end_of_read m) → ((v : Bool) → m ≡ EndRead v → c.touched ≡ false → v ≡ c.value) → MayMove c m
 may_move c (BeginWrite v) turn reading ends = turn
 may_move c EndWrite turn reading ends = turn
 may_move c (Settle v) turn reading ends = turn

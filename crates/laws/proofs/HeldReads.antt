@@ -3,7 +3,7 @@ use Rattle.std.proofs.Common.{◌≡◌, ◌≢◌, ℕ, ◌==◌, ◌&&◌, Boo
 use Rattle.std.proofs.lemmas.Bool.{eqb-false}
 use Rattle.model.specs.safe_bit.Cell.{Cell, cell_after}
 use Rattle.model.specs.safe_bit.{read_value}
-use Rattle.model.specs.{Access, Call, Closing, Entry, Event, Part, Past, Place, Reading, Run, Withdraws, Writing, access_at, bits_with, closing_after, ended_with, ends_read, enter, entry_of, is_last, is_over, is_read, moves_of, new_run, opening_bit, part_after, past-induction, past_of, place_after, run_after, same_bit, value_of, valued, width, written_at}
+use Rattle.model.specs.{Access, Call, Closing, Entry, Event, Part, Past, Place, Reading, Run, Withdraws, Writing, access_at, bits_with, closing_after, ended_with, is_end_of_read, enter, entry_of, is_last, is_over, is_read, moves_of, new_run, opening_bit, part_after, past-induction, past_of, place_after, run_after, same_bit, value_of, valued, width, written_at}
 use Rattle.model.specs.safe_number.{NumberWrite, new_write}
 use Rattle.plain_store.specs.{Command, Setup}
 use Rattle.model.specs.declared.marks.Mark.TheVariants.{Called, Failed, Withdrew, Restarted}
@@ -163,16 +163,16 @@ reads_are s g events = past-induction ReadsAll s (λ g p a r. refl) more events 
 -- The access itself.
 
 -- at a place, a read is open if the access ends it, and only then
-place-reads : (s : Setup) (past : Past) (c : Call) (part : Part) (run : Run) (flick : Bool) (a : Access) → a ≡ valued s past flick (access_at c part run) → is_write a.how ≡ false → open_read c part run a ≡ ends_read a.how
+place-reads : (s : Setup) (past : Past) (c : Call) (part : Part) (run : Run) (flick : Bool) (a : Access) → a ≡ valued s past flick (access_at c part run) → is_write a.how ≡ false → open_read c part run a ≡ is_end_of_read a.how
 place-reads s past c part (Writing w) flick a is r =
     absurd (true≢false (sym (ap (λ (y : Access). is_write y.how) is ∙ place-writes c part w (read_value (opening_bit s (access_at c part (Writing w))) (moves_of (access_at c part (Writing w)) past) flick)) ∙ r))
 place-reads s past c part (Reading bits true) flick a is r =
     let x : Access = access_at c part (Reading bits true) in
-    ap (λ (y : Access). same_bit y x) is ∙ itself x ∙ sym (ap (λ (y : Access). ends_read y.how) is)
-place-reads s past c part (Reading bits false) flick a is r = sym (ap (λ (y : Access). ends_read y.how) is)
+    ap (λ (y : Access). same_bit y x) is ∙ itself x ∙ sym (ap (λ (y : Access). is_end_of_read y.how) is)
+place-reads s past c part (Reading bits false) flick a is r = sym (ap (λ (y : Access). is_end_of_read y.how) is)
 
 -- at each access of a process, a read is open if the access ends it, and only then
-pub access-reads : (s : Setup) (past : Past) (p : ℕ) (e : Entry) (d d' : Doing) (a : Access) → Happens s past p e d d' → e.access ≡ Some a → is_write a.how ≡ false → reads_now s p a d ≡ ends_read a.how
+pub access-reads : (s : Setup) (past : Past) (p : ℕ) (e : Entry) (d d' : Doing) (a : Access) → Happens s past p e d d' → e.access ≡ Some a → is_write a.how ≡ false → reads_now s p a d ≡ is_end_of_read a.how
 access-reads s past p e d d' a (a_call command number was none marks then) h r = let f : None ≡ Some a = sym none ∙ h in cc
 access-reads s past p e d d' a (a_withdrawal command number t w ws run was none marks then) h r = let f : None ≡ Some a = sym none ∙ h in cc
 access-reads s past p e d d' a (a_failure command number may none marks then) h r = let f : None ≡ Some a = sym none ∙ h in cc

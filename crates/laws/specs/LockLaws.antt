@@ -3,7 +3,7 @@ use Rattle.std.specs.Prelude.{◌≡◌, ◌↔◌, ℕ, ◌<◌, Bool, true, fa
 use Rattle.model.specs.safe_bit.declared.Move.TheVariants.{EndRead}
 use Rattle.model.specs.safe_bit.{MayEndWith, read_value}
 use Rattle.model.specs.reader_copies.{IsWrite}
-use Rattle.model.specs.{Access, EachEntry, EachPast, Entry, Event, Mark, Past, ahead, doorway_begin, doorway_end, entry_of, has, inside, is_before, is_entered, is_failed, is_queued, is_version, lowest_full, max_of, moves_of, opening_bit, others, own, past_of, since, stage, tickets_read}
+use Rattle.model.specs.{Access, EachEntry, EachPast, Entry, Event, Mark, Past, ahead, doorway_begin, doorway_end, entry_of, has, inside, is_before, is_entered, is_failed, is_at_door, is_version, lowest_full, max_of, moves_of, opening_bit, others, own, past_of, since, stage, tickets_read}
 use Rattle.plain_store.specs.declared.Answer.TheVariants as answer
 use Rattle.plain_store.specs.{Setup, checked}
 use Rattle.model.specs.declared.events.Event.TheVariants.{Step}
@@ -35,7 +35,7 @@ WaitsBefore s past p j = (j < s.processes) × (stage j past ≡ stages.Waiting) 
 
 -- The list `ahead` of a process that is in its doorway or waits has exactly the processes that wait before it.
 abbrev pub AheadAreThoseBefore : Type 0
-AheadAreThoseBefore = EachPast λ s past. (p : ℕ) → IsTrue (is_queued (stage p past)) → (j : ℕ) → Contains (ahead s p past) j ↔ WaitsBefore s past p j
+AheadAreThoseBefore = EachPast λ s past. (p : ℕ) → IsTrue (is_at_door (stage p past)) → (j : ℕ) → Contains (ahead s p past) j ↔ WaitsBefore s past p j
 
 -- It ascends.
 abbrev pub AheadAscends : Type 0
@@ -43,7 +43,7 @@ AheadAscends = EachPast λ s past. (p : ℕ) → AllPairs (λ i j. i < j) (ahead
 
 -- It is empty of a process that is neither in its doorway nor waits.
 abbrev pub AheadIsOfTheQueued : Type 0
-AheadIsOfTheQueued = EachPast λ s past. (p : ℕ) → IsFalse (is_queued (stage p past)) → ahead s p past ≡ []
+AheadIsOfTheQueued = EachPast λ s past. (p : ℕ) → IsFalse (is_at_door (stage p past)) → ahead s p past ≡ []
 
 -- No process is ahead of itself.
 abbrev pub NobodyIsAheadOfItself : Type 0

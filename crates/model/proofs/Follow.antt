@@ -1,7 +1,7 @@
 -- The place of a process follows from its own accesses: its next access is that of its script.
 use Rattle.std.specs.Prelude.{◌≡◌, ◌⊎◌, refl, ℕ, suc, ◌+◌, ◌*◌, ◌<◌, ◌==◌, Bool, true, false, cond, List, [], ◌∷◌, ◌++◌, length, slice_get, None, Some, ◌≢◌}
 use Rattle.std.proofs.Common.{sym, ◌∙◌, ap, true≢false, arith, append_assoc, append-nil, length-append, eqb-true, ne_eqb, eq-eqb, inl, inr}
-use Rattle.std.proofs.lemmas.Bool.Decides.{eqb_reports}
+use Rattle.std.proofs.lemmas.Bool.Decides.{eqb_tells}
 use Rattle.model.specs.{Access, Call, Field, IsFollowed, Next, Numbers, Over, Part, Portion, Raises, ReadSoFar, Script, doing, ended, ended_with, first_marks, is_over, is_read, last_marks, local_program, part_after, read_at, read_of, reads_of, scripted, single, singles, width, with_access, with_move, write_of, written_at}
 use Rattle.safe_bit.specs.{Move}
 use Rattle.safe_bit.specs.declared.Move.TheVariants.{BeginWrite, EndWrite, BeginRead, EndRead, Settle}
@@ -115,9 +115,9 @@ ends_write c g r len at st w o l = record {
     mine = single (first_marks at.part) (last_marks c at.part []) (doing c at.part)
 
 -- the end of a part that reads
-pub ends_read : (c : Call) → IsGood c.setup → (r q : ReadSoFar) (len : ℕ) (at : Spot) (v : List Bool) → Stands c r len at → is_read at.part ≡ true →
+pub is_end_of_read : (c : Call) → IsGood c.setup → (r q : ReadSoFar) (len : ℕ) (at : Spot) (v : List Bool) → Stands c r len at → is_read at.part ≡ true →
     q.finished ≡ r.finished ++ v ∷ [] → q.bits ≡ [] → at.made + 1 ≡ length (doing c at.part) → Stands c q (suc len) (record { part = part_after c at.part v; made = 0; bits = [] })
-ends_read c g r q len at v st w f b l = record {
+is_end_of_read c g r q len at v st w f b l = record {
   done = st.done ++ mine;
   count = omega (arith, st.count, length-append st.done mine, length-single (first_marks at.part) (last_marks c at.part v) (doing c at.part));
   bits = b;
@@ -168,7 +168,7 @@ step_write c g r len at x v st w o h =
 
 -- the tests of the two ends are the same: the number's last bit, and the part's last access
 pub same_end : (b w m l : ℕ) → 2 * b + 1 ≡ 2 * 0 + m → l ≡ 2 * w → (m + 1 == l) ≡ (b + 1 == w)
-same_end b w m l e f = go (eqb_reports (b + 1) w)
+same_end b w m l e f = go (eqb_tells (b + 1) w)
   where
     go : ((b + 1 == w) ≡ true) × (b + 1 ≡ w) ⊎ ((b + 1 == w) ≡ false) × (b + 1 ≢ w) → (m + 1 == l) ≡ (b + 1 == w)
     go (inl h) = eq-eqb (m + 1) l (omega (arith, h.1)) ∙ sym h.0
@@ -203,7 +203,7 @@ step_read c g r len at x v st w h = go which.half
         last : (b : Bool) → (x.bit + 1 == width c.setup field) ≡ b →
             Stands c (cond b (record { finished = r.finished ++ (r.bits ++ v ∷ []) ∷ []; bits = [] }) (record { finished = r.finished; bits = r.bits ++ v ∷ [] })) (suc len)
             (cond b (record { part = part_after c at.part (at.bits ++ v ∷ []); made = 0; bits = [] }) (record { part = at.part; made = at.made + 1; bits = at.bits ++ v ∷ [] }))
-        last true t = ends_read c g r (record { finished = r.finished ++ (r.bits ++ v ∷ []) ∷ []; bits = [] }) len at (at.bits ++ v ∷ []) st w
+        last true t = is_end_of_read c g r (record { finished = r.finished ++ (r.bits ++ v ∷ []) ∷ []; bits = [] }) len at (at.bits ++ v ∷ []) st w
             (ap (λ bs. r.finished ++ (bs ++ v ∷ []) ∷ []) st.bits) refl (omega (arith, size, k, eqb-true (x.bit + 1) (width c.setup field) t))
         last false t = stays c r (record { finished = r.finished; bits = r.bits ++ v ∷ [] }) len at (at.bits ++ v ∷ []) st refl
             (ap (λ bs. bs ++ v ∷ []) st.bits) (λ u. absurd (true≢false (sym w ∙ u))) within

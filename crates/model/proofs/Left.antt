@@ -4,7 +4,7 @@ use Rattle.std.proofs.lemmas.Bool.{cases_eq, eqb-true, eqb-false, ne_eqb, eq-eqb
 use Rattle.std.specs.Prelude.{option_map, slice_index_or}
 use Rattle.safe_bit.specs.declared.Move.TheVariants.{BeginWrite, EndWrite}
 use Rattle.reader_copies.specs.Runs as copies
-use Rattle.model.specs.{Access, Call, Field, Part, Place, Reading, Run, TornBit, Writing, access_of, begun_at, begun_closing, begun_run, bit_written, bits_with, enter, is_begin, is_last, is_read, made_with, named, next_written, part_after, place_after, place_of, run_after, torn_at, torn_in, torn_run, unfinished, value_of, width, write_moved, written_at}
+use Rattle.model.specs.{Access, Call, Field, Part, Place, Reading, Run, TornBit, Writing, access_of, begun_at, begun_closing, begun_run, bit_written, bits_with, enter, is_begin_of_write, is_last, is_read, made_with, named, next_written, part_after, place_after, place_of, run_after, torn_at, torn_in, torn_run, unfinished, value_of, width, write_moved, written_at}
 use Rattle.safe_number.specs.{NumberWrite, new_write, torn_with}
 use Rattle.model.specs.Closings.{Closing, Withdraws, Settles, Frees, Lowers, Quit, Ended, freeing, withdrawing, no_ticket, is_last_written, is_last_settled, closing_after, closing_of}
 
@@ -13,10 +13,10 @@ abbrev pub bit_left : Access → TornBit
 bit_left a = record { field = a.field; bit = a.bit; torn = record { made = made_with a; reader = 0; begun = false; value = None } }
 
 -- an access of a write finishes its bit if it is the last one on it
-pub ends-bit : (n m : ℕ) (v : Bool) → (not (is_begin (cond (m % 2 == 0) (BeginWrite v) EndWrite)) && (m / 2 + 1 == n)) ≡ (m + 1 == 2 * n)
+pub ends-bit : (n m : ℕ) (v : Bool) → (not (is_begin_of_write (cond (m % 2 == 0) (BeginWrite v) EndWrite)) && (m / 2 + 1 == n)) ≡ (m + 1 == 2 * n)
 ends-bit n m v = go (m % 2 == 0) refl
   where
-    go : (b : Bool) → (m % 2 == 0) ≡ b → (not (is_begin (cond b (BeginWrite v) EndWrite)) && (m / 2 + 1 == n)) ≡ (m + 1 == 2 * n)
+    go : (b : Bool) → (m % 2 == 0) ≡ b → (not (is_begin_of_write (cond b (BeginWrite v) EndWrite)) && (m / 2 + 1 == n)) ≡ (m + 1 == 2 * n)
     go true h = let even : m % 2 ≡ 0 = eqb-true (m % 2) 0 h in sym (ne_eqb (m + 1) (2 * n) (λ u. omega (arith, u, even)))
     go false h =
         let odd : m % 2 ≢ 0 = eqb-false (m % 2) 0 h in
@@ -26,10 +26,10 @@ ends-bit n m v = go (m % 2 == 0) refl
         ]
 
 -- how many accesses of its bit were made with it
-counts : (m : ℕ) (v : Bool) → 2 * (m / 2) + cond (is_begin (cond (m % 2 == 0) (BeginWrite v) EndWrite)) 1 2 ≡ m + 1
+counts : (m : ℕ) (v : Bool) → 2 * (m / 2) + cond (is_begin_of_write (cond (m % 2 == 0) (BeginWrite v) EndWrite)) 1 2 ≡ m + 1
 counts m v = go (m % 2 == 0) refl
   where
-    go : (b : Bool) → (m % 2 == 0) ≡ b → 2 * (m / 2) + cond (is_begin (cond b (BeginWrite v) EndWrite)) 1 2 ≡ m + 1
+    go : (b : Bool) → (m % 2 == 0) ≡ b → 2 * (m / 2) + cond (is_begin_of_write (cond b (BeginWrite v) EndWrite)) 1 2 ≡ m + 1
     go true h = let even : m % 2 ≡ 0 = eqb-true (m % 2) 0 h in omega (arith, even)
     go false h = let odd : m % 2 ≢ 0 = eqb-false (m % 2) 0 h in omega (arith, odd)
 

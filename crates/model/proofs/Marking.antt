@@ -24,7 +24,7 @@ single-marks f l (a ∷ b ∷ tail) (suc k) n h =
     single-marks [] l (b ∷ tail) k n h ∙ rw (same (k + 1) (suc (length tail)) (suc k + 1) (suc (suc (length tail))) (omega arith) refl, none (k == 0), ne_eqb (suc k) 0 (λ u. omega (arith, u))) refl
   where
     same : (i j i' j' : ℕ) → i' ≡ suc i → j' ≡ suc j → (i == j) ≡ (i' == j')
-    same i j i' j' e f = go (Rattle.std.proofs.lemmas.Bool.Decides.eqb_reports i j)
+    same i j i' j' e f = go (Rattle.std.proofs.lemmas.Bool.Decides.eqb_tells i j)
       where
         go : ((i == j) ≡ true) × (i ≡ j) ⊎ ((i == j) ≡ false) × (i ≢ j) → (i == j) ≡ (i' == j')
         go (inl h) = h.0 ∙ sym (eq-eqb i' j' (omega (arith, h.1, e, f)))

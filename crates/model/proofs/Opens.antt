@@ -6,7 +6,7 @@ use Rattle.std.proofs.lemmas.Bool.Decides.{nat_tests}
 use Rattle.safe_bit.specs.{Move, is_write_open}
 use Rattle.safe_bit.specs.declared.Move.TheVariants.{BeginWrite, EndWrite, BeginRead, EndRead, Settle}
 use Rattle.reader_copies.specs.Runs as copies
-use Rattle.model.specs.{Access, Call, Entry, Field, Part, Past, Reading, Run, TornBit, Writing, access_at, access_of, bit_written, ended_with, enter, field_number, is_begin, is_last, is_over, last_write, made_with, moves_of, next_written, open_after, open_run, open_settled, open_written, part_after, place_after, same_bit, torn_at, torn_in, unfinished, value_begun, write_moved, written_at}
+use Rattle.model.specs.{Access, Call, Entry, Field, Part, Past, Reading, Run, TornBit, Writing, access_at, access_of, bit_written, ended_with, enter, field_number, is_begin_of_write, is_last, is_over, last_write, made_with, moves_of, next_written, open_after, open_run, open_settled, open_written, part_after, place_after, same_bit, torn_at, torn_in, unfinished, value_begun, write_moved, written_at}
 use Rattle.safe_number.specs.{NumberWrite}
 use Rattle.model.proofs.Left.{bit_left, remaining-written, remaining-place, remaining-read, remaining-new, value-stays, value_at}
 use Rattle.model.proofs.PlaceTurns.{same-write}
@@ -114,8 +114,8 @@ from_first made k = ap (λ b. cond b true (nat_le 0 k && copies.is_open_at made 
 
 begun-torn : (n p : ℕ) (x : Access) (v : Bool) (a : Access) → x.how ≡ BeginWrite v → x.owner ≡ p → open_torn p (unfinished n (Some x)) a ≡ same_bit a x
 begun-torn n p x v a h o =
-    ap (λ b. open_torn p (cond (not b && (x.reader + 1 == n)) None (Some x)) a) (ap is_begin h)
-    ∙ ap (λ b. reg && b) (from_first (made_with x) a.reader ∙ ap (λ b. 2 * x.reader + cond b 1 2 == 2 * a.reader + 1) (ap is_begin h) ∙ odd-same x.reader a.reader)
+    ap (λ b. open_torn p (cond (not b && (x.reader + 1 == n)) None (Some x)) a) (ap is_begin_of_write h)
+    ∙ ap (λ b. reg && b) (from_first (made_with x) a.reader ∙ ap (λ b. 2 * x.reader + cond b 1 2 == 2 * a.reader + 1) (ap is_begin_of_write h) ∙ odd-same x.reader a.reader)
     ∙ reorder (a.bit == x.bit) (a.owner == p) (field_number a.field == field_number x.field) (a.reader == x.reader)
     ∙ ap (λ q. (a.bit == x.bit) && (a.reader == x.reader) && (a.owner == q) && (field_number a.field == field_number x.field)) (sym o)
   where
@@ -123,14 +123,14 @@ begun-torn n p x v a h o =
     reg = (a.bit == x.bit) && (a.owner == p) && (field_number a.field == field_number x.field)
 
 ended-torn : (n p : ℕ) (x : Access) (a : Access) → x.how ≡ EndWrite → open_torn p (unfinished n (Some x)) a ≡ false
-ended-torn n p x a h = ap (λ b. open_torn p (cond (not b && (x.reader + 1 == n)) None (Some x)) a) (ap is_begin h) ∙ go (x.reader + 1 == n)
+ended-torn n p x a h = ap (λ b. open_torn p (cond (not b && (x.reader + 1 == n)) None (Some x)) a) (ap is_begin_of_write h) ∙ go (x.reader + 1 == n)
   where
     reg : Bool
     reg = (a.bit == x.bit) && (a.owner == p) && (field_number a.field == field_number x.field)
 
     go : (b : Bool) → open_torn p (cond b None (Some x)) a ≡ false
     go true = refl
-    go false = ap (λ b. reg && b) (from_first (made_with x) a.reader ∙ ap (λ b. 2 * x.reader + cond b 1 2 == 2 * a.reader + 1) (ap is_begin h) ∙ even-other x.reader a.reader) ∙ and_false reg
+    go false = ap (λ b. reg && b) (from_first (made_with x) a.reader ∙ ap (λ b. 2 * x.reader + cond b 1 2 == 2 * a.reader + 1) (ap is_begin_of_write h) ∙ even-other x.reader a.reader) ∙ and_false reg
 
 -- after a write
 pub torn-write : (n p : ℕ) (mine : Past) (e : Entry) (x : Access) (was : Access → Bool) (torn : Option TornBit) → option_map bit_left (unfinished n (Some x)) ≡ torn →

@@ -4,7 +4,7 @@ use Rattle.std.proofs.lemmas.Bool.{eqb-true, eqb-false, ne_eqb}
 use Rattle.std.proofs.lemmas.Bool.Decides.{nat_tests}
 use Rattle.safe_bit.specs.declared.Move.TheVariants.{BeginWrite, EndWrite, BeginRead, EndRead}
 use Rattle.reader_copies.specs.Runs as copies
-use Rattle.model.specs.{Access, Call, Field, IsFollowed, Leads, Next, Part, Past, Reading, Run, Turn, Writing, access_at, access_of, bit_written, bits_with, ended, ended_with, enter, is_begin, is_last, is_over, is_read, last_write, next_written, open_after, open_closing, open_copy, open_place, open_run, open_settled, open_written, part_after, place_after, place_of, run_after, same_bit, unfinished, width, write_moved, written_at}
+use Rattle.model.specs.{Access, Call, Field, IsFollowed, Leads, Next, Part, Past, Reading, Run, Turn, Writing, access_at, access_of, bit_written, bits_with, ended, ended_with, enter, is_begin_of_write, is_last, is_over, is_read, last_write, next_written, open_after, open_closing, open_copy, open_place, open_run, open_settled, open_written, part_after, place_after, place_of, run_after, same_bit, unfinished, width, write_moved, written_at}
 use Rattle.model.specs.declared.access.Field.TheVariants.{Choosing, Ticket}
 use Rattle.safe_number.specs.{NumberWrite, new_write}
 use Rattle.plain_store.specs.{Reply}
@@ -193,9 +193,9 @@ failing-reach c past h = go (last_write past) h
   where
     go : (x : Option Access) → ((a : Access) → x ≡ Some a → a.reader < c.setup.processes) → InReach c (settling_from c past (unfinished c.setup.processes x))
     go None h = tt
-    go (Some a) h = torn (is_begin a.how) (a.reader + 1 == c.setup.processes) refl refl
+    go (Some a) h = torn (is_begin_of_write a.how) (a.reader + 1 == c.setup.processes) refl refl
       where
-        torn : (begin last : Bool) → is_begin a.how ≡ begin → (a.reader + 1 == c.setup.processes) ≡ last → InReach c (settling_from c past (cond (not begin && last) None (Some a)))
+        torn : (begin last : Bool) → is_begin_of_write a.how ≡ begin → (a.reader + 1 == c.setup.processes) ≡ last → InReach c (settling_from c past (cond (not begin && last) None (Some a)))
         torn true last b e = let l : a.reader < c.setup.processes = h a refl in rw b (omega arith)
         torn false true b e = tt
         torn false false b e =

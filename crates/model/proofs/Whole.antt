@@ -1,5 +1,5 @@
 -- A read that no write of its register meets gives the register's bits.
-use Rattle.std.specs.Prelude.{◌≡◌, refl, ℕ, ◌+◌, ◌<◌, Bool, true, false, List, [], ◌∷◌, ◌++◌, length, flat_map, slice_index_or}
+use Rattle.std.specs.Prelude.{◌≡◌, refl, ℕ, ◌<◌, Bool, true, false, List, [], ◌∷◌, ◌++◌, length, flat_map, slice_index_or}
 use Rattle.std.proofs.Common.{sym, ◌∙◌, ap, append_assoc}
 use Rattle.model.specs.{AllReads, Field, HasBits, Past, begins_read, copy, move_on, moves_of, opening_bit}
 use Rattle.safe_bit.specs.{Move, is_write_open, last_written, read_value}

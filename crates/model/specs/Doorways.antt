@@ -5,11 +5,9 @@ use Rattle.safe_bit.specs.declared.Move.TheVariants.{BeginWrite}
 use Rattle.model.specs.declared.access.Field.{Field}
 use Rattle.model.specs.declared.access.Field.TheVariants.{Choosing}
 use Rattle.plain_store.specs.{Setup}
-use Rattle.model.specs.declared.stages.Stage.{Stage}
-use Rattle.model.specs.declared.stages.Stage.TheVariants.{Doorway, Waiting}
 use Rattle.model.specs.Entries.{Entry, Past, has, is_called, is_waiting}
 use Rattle.model.specs.Registers.{processes}
-use Rattle.model.specs.Stages.{stage}
+use Rattle.model.specs.Stages.{is_at_door, is_waiting_stage, stage}
 
 -- a write of `Choosing` 1 begins
 abbrev pub raises : Field → Move → Bool
@@ -50,21 +48,10 @@ is_before None begin = false
 is_before (Some end) None = true
 is_before (Some end) (Some begin) = nat_lt end begin
 
--- the stage is that of a process that waits
-abbrev pub is_waiting_stage : Stage → Bool
-is_waiting_stage Waiting = true
-is_waiting_stage _ = false
-
 -- j waits, and its doorway is before that of p
 abbrev pub is_ahead : Past → ℕ → ℕ → Bool
 is_ahead past j p = is_waiting_stage (stage j past) && is_before (doorway_end j past) (doorway_begin p past)
 
--- the stage is that of a process that is in its doorway or waits
-abbrev pub is_queued : Stage → Bool
-is_queued Doorway = true
-is_queued Waiting = true
-is_queued _ = false
-
 -- the processes that wait and whose doorway is before that of p, ascending; none unless p is in its doorway or waits
 abbrev pub ahead : Setup → ℕ → Past → List ℕ
-ahead s p past = elim (is_queued (stage p past)) [ true ↦ filter (λ j. is_ahead past j p) (processes s) | false ↦ [] ]
+ahead s p past = elim (is_at_door (stage p past)) [ true ↦ filter (λ j. is_ahead past j p) (processes s) | false ↦ [] ]

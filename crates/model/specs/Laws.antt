@@ -17,14 +17,14 @@ use Rattle.model.specs.Parts.{is_over}
 use Rattle.model.specs.Calls.{last_call}
 use Rattle.model.specs.Cuts.{Change, IsTornOf, pending_at, torn_at, torn_closing}
 use Rattle.model.specs.Failures.{begun_at, cut_at, cut_closing}
-use Rattle.model.specs.Places.{Place, place_after, access_at, next_written, write_moved, IsFollowed, accesses_of, reads_of, scripted, place_of, next_access, marks_of, stage_at, value_of, entry_at, is_running}
+use Rattle.model.specs.Places.{Place, place_after, access_at, next_written, write_moved, IsFollowed, accesses_of, reads_of, scripted, place_of, next_access, marks_of, stage_at, value_of, entry_at}
 use Rattle.model.specs.Closings.{Closing, withdrawing, failing, freeing, closing_next, closing_after, closing_stage, closing_of, closing_entry}
 use Rattle.model.specs.Program.{local_program, withdrawn}
 use Rattle.model.specs.Records.{past_of, entry_of, process_of, refused, last_start, stepped}
 use Rattle.model.specs.Registers.{opening_bit, bytes_of_bits}
 use Rattle.safe_number.specs.{AreBytes, IsBytesOf, NumberWrite, bits_in, next_of_write, number_write_after}
 use Rattle.model.specs.Scripts.{Call, Next, nth, marks_at}
-use Rattle.model.specs.Stages.{stage, stage_after, inside}
+use Rattle.model.specs.Stages.{stage, stage_after, inside, is_running}
 use Rattle.model.specs.Turns.{Leads, open_place, open_closing}
 use Rattle.model.specs.Unit.{last_write, unit_program, first_flick, value_written}
 

@@ -1,8 +1,7 @@
 -- The statements of the main theorem, about the record of every list of events. This file only defines them; the crates of laws above prove them.
 use Rattle.std.specs.Prelude.{◌≡◌, ◌↔◌, ℕ, suc, ◌+◌, ◌<◌, ◌==◌, nat_lt, Bool, true, false, ◌&&◌, ◌||◌, List, [], ◌∷◌, ◌++◌, length, map, take, slice_get, Option, None, Some, Ok, cond, IsTrue, IsFalse, Contains}
 use Rattle.std.specs.List.{list_any}
-use Rattle.safe_bit.specs.{Move, is_overlapped}
-use Rattle.safe_bit.specs.declared.Move.TheVariants.{EndRead}
+use Rattle.safe_bit.specs.{is_end_of_read, is_overlapped}
 use Rattle.model.specs.declared.access.Access.{Access}
 use Rattle.model.specs.declared.access.Field.{Field}
 use Rattle.model.specs.declared.access.Field.TheVariants.{Choosing, Ticket, Image0, Image1}
@@ -139,21 +138,16 @@ is_image Image0 = true
 is_image Image1 = true
 is_image _ = false
 
--- a read ends
-abbrev pub ends_read : Move → Bool
-ends_read (EndRead v) = true
-ends_read _ = false
-
 -- No read of a commit bit, a stamp or an image is overlapped.
 abbrev pub ReadsUnoverlapped : Past → Entry → Type 0
-ReadsUnoverlapped past e = (a : Access) → e.access ≡ Some a → IsTrue (is_version a.field) → IsTrue (ends_read a.how) → IsFalse (is_overlapped (moves_of a past))
+ReadsUnoverlapped past e = (a : Access) → e.access ≡ Some a → IsTrue (is_version a.field) → IsTrue (is_end_of_read a.how) → IsFalse (is_overlapped (moves_of a past))
 
 abbrev pub VersionReadsAreUnoverlapped : Type 0
 VersionReadsAreUnoverlapped = EachEntry λ s past e. ReadsUnoverlapped past e
 
 -- if an entry ends the read of an image, the property holds of the bytes that its process has read
 abbrev pub OfImageRead : Setup → Past → Entry → (List ℕ → Type 0) → Type 0
-OfImageRead s past e P = (a : Access) → e.access ≡ Some a → IsTrue (is_image a.field) → IsTrue (ends_read a.how) → a.bit + 1 ≡ width s a.field →
+OfImageRead s past e P = (a : Access) → e.access ≡ Some a → IsTrue (is_image a.field) → IsTrue (is_end_of_read a.how) → a.bit + 1 ≡ width s a.field →
     P (bytes_of_bits (image_bytes s) (last_read (read_so_far s (since is_called (own e.process (e ∷ past)))).finished))
 
 -- The bytes that a process reads as an image are an image.
@@ -193,7 +187,7 @@ TicketsFullNamesTheLowest = EachEntry NamesTheLowest
 
 -- p ends the read of an image
 abbrev pub ends_image_read : ℕ → Entry → Bool
-ends_image_read p e = (e.process == p) && elim e.access [ None ↦ false | Some a ↦ is_image a.field && ends_read a.how ]
+ends_image_read p e = (e.process == p) && elim e.access [ None ↦ false | Some a ↦ is_image a.field && is_end_of_read a.how ]
 
 -- the entries before p last ended a read of an image
 abbrev pub before_image_read : ℕ → Past → Past

@@ -10,7 +10,6 @@ use Rattle.safe_number.specs.{NumberWrite, new_write, write_on}
 use Rattle.model.specs.declared.marks.Mark.{Mark}
 use Rattle.plain_store.specs.{Setup}
 use Rattle.model.specs.declared.stages.Stage.{Stage}
-use Rattle.model.specs.declared.stages.Stage.TheVariants as stage
 use Rattle.model.specs.Calls.{ReadSoFar, with_access}
 use Rattle.model.specs.Entries.{Entry, Past}
 use Rattle.model.specs.Histories.{history}
@@ -130,11 +129,3 @@ abbrev pub entry_at : Setup → Past → ℕ → Bool → Call → Place → Ent
 entry_at s past p flick c at =
     let a : Access = valued s past flick (access_at c at.part at.run) in
     record { process = p; access = Some a; marks = map (placed (length (history s past))) (marks_of c at (value_of a.how)) }
-
--- a process that runs
-abbrev pub is_running : Stage → Bool
-is_running stage.Doorway = true
-is_running stage.Waiting = true
-is_running stage.Inside = true
-is_running stage.Leaving = true
-is_running _ = false

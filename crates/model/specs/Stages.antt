@@ -36,3 +36,56 @@ inside_after is _ = is
 abbrev pub inside : ℕ → Past → Bool
 inside p [] = false
 inside p (e ∷ past) = cond (e.process == p) (fold inside_after (inside p past) e.marks) (inside p past)
+
+-- THE KINDS OF STAGES
+
+-- the process waits, with a ticket
+abbrev pub is_waiting_stage : Stage → Bool
+is_waiting_stage Waiting = true
+is_waiting_stage _ = false
+
+-- the process is in its doorway
+abbrev pub is_in_doorway : Stage → Bool
+is_in_doorway Doorway = true
+is_in_doorway _ = false
+
+-- the process is in its doorway or waits
+abbrev pub is_at_door : Stage → Bool
+is_at_door Doorway = true
+is_at_door Waiting = true
+is_at_door _ = false
+
+-- the process clears its ticket
+abbrev pub is_leaving : Stage → Bool
+is_leaving Leaving = true
+is_leaving _ = false
+
+-- the process has a call, and has not failed in it
+abbrev pub is_running : Stage → Bool
+is_running Doorway = true
+is_running Waiting = true
+is_running Inside = true
+is_running Leaving = true
+is_running _ = false
+
+-- the process has failed, and its memory unit is at work
+abbrev pub is_settling : Stage → Bool
+is_settling Settling = true
+is_settling _ = false
+
+-- the memory unit of the process is done
+abbrev pub is_down : Stage → Bool
+is_down Down = true
+is_down _ = false
+
+-- the process is idle or down
+abbrev pub is_at_rest : Stage → Bool
+is_at_rest Idle = true
+is_at_rest Down = true
+is_at_rest _ = false
+
+-- the process, or its memory unit, has a next step
+abbrev pub is_at_work : Stage → Bool
+is_at_work Idle = false
+is_at_work Down = false
+is_at_work _ = true

@@ -1,6 +1,6 @@
 -- The failure rule (this project's own): what the memory unit of a failed process does.
 use Rattle.std.specs.Prelude.{ℕ, ◌+◌, ◌*◌, ◌==◌, Bool, true, false, not, ◌&&◌, List, [], ◌∷◌, ◌++◌, map, Option, None, Some, cond, if◌then◌else◌}
-use Rattle.safe_bit.specs.{Move}
+use Rattle.safe_bit.specs.{is_begin_of_write}
 use Rattle.safe_bit.specs.declared.Move.TheVariants.{BeginWrite, EndWrite, BeginRead, EndRead, Settle}
 use Rattle.reader_copies.specs.{settles_from}
 use Rattle.model.specs.declared.access.Access.{Access}
@@ -43,14 +43,9 @@ value_begun (e ∷ past) = elim e.access [
   ]
 ]
 
--- a write begins
-abbrev pub is_begin : Move → Bool
-is_begin (BeginWrite v) = true
-is_begin _ = false
-
 -- a bit is finished if its write has ended on every copy
 abbrev pub is_finished : ℕ → Access → Bool
-is_finished n a = not (is_begin a.how) && (a.reader + 1 == n)
+is_finished n a = not (is_begin_of_write a.how) && (a.reader + 1 == n)
 
 -- the last access of a write, if it leaves its bit unfinished
 abbrev pub unfinished : ℕ → Option Access → Option Access
@@ -59,7 +54,7 @@ unfinished n (Some a) = cond (is_finished n a) None (Some a)
 
 -- how many accesses of its bit's write were made, with this one
 abbrev pub made_with : Access → ℕ
-made_with a = 2 * a.reader + (if is_begin a.how then 1 else 2)
+made_with a = 2 * a.reader + (if is_begin_of_write a.how then 1 else 2)
 
 -- v is written on every copy of the bit of a; where its write is open, it is settled there
 abbrev pub settle_of : ℕ → ℕ → Bool → Access → List Access

@@ -4,7 +4,7 @@ use Rattle.std.proofs.Math.Nat.{mul-suc}
 use Rattle.std.proofs.lemmas.Bool.{ne_eqb, eqb-true}
 use Rattle.std.proofs.lemmas.List.{length_push}
 use Rattle.plain_store.specs.{Command, Setup}
-use Rattle.model.specs.{Call, Mark, Place, Reading, Run, Stage, Writing, bit_written, bits_with, enter, is_fresh, is_last, is_queued, is_waiting_stage, place_after, run_after, width}
+use Rattle.model.specs.{Call, Mark, Place, Reading, Run, Stage, Writing, bit_written, bits_with, enter, is_fresh, is_last, is_at_door, is_waiting_stage, place_after, run_after, width}
 use Rattle.model.specs.reader_copies.Runs as copies
 use Rattle.model.specs.safe_number.{NumberWrite, write_on}
 use Rattle.model.specs.declared.stages.Stage.TheVariants as stage
@@ -212,7 +212,7 @@ stage-same f same (Clears answer) false false = refl
 stage-same f same Over a b = refl
 
 stays-by : (now : ProcessState) (d : Doing) (flick v : Bool) → 0 < remaining_at (does now d) →
-    (is_waiting_stage (stage_doing (does_then now.setup now.process d flick v)) ≡ is_waiting_stage (stage_doing d)) × (is_queued (stage_doing (does_then now.setup now.process d flick v)) ≡ is_queued (stage_doing d))
+    (is_waiting_stage (stage_doing (does_then now.setup now.process d flick v)) ≡ is_waiting_stage (stage_doing d)) × (is_at_door (stage_doing (does_then now.setup now.process d flick v)) ≡ is_at_door (stage_doing d))
 stays-by now Rests flick v more = (refl, refl)
 stays-by now Lies flick v more = (refl, refl)
 stays-by now (Closes command number at) flick v more = absurd (omega (arith, more))
@@ -221,10 +221,10 @@ stays-by now (Runs command number at) flick v more =
     let live = live-by (is_over at.part) (remaining_of c at.part at.run) more in
     let then = remaining-runs now.setup now.process command number at flick v live.0 live.1 in (
       ap (λ d. is_waiting_stage (stage_doing d)) then ∙ stage-same is_waiting_stage refl at.part (is_fresh (run_after c at.part at.run v)) (is_fresh at.run),
-      ap (λ d. is_queued (stage_doing d)) then ∙ stage-same is_queued refl at.part (is_fresh (run_after c at.part at.run v)) (is_fresh at.run),
+      ap (λ d. is_at_door (stage_doing d)) then ∙ stage-same is_at_door refl at.part (is_fresh (run_after c at.part at.run v)) (is_fresh at.run),
     )
 
 -- whether it waits, and whether it is in its doorway or waits, is the same after the access as before
 pub remaining-stays : (now : ProcessState) (flick v : Bool) → 0 < remaining_at now →
-    (is_waiting_stage (stage_doing (stepped now flick v).doing) ≡ is_waiting_stage (stage_doing now.doing)) × (is_queued (stage_doing (stepped now flick v).doing) ≡ is_queued (stage_doing now.doing))
+    (is_waiting_stage (stage_doing (stepped now flick v).doing) ≡ is_waiting_stage (stage_doing now.doing)) × (is_at_door (stage_doing (stepped now flick v).doing) ≡ is_at_door (stage_doing now.doing))
 remaining-stays now flick v more = stays-by now now.doing flick v more

@@ -1,6 +1,6 @@
 //! The state of one process.
 ghost use Rattle.std.specs.Prelude.{◌≡◌, ◌<◌, ℕ, [], IfSome, None, Ok, Some, cond};
-ghost use Rattle.model.specs.{Field, is_queued, is_read, is_waiting_stage, read_at};
+ghost use Rattle.model.specs.{Field, is_at_door, is_read, is_waiting_stage, read_at};
 ghost use Rattle.plain_store.specs.{checked};
 ghost use Rattle.laws.specs.{is_inside, reads_of};
 ghost use Rattle.process.specs.Places.{called, changes_pending, may_step, process_after, restarted, stage_doing};
@@ -94,15 +94,15 @@ impl Process {
     pub fn is_waiting(&self) -> bool
         ensures { result ≡ is_waiting_stage (stage_doing self.now.doing) }
     {
-        matches!(self.stage(), Stage::Waiting)
+        self.stage().is_waiting()
     }
 
     /// Returns whether it is in its doorway or waits.
     #[inline]
     pub fn is_at_door(&self) -> bool
-        ensures { result ≡ is_queued (stage_doing self.now.doing) }
+        ensures { result ≡ is_at_door (stage_doing self.now.doing) }
     {
-        matches!(self.stage(), Stage::Doorway | Stage::Waiting)
+        self.stage().is_at_door()
     }
 
     /// Returns whether it, or its memory unit on its behalf, is inside the critical section.

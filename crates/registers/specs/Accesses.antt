@@ -1,7 +1,7 @@
 -- A single access of a cursor, and several accesses.
 use Rattle.std.specs.Prelude.{◌≡◌, ℕ, zero, suc, ◌+◌, ◌==◌, ◌&&◌, ◌||◌, Bool, true, false, not, if◌then◌else◌, List, [], ◌∷◌, ◌++◌, Option, Some, unwrap_or, slice_index_or}
 use Rattle.safe_bit.specs.Cell.{Cell, read_answer}
-use Rattle.safe_bit.specs.{Move}
+use Rattle.safe_bit.specs.{Move, is_end_of_read}
 use Rattle.safe_bit.specs.declared.moves.Move.TheVariants.{BeginWrite, EndWrite, BeginRead, EndRead, Settle}
 use Rattle.reader_copies.specs.{is_open_at}
 use Rattle.choices.specs.{FlickState, flick_of, after_flick, flicks_after}
@@ -122,14 +122,9 @@ access_of (c, memory, flicks) = made_by c memory flicks (access_next (c, memory,
 
 -- THE END OF A READ THAT A WRITE OVERLAPPED
 
--- a move ends a read
-abbrev pub ends_read : Move → Bool
-ends_read (EndRead v) = true
-ends_read _ = false
-
 -- the move ends a read of a copy on which a write was open when the read began, or has begun since
 abbrev pub ends_touched : Cell → Move → Bool
-ends_touched c how = ends_read how && c.touched
+ends_touched c how = is_end_of_read how && c.touched
 
 -- an access ends such a read, in a memory with `copies` copies of each bit
 abbrev pub ends_overlapped : ℕ → List (List Cell) → Access → Bool

@@ -1,7 +1,7 @@
 -- Whether the doorway of a process's last call has begun, before and after an entry.
 use Rattle.std.proofs.Common.{◌≡◌, ◌≢◌, ℕ, ◌==◌, ◌&&◌, ◌||◌, Bool, true, false, cond, not, List, [], ◌∷◌, Option, Some, None, is_some, length, refl, sym, ap, subst, ◌∙◌, true≢false, eqb-true, eq-eqb, ne_eqb}
 use Rattle.model.specs.safe_bit.{Move}
-use Rattle.model.specs.{Access, Asks, AsksCommit, AsksImage, AsksStamp, Call, Clears, Closing, Ended, Entry, Event, Field, Frees, Over, Part, Past, Place, Quit, Raises, Refuses, Settles, TakesTicket, Waits, Withdraws, WritesCommit, WritesImage, WritesStamp, begins_doorway, closing_after, doorway_begin, entry_of, first_of, freeing, has, is_called, is_fresh, is_last_settled, is_last_written, is_over, is_queued, no_ticket, number_in_call, past-induction, past_of, place_after, raises, value_of, write_moved}
+use Rattle.model.specs.{Access, Asks, AsksCommit, AsksImage, AsksStamp, Call, Clears, Closing, Ended, Entry, Event, Field, Frees, Over, Part, Past, Place, Quit, Raises, Refuses, Settles, TakesTicket, Waits, Withdraws, WritesCommit, WritesImage, WritesStamp, begins_doorway, closing_after, doorway_begin, entry_of, first_of, freeing, has, is_called, is_fresh, is_last_settled, is_last_written, is_over, is_at_door, no_ticket, number_in_call, past-induction, past_of, place_after, raises, value_of, write_moved}
 use Rattle.model.specs.declared.access.Field.TheVariants.{Choosing, Ticket, Commit, Stamp0, Stamp1, Image0, Image1}
 use Rattle.model.specs.safe_number.{new_write}
 use Rattle.plain_store.specs.{Command, Setup}
@@ -170,7 +170,7 @@ announced-is s g events p = past-induction AllAnnounced s (λ g p. tt) more even
 -- The effect of one entry.
 
 -- a part of a call: its first access begins the doorway, and after that it has begun
-door-part : (x : Part) (fresh begun : Bool) → (has_begun x fresh ≡ true → begun ≡ true) → (begun || (is_raising x && fresh)) ≡ (begun || is_queued (part.stage_of x fresh))
+door-part : (x : Part) (fresh begun : Bool) → (has_begun x fresh ≡ true → begun ≡ true) → (begun || (is_raising x && fresh)) ≡ (begun || is_at_door (part.stage_of x fresh))
 door-part Raises true begun h = refl
 door-part Raises false begun h = ap (λ b. b || false) (h refl) ∙ sym (ap (λ b. b || true) (h refl))
 door-part (Asks j js ts) fresh begun h = ap (λ b. b || false) (h refl) ∙ sym (ap (λ b. b || true) (h refl))
@@ -201,7 +201,7 @@ other-raises _ m false begun h = refl
 
 -- a closing does not begin a doorway that has not begun
 closing-part : (s : Setup) (p : ℕ) (command : Command) (number : ℕ) (at : Closing) (a : Access) (begun : Bool) → Announced (Closes command number at) begun →
-    (begun || begins_at (Closes command number at) a) ≡ (begun || is_queued (stage_doing (Closes command number at)))
+    (begun || begins_at (Closes command number at) a) ≡ (begun || is_at_door (stage_doing (Closes command number at)))
 closing-part s p command number (Withdraws w) a begun h = refl
 closing-part s p command number (Settles f bit by taken is t) a begun h = other-raises f a.how (a.reader == 0) begun h
 closing-part s p command number (Frees is w) a begun h = refl
@@ -213,7 +213,7 @@ closing-part s p command number Ended a begun h = refl
 begun-happens : (s : Setup) → IsGood s → (events : List Event) (e : Entry) (d d' : Doing)
     → let past : Past = past_of s events in
     let begun : Bool = is_some (doorway_begin e.process past) in
-    d ≡ doing s e.process past → Announced d begun → Happens s past e.process e d d' → (begun || begins_with e.access d) ≡ (begun || (is_some e.access && is_queued (stage_doing d)))
+    d ≡ doing s e.process past → Announced d begun → Happens s past e.process e d d' → (begun || begins_with e.access d) ≡ (begun || (is_some e.access && is_at_door (stage_doing d)))
 begun-happens s g events e d d' at a h = go h
   where
     past : Past
@@ -223,7 +223,7 @@ begun-happens s g events e d d' at a h = go h
     begun = is_some (doorway_begin e.process past)
 
     door : Bool
-    door = is_queued (stage_doing d)
+    door = is_at_door (stage_doing d)
 
     none : e.access ≡ None → (begun || begins_with e.access d) ≡ (begun || (is_some e.access && door))
     none k = ap (λ o. begun || begins_with o d) k ∙ sym (ap (λ (o : Option Access). begun || (is_some o && door)) k)
@@ -239,17 +239,17 @@ begun-happens s g events e d d' at a h = go h
     go (a_step command number here x flick was over access is marks then) = some x access
         (ap (λ d. begun || begins_at d x) was
         ∙ door-part here.part (is_fresh here.run) begun (begun-at s g events e.process command number here (sym at ∙ was))
-        ∙ sym (ap (λ d. begun || is_queued (stage_doing d)) was))
+        ∙ sym (ap (λ d. begun || is_at_door (stage_doing d)) was))
     go (a_closing command number here flick n was next access same marks then) = some n.access access
         (ap (λ d. begun || begins_at d n.access) was
         ∙ closing-part s e.process command number here n.access begun (subst (λ d. Announced d begun) was a)
-        ∙ sym (ap (λ d. begun || is_queued (stage_doing d)) was))
+        ∙ sym (ap (λ d. begun || is_at_door (stage_doing d)) was))
 
 -- After a call the doorway has not begun. A step of a process that is in its doorway or waits begins it, if it has not begun. Nothing else changes it.
 pub begun-after : (s : Setup) → IsGood s → (events : List Event) (what : Event) (e : Entry) → entry_of s (past_of s events) what ≡ Some e
     → let past : Past = past_of s events in
     let p : ℕ = e.process in
-    is_some (doorway_begin p (e ∷ past)) ≡ cond (has is_called e) false (is_some (doorway_begin p past) || (is_some e.access && is_queued (stage_doing (doing s p past))))
+    is_some (doorway_begin p (e ∷ past)) ≡ cond (has is_called e) false (is_some (doorway_begin p past) || (is_some e.access && is_at_door (stage_doing (doing s p past))))
 begun-after s g events what e h =
     let past : Past = past_of s events in
     let p : ℕ = e.process in

@@ -2,7 +2,7 @@
 use Rattle.std.proofs.Common.{◌≡◌, ℕ, ◌≤◌, ◌&&◌, true, false, List, [], Ok, sym, ap, ◌∙◌, arith}
 use Rattle.plain_store.specs.{Setup, checked}
 use Rattle.plain_store.proofs.GoodSetups.{few-processes}
-use Rattle.model.specs.{Event, Past, ahead, doorway_begin, doorway_end, is_ahead, is_before, is_queued, is_waiting_stage, past_of, stage}
+use Rattle.model.specs.{Event, Past, ahead, doorway_begin, doorway_end, is_ahead, is_before, is_at_door, is_waiting_stage, past_of, stage}
 use Rattle.model.proofs.Width.{IsGood, is_good}
 use Rattle.laws.proofs.Doings.{stage_of}
 use Rattle.laws.proofs.FrameInside.{stage-is}
@@ -19,8 +19,8 @@ above s g events j p l =
 -- the processes ahead of one that is in its doorway or waits are those that its seat keeps
 pub ahead-listed : (s : Setup) → checked s ≡ Ok tt → (events : List Event) (p : ℕ)
     → let past : Past = past_of s events in
-    ahead s p past ≡ elim (is_queued (stage p past)) as (λ _. List ℕ) [ true ↦ listed (waiting_before past p) | false ↦ [] ]
+    ahead s p past ≡ elim (is_at_door (stage p past)) as (λ _. List ℕ) [ true ↦ listed (waiting_before past p) | false ↦ [] ]
 ahead-listed s good events p =
     let past : Past = past_of s events in
-    ap (λ l. elim (is_queued (stage p past)) as (λ _. List ℕ) [ true ↦ l | false ↦ [] ])
+    ap (λ l. elim (is_at_door (stage p past)) as (λ _. List ℕ) [ true ↦ l | false ↦ [] ])
     (longer-range (λ j. is_ahead past j p) 0 s.processes 16 (few-processes s good) (λ j l. above s (is_good s good) events j p (omega (arith, l))) ∙ sym (listed-range (λ j. is_ahead past j p) 0 16))

@@ -3,7 +3,7 @@ use Rattle.std.proofs.Common.{◌≡◌, ℕ, Bool, true, false, cond, List, [],
 use Rattle.std.specs.Prelude.{slice_get}
 use Rattle.plain_store.specs.{Setup}
 use Rattle.model.specs.declared.events.Event.TheVariants as event
-use Rattle.model.specs.{ahead, is_queued, past_of, stage}
+use Rattle.model.specs.{ahead, is_at_door, past_of, stage}
 use Rattle.model.proofs.Width.{is_good}
 use Rattle.laws.proofs.AheadLists.{queued-only}
 use Rattle.laws.proofs.Doings.{stage_of}
@@ -30,7 +30,7 @@ stage-beyond c p none taken events shows =
 pub ahead-there : (c : CoreState) (p : ℕ) (seat : Seat) (queued : Bool) → slice_get c.seats p ≡ Some seat → is_at_door seat ≡ queued →
     InEachCorePast c (λ s past. elim queued as (λ _. List ℕ) [ true ↦ listed seat.before | false ↦ [] ] ≡ ahead s p past)
 ahead-there c p seat queued there h taken events shows =
-    let stands : is_queued (stage p (past_of c.setup events)) ≡ queued = ap is_queued (sym (stage-reported c taken events (event.Fail p) seat shows there)) ∙ h in
+    let stands : is_at_door (stage p (past_of c.setup events)) ≡ queued = ap is_at_door (sym (stage-reported c taken events (event.Fail p) seat shows there)) ∙ h in
     let before = ap (λ (x : Seat). x.before) (seat-shown (with_history c taken) events p seat shows there) in
     sym (ahead-listed c.setup shows.good events p ∙ (λ i. elim (stands i) as (λ _. List ℕ) [ true ↦ listed (sym before i) | false ↦ [] ]))
 
@@ -39,4 +39,4 @@ pub ahead-beyond : (c : CoreState) (p : ℕ) → slice_get c.seats p ≡ None �
 ahead-beyond c p none taken events shows =
     let s : Setup = c.setup in
     let g = is_good s shows.good in
-    sym (queued-only s p (past_of s events) (ap is_queued (stage-is s g events p ∙ ap stage_of (doing-above s g events p (seatless (with_history c taken) events p shows none)))))
+    sym (queued-only s p (past_of s events) (ap is_at_door (stage-is s g events p ∙ ap stage_of (doing-above s g events p (seatless (with_history c taken) events p shows none)))))

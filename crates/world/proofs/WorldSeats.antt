@@ -5,7 +5,7 @@ use Rattle.std.proofs.lemmas.List.{get_or-set_same}
 use Rattle.std.proofs.lemmas.List.FromFn.{length-map-range_with_len, get_or-map-range_with_len}
 use Rattle.std.specs.List.{list_any}
 use Rattle.plain_store.specs.{Command, Setup, checked}
-use Rattle.model.specs.{Entry, Event, Mark, Past, call_number, called_in, calls_in, doorway_begin, entry_of, has, is_ahead, is_called, is_queued, is_waiting_stage, last_command, own, past_of, processes, stage}
+use Rattle.model.specs.{Entry, Event, Mark, Past, call_number, called_in, calls_in, doorway_begin, entry_of, has, is_ahead, is_called, is_at_door, is_waiting_stage, last_command, own, past_of, processes, stage}
 use Rattle.model.specs.declared.marks.Mark.TheVariants.{Called}
 use Rattle.model.proofs.Width.{IsGood, is_good}
 use Rattle.laws.specs.{Doing, doing}
@@ -92,16 +92,16 @@ pub begun-kept : (s : Setup) → IsGood s → (events : List Event) (what : Even
 begun-kept s g events what e h none called =
     let past : Past = past_of s events in
     let was : Bool = is_some (doorway_begin e.process past) in
-    let door : Bool = is_queued (stage_doing (doing s e.process past)) in
+    let door : Bool = is_at_door (stage_doing (doing s e.process past)) in
     sym (begun-after s g events what e h ∙ ap (λ b. cond b false (was || (is_some e.access && door))) called ∙ ap (λ a. was || (is_some a && door)) none ∙ or-false was)
 
 -- an entry with an access may begin the doorway
 pub begun-stepped : (s : Setup) → IsGood s → (events : List Event) (what : Event) (e : Entry) → entry_of s (past_of s events) what ≡ Some e → is_some e.access ≡ true → has is_called e ≡ false →
-    (is_some (doorway_begin e.process (past_of s events)) || is_queued (stage_doing (doing s e.process (past_of s events)))) ≡ is_some (doorway_begin e.process (e ∷ past_of s events))
+    (is_some (doorway_begin e.process (past_of s events)) || is_at_door (stage_doing (doing s e.process (past_of s events)))) ≡ is_some (doorway_begin e.process (e ∷ past_of s events))
 begun-stepped s g events what e h some called =
     let past : Past = past_of s events in
     let was : Bool = is_some (doorway_begin e.process past) in
-    let door : Bool = is_queued (stage_doing (doing s e.process past)) in
+    let door : Bool = is_at_door (stage_doing (doing s e.process past)) in
     sym (begun-after s g events what e h ∙ ap (λ b. cond b false (was || (is_some e.access && door))) called ∙ ap (λ a. was || (a && door)) some)
 
 -- a process that starts to wait is not ahead of itself, because its doorway had begun
@@ -119,7 +119,7 @@ begun-before s g good events what e h called was is = begun ∙ sym (begun-after
     began = is_some (doorway_begin p past)
 
     door : Bool
-    door = is_queued (stage_doing (doing s p past))
+    door = is_at_door (stage_doing (doing s p past))
 
     small : p < 16
     small = let few = few-processes s good in let below : p < s.processes = (accepted s g events what e h).below in omega (arith, few, below)

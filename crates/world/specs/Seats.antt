@@ -2,7 +2,7 @@
 use Rattle.std.specs.Prelude.{ℕ, Bool, false, ◌||◌, List, is_some, map}
 use Rattle.std.specs.List.{range_with_len}
 use Rattle.plain_store.specs.{Command, Setup}
-use Rattle.model.specs.{Past, doorway_begin, is_ahead, is_queued, is_waiting_stage}
+use Rattle.model.specs.{Past, doorway_begin, is_ahead, is_at_door, is_waiting_stage}
 use Rattle.process.specs.{ProcessState, called, process_after, stage_doing}
 -- the process, whether the doorway of its last call has begun, and which processes wait in a doorway before it
 pub use Rattle.world.specs.declared.seats.Seat.{Seat}
@@ -13,7 +13,7 @@ is_waiting seat = is_waiting_stage (stage_doing seat.process.doing)
 
 -- the process of the seat is in its doorway or waits
 abbrev pub is_at_door : Seat → Bool
-is_at_door seat = is_queued (stage_doing seat.process.doing)
+is_at_door seat = is_at_door (stage_doing seat.process.doing)
 
 -- the seat with this new state of its process
 abbrev pub seat_with : ProcessState → Seat → Seat
