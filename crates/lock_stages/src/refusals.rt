@@ -52,16 +52,12 @@ fn mark_refusal(stage: LockStage, is_open: bool, mark: LockMark) -> Option<LockM
     ensures { result ≡ mark_refusal stage is_open mark }
 {
     match mark {
-        LockMark::Call => { (!matches!(stage, LockStage::Idle)).then_some(LockMarkRefusal::Busy) }
-        LockMark::Wait => {
-            (!matches!(stage, LockStage::Doorway)).then_some(LockMarkRefusal::NotInDoorway)
+        LockMark::Call => (!stage.is_idle()).then_some(LockMarkRefusal::Busy),
+        LockMark::Wait => (!stage.is_in_doorway()).then_some(LockMarkRefusal::NotInDoorway),
+        LockMark::Enter => {
+            (!(stage.is_in_doorway() || stage.is_waiting())).then_some(LockMarkRefusal::NotTrying)
         }
-        LockMark::Enter => (!matches!(stage, LockStage::Doorway | LockStage::Waiting)).then_some(
-            LockMarkRefusal::NotTrying,
-        ),
-        LockMark::Leave => {
-            (!matches!(stage, LockStage::Inside)).then_some(LockMarkRefusal::NotInside)
-        }
+        LockMark::Leave => (!stage.is_inside()).then_some(LockMarkRefusal::NotInside),
         LockMark::Answer => answer_refusal(stage, is_open),
     }
 }
@@ -70,7 +66,7 @@ fn mark_refusal(stage: LockStage, is_open: bool, mark: LockMark) -> Option<LockM
 fn answer_refusal(stage: LockStage, is_open: bool) -> Option<LockMarkRefusal>
     ensures { result ≡ mark_refusal stage is_open Answer }
 {
-    if !matches!(stage, LockStage::Doorway | LockStage::Leaving) {
+    if !(stage.is_in_doorway() || stage.is_leaving()) {
         Some(LockMarkRefusal::NotLeaving)
     } else if is_open {
         Some(LockMarkRefusal::AccessOpen)

@@ -1,7 +1,7 @@
 //! The state of one process, updated access by access and mark by mark.
 ghost use Rattle.std.specs.Prelude.{◌≡◌};
 ghost use Rattle.lock_stages.specs.Keeping.{accessed, at_rest, marked, process_state_after};
-ghost use Rattle.lock_stages.specs.Refusals.{is_idle as has_no_call};
+ghost use Rattle.lock_stages.specs.Refusals.{is_idle, is_in_doorway, is_inside, is_leaving, is_waiting};
 ghost use Rattle.lock_stages.specs.States.{passage_marked};
 
 use crate::order::HasPassage;
@@ -102,8 +102,36 @@ fn mark_passage(passage: &mut Passage, entry: u64, mark: LockMark)
 impl LockStage {
     /// Returns whether the process has no call.
     pub fn is_idle(self) -> bool
-        ensures { result ≡ has_no_call self }
+        ensures { result ≡ is_idle self }
     {
         matches!(self, LockStage::Idle)
+    }
+
+    /// Returns whether the process is in its doorway.
+    pub fn is_in_doorway(self) -> bool
+        ensures { result ≡ is_in_doorway self }
+    {
+        matches!(self, LockStage::Doorway)
+    }
+
+    /// Returns whether the doorway of the process has ended, and it has not entered.
+    pub fn is_waiting(self) -> bool
+        ensures { result ≡ is_waiting self }
+    {
+        matches!(self, LockStage::Waiting)
+    }
+
+    /// Returns whether the process is inside the critical section.
+    pub fn is_inside(self) -> bool
+        ensures { result ≡ is_inside self }
+    {
+        matches!(self, LockStage::Inside)
+    }
+
+    /// Returns whether the process has left the critical section, and its call has not ended.
+    pub fn is_leaving(self) -> bool
+        ensures { result ≡ is_leaving self }
+    {
+        matches!(self, LockStage::Leaving)
     }
 }
