@@ -7,7 +7,7 @@ pub mod Shown
 pub mod Tables
 pub use CellNames.{begins_with_digit, is_cell_name}
 pub use Entries.{TraceEntry, TracePast, trace_entry}
-pub use Moves.{access_reading, begins, changes, ends, fits, is_part, move_reading, only_writes, value_read, value_written, values}
+pub use Moves.{access_reading, alters, begins, begins_read, changes, ends, ends_read, fits, is_part, move_reading, only_writes, reads, value_read, value_written, values, writes}
 pub use Setups.{TraceSetup, is_atomic, is_register, is_trace_setup, most_bits}
 pub use Shown.{access_if, access_text, cell_text, lock_mark_text, marks_text, move_text, register_name, trace_entry_line}
 pub use Tables.{first_that}

@@ -39,6 +39,41 @@ changes (Add addend gives) = true
 changes (Cas expected new gives) = true
 changes _ = false
 
+-- a move begins a read, which may end with it
+abbrev pub reads : CellMove → Bool
+reads Read = true
+reads (Get v) = true
+reads (Swap new gives) = true
+reads (Add addend gives) = true
+reads (Cas expected new gives) = true
+reads _ = false
+
+-- a move begins a write, which may end with it
+abbrev pub writes : CellMove → Bool
+writes (Write v) = true
+writes (Set v) = true
+writes (Swap new gives) = true
+writes (Add addend gives) = true
+writes (Cas expected new gives) = true
+writes _ = false
+
+-- a move begins or ends a write
+abbrev pub alters : CellMove → Bool
+alters Read = false
+alters (Value v) = false
+alters (Get v) = false
+alters _ = true
+
+-- a move begins a read that ends later
+abbrev pub begins_read : CellMove → Bool
+begins_read Read = true
+begins_read _ = false
+
+-- a move ends a read that began earlier
+abbrev pub ends_read : CellMove → Bool
+ends_read (Value v) = true
+ends_read _ = false
+
 -- the value of a write that begins
 abbrev pub value_written : CellMove → Option ℕ
 value_written (Write v) = Some v

@@ -1,6 +1,6 @@
 //! The properties of moves.
 ghost use Rattle.std.specs.Prelude.{◌≡◌, ◌≤◌, ◌^◌, nat_lt};
-ghost use Rattle.trace.specs.Moves.{access_reading, begins, changes, ends, fits, is_part, move_reading, only_writes, value_read, value_written};
+ghost use Rattle.trace.specs.Moves.{access_reading, alters, begins, begins_read, changes, ends, ends_read, fits, is_part, move_reading, only_writes, reads, value_read, value_written, writes};
 
 use crate::accesses::{CellAccess, CellMove};
 
@@ -61,6 +61,60 @@ impl CellMove {
             self,
             CellMove::Swap { .. } | CellMove::Add { .. } | CellMove::Cas { .. }
         )
+    }
+
+    /// Returns whether the move begins a read, which may end with it.
+    #[inline]
+    pub fn reads(self) -> bool
+        ensures { result ≡ reads self }
+    {
+        matches!(
+            self,
+            CellMove::Read
+                | CellMove::Get(_)
+                | CellMove::Swap { .. }
+                | CellMove::Add { .. }
+                | CellMove::Cas { .. }
+        )
+    }
+
+    /// Returns whether the move begins a write, which may end with it.
+    #[inline]
+    pub fn writes(self) -> bool
+        ensures { result ≡ writes self }
+    {
+        matches!(
+            self,
+            CellMove::Write(_)
+                | CellMove::Set(_)
+                | CellMove::Swap { .. }
+                | CellMove::Add { .. }
+                | CellMove::Cas { .. }
+        )
+    }
+
+    /// Returns whether the move begins or ends a write.
+    #[inline]
+    pub fn alters(self) -> bool
+        ensures { result ≡ alters self }
+    {
+        !matches!(self, CellMove::Read | CellMove::Value(_) | CellMove::Get(_))
+    }
+
+    /// Returns whether the move begins a read that ends later.
+    #[inline]
+    pub fn begins_read(self) -> bool
+        ensures { result ≡ begins_read self }
+    {
+        matches!(self, CellMove::Read)
+    }
+
+    /// Returns whether the move ends a read that began earlier.
+    #[inline]
+    pub fn ends_read(self) -> bool
+        ensures { result ≡ ends_read self }
+    {
+        matches!(self, CellMove::Value(_))
     }
 
     /// Returns the value of a write that begins with the move.

@@ -2,11 +2,11 @@
 use Rattle.std.proofs.Common.{◌≡◌, ℕ, nat_le, Bool, true, false, ◌&&◌, ◌||◌, cond, List, [], ◌∷◌, ◌++◌, Option, None, Some, is_some, length, refl, sym, ap, ◌∙◌, subst, inl, inr, true≢false, arith}
 use Rattle.std.proofs.lemmas.Bool.{cases_Bool}
 use Rattle.std.proofs.lemmas.Bool.Decides.{nat_tests}
-use Rattle.trace.specs.{Cell, CellAccess, CellMove, TracePast}
+use Rattle.trace.specs.{Cell, CellAccess, CellMove, TracePast, alters, writes}
 use Rattle.trace.specs.declared.accesses.CellMove.TheVariants.{Write, End, Read, Value, Set, Get, Swap, Add, Cas}
 use Rattle.trace_memory.specs.{move_on, moves_on, open_write, same_cell, with_move}
 use Rattle.trace_memory.proofs.CellPlaces.{same_cell-eq}
-use Rattle.trace_accesses.specs.{alters, row_in, rows_after, rows_with, waves_after, waves_since, with_last, writes, written_rows}
+use Rattle.trace_accesses.specs.{row_in, rows_after, rows_with, waves_after, waves_since, with_last, written_rows}
 use Rattle.trace_accesses.proofs.RowFacts.{last-other, last-same}
 
 -- A cell whose write is open was written.

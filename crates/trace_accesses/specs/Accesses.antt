@@ -3,14 +3,14 @@ use Rattle.std.specs.Prelude.{ℕ, zero, suc, ◌==◌, nat_lt, Bool, true, fals
 use Rattle.std.specs.Fmt.{decimal}
 use Rattle.std.specs.Option.{option_map_or}
 use Rattle.picture_layout.specs.{GivenAccess, GivenChange}
-use Rattle.trace.specs.{CellAccess, CellMove, TraceEntry, TracePast, TraceRegister, TraceSetup, cell_text, ends}
+use Rattle.trace.specs.{CellAccess, CellMove, TraceEntry, TracePast, TraceRegister, TraceSetup, alters, cell_text, ends, writes}
 use Rattle.trace_memory.specs.{CellState, MadeAccess, cell_after, has_cell, number_of, opened, same_cell}
 use Rattle.picture_layout.specs.declared.limits.WaveCount.{WaveCount}
 use Rattle.picture_layout.specs.declared.limits.WaveCount.TheVariants.{Sixteen, All}
 use Rattle.picture_layout.specs.declared.limits.WaveLimit.{WaveLimit}
 use Rattle.trace_accesses.specs.declared.monitored.RowChange.{RowChange}
 use Rattle.trace_accesses.specs.declared.monitored.MonitoredAccess.{MonitoredAccess}
-use Rattle.trace_accesses.specs.Moves.{alters, kind_of, step_of, writes}
+use Rattle.trace_accesses.specs.Moves.{kind_of, step_of}
 use Rattle.trace_accesses.specs.Rows.{row_in, waves_since}
 use Rattle.trace_accesses.specs.Words.{words_of}
 

@@ -1,11 +1,10 @@
 -- What is kept of the entries so far.
 use Rattle.std.specs.Prelude.{◌≡◌, ℕ, ◌+◌, ◌*◌, ◌≤◌, Bool, true, false, ◌&&◌, ◌||◌, IsTrue, List, [], ◌∷◌, cond, get_or, length, replicate, slice_set, Option, None, Some, is_none}
 use Rattle.std.specs.Option.{option_map_or}
-use Rattle.trace.specs.{Cell, CellAccess, TracePast, TraceSetup, is_trace_setup}
+use Rattle.trace.specs.{Cell, CellAccess, TracePast, TraceSetup, is_trace_setup, writes}
 use Rattle.trace_memory.specs.{HasMade, MemoryState, OpenAccess, has_cell, place_of, same_cell}
 use Rattle.picture_layout.specs.declared.limits.WaveLimit.{WaveLimit}
 use Rattle.trace_accesses.specs.Accesses.{possible_past}
-use Rattle.trace_accesses.specs.Moves.{writes}
 use Rattle.trace_accesses.specs.Rows.{row_in, waves_since}
 
 -- Open accesses, as memory keeps them.

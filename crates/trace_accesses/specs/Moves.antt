@@ -1,5 +1,4 @@
 -- How a picture shows a move.
-use Rattle.std.specs.Prelude.{Bool, true, false}
 use Rattle.picture_layout.specs.{AccessKind, AccessStep}
 use Rattle.picture_layout.specs.declared.accesses.AccessKind.TheVariants as kind
 use Rattle.picture_layout.specs.declared.accesses.AccessStep.TheVariants as step
@@ -29,27 +28,3 @@ step_of (Get v) = step.Whole
 step_of (Swap new gives) = step.Whole
 step_of (Add addend gives) = step.Whole
 step_of (Cas expected new gives) = step.Whole
-
--- it begins a write, which may end with it
-abbrev pub writes : CellMove → Bool
-writes (Write v) = true
-writes End = false
-writes Read = false
-writes (Value v) = false
-writes (Set v) = true
-writes (Get v) = false
-writes (Swap new gives) = true
-writes (Add addend gives) = true
-writes (Cas expected new gives) = true
-
--- it begins or ends a write
-abbrev pub alters : CellMove → Bool
-alters (Write v) = true
-alters End = true
-alters Read = false
-alters (Value v) = false
-alters (Set v) = true
-alters (Get v) = false
-alters (Swap new gives) = true
-alters (Add addend gives) = true
-alters (Cas expected new gives) = true

@@ -1,8 +1,7 @@
 -- The cells that were written, and the rows of waves: the cells that entries from one number on give a wave.
 use Rattle.std.specs.Prelude.{ℕ, ◌+◌, nat_le, Bool, ◌&&◌, ◌||◌, List, [], ◌∷◌, ◌++◌, cond, length, option_map, Option, None, Some, is_some}
-use Rattle.trace.specs.{Cell, CellAccess, CellMove, TracePast}
+use Rattle.trace.specs.{Cell, CellAccess, CellMove, TracePast, alters, writes}
 use Rattle.trace_memory.specs.{moves_on, open_write, same_cell}
-use Rattle.trace_accesses.specs.Moves.{alters, writes}
 
 -- the next row
 abbrev pub row_below : ℕ → ℕ

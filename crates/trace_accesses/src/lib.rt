@@ -16,7 +16,7 @@
 //! |---|---|
 //! | `limits` | how many waves are shown |
 //! | `making` | one access, and what is kept after it |
-//! | `moves` | the kind and the step of a move, and whether it writes |
+//! | `moves` | the kind and the step of a move |
 //! | `overlaps` | where an access began, and which open accesses it overlaps |
 //! | `possible` | which accesses are shown |
 //! | `rows` | which cells have waves, and the row of each wave |

@@ -3,7 +3,6 @@ ghost use Rattle.std.specs.Prelude.{◌≡◌, option_and_then};
 ghost use Rattle.trace_accesses.specs.Accesses.{change_in_row, change_of};
 
 use crate::limits::has_row;
-use crate::moves::alters;
 use picture_layout::WaveCount;
 use trace::{CellAccess, CellMove};
 use trace_memory::CellState;
@@ -50,7 +49,7 @@ pub(crate) fn change(
 ) -> Option<RowChange>
     ensures { result ≡ change_of count row how before.now after.now }
 {
-    if !alters(how) {
+    if !how.alters() {
         return None;
     }
     match row {

@@ -1,6 +1,6 @@
 //! How a picture shows a move.
 ghost use Rattle.std.specs.Prelude.{◌≡◌};
-ghost use Rattle.trace_accesses.specs.Moves.{alters as is_altering, kind_of, step_of, writes as is_writing};
+ghost use Rattle.trace_accesses.specs.Moves.{kind_of, step_of};
 
 use picture_layout::{AccessKind, AccessStep};
 use trace::CellMove;
@@ -29,25 +29,4 @@ pub(crate) fn step(how: CellMove) -> AccessStep
         | CellMove::Add { .. }
         | CellMove::Cas { .. } => AccessStep::Whole,
     }
-}
-
-/// Returns whether a move begins a write, which may end with it.
-pub(crate) fn writes(how: CellMove) -> bool
-    ensures { result ≡ is_writing how }
-{
-    matches!(
-        how,
-        CellMove::Write(_)
-            | CellMove::Set(_)
-            | CellMove::Swap { .. }
-            | CellMove::Add { .. }
-            | CellMove::Cas { .. }
-    )
-}
-
-/// Returns whether a move begins or ends a write.
-pub(crate) fn alters(how: CellMove) -> bool
-    ensures { result ≡ is_altering how }
-{
-    writes(how) || matches!(how, CellMove::End)
 }

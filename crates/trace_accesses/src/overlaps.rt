@@ -4,7 +4,6 @@ ghost use Rattle.trace_accesses.specs.Accesses.{begin_of, first_overlaps, overla
 ghost use Rattle.trace_accesses.specs.Keeping.{kept_begin as begin_of_kept, kept_overlaps as is_kept_overlap};
 ghost use Rattle.trace_memory.specs.Keeping.{OfMade};
 
-use crate::moves::writes;
 use trace::{CellAccess, CellMove};
 use trace_memory::{CellMemory, OpenAccess, same_cell};
 
@@ -77,7 +76,7 @@ fn kept_overlaps(access: &CellAccess, opened: &Option<OpenAccess>) -> bool
 {
     match opened {
         Some(kept) => {
-            same_cell(kept.cell, access.cell) && (writes(access.how) || kept.allowed.is_none())
+            same_cell(kept.cell, access.cell) && (access.how.writes() || kept.allowed.is_none())
         }
         None => false,
     }

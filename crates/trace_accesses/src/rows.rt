@@ -5,7 +5,6 @@ ghost use Rattle.trace_accesses.specs.Keeping.{no_rows, row_at, rows_begun, rows
 ghost use Rattle.trace_accesses.specs.Rows.{counts_from, waves_since, written_rows};
 ghost use Rattle.trace_memory.specs.Keeping.{place_of};
 
-use crate::moves::{alters, writes};
 use std::alloc::{AllocError, Global};
 use std::marker::Model;
 use trace::{Cell, CellMove};
@@ -82,7 +81,7 @@ impl WaveRows {
 pub(crate) fn counts(from: u64, number: u64, how: CellMove, before: &CellState) -> bool
     ensures { result ≡ counts_from from number how before.now.writing }
 {
-    number >= from && (writes(how) || (alters(how) && before.writing.is_some()))
+    number >= from && (how.writes() || (how.alters() && before.writing.is_some()))
 }
 
 /// In a picture from the first entry on, exactly the cells that were written have waves, in the order of their first writes.

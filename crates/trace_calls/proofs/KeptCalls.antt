@@ -1,10 +1,10 @@
 -- The call of a process, and what one entry more makes of it.
 use Rattle.std.proofs.Common.{◌≡◌, ℕ, ◌-◌, ◌^◌, ◌<◌, ◌==◌, Bool, true, false, not, ◌&&◌, cond, ◌∷◌, Option, None, Some, is_some, length, refl, sym, ap, ◌∙◌, arith}
-use Rattle.trace.specs.{TraceEntry, TracePast}
+use Rattle.trace.specs.{TraceEntry, TracePast, reads, writes}
 use Rattle.trace_engine.specs.trace_judge.lock_stages.{is_call, is_enter, is_wait}
 use Rattle.trace_calls.specs.declared.kept.TraceCallState.{TraceCallState}
 use Rattle.trace_calls.specs.declared.kept.TraceCall.{TraceCall}
-use Rattle.trace_calls.specs.Calls.{call_of, ended_of_process, has, is_answer, is_calling, is_leave, moves, open_call, reads, writes}
+use Rattle.trace_calls.specs.Calls.{call_of, ended_of_process, has, is_answer, is_calling, is_leave, moves, open_call}
 use Rattle.trace_calls.specs.Keeping.{AreFew, begun, call_kept, ended_between, gone_on, kept_after}
 use Rattle.trace_calls.specs.Overlaps.{overlaps_in}
 use Rattle.trace_calls.proofs.LookBacks.{at-called, at-mine, at-other, calling-called, calling-mine, calling-other, calls-called, calls-few, calls-mine, calls-other, count-called, count-few, count-mine, count-other, first-called, first-mine, first-other}

@@ -6,11 +6,11 @@ use Rattle.std.proofs.lemmas.List.{length-map}
 use Rattle.std.specs.List.{list_any}
 use Rattle.std.specs.Option.{option_map_or}
 use Rattle.trace.proofs.Lists.{slice_get-set_other, slice_get-set_same}
-use Rattle.trace.specs.{Cell, CellAccess, CellMove, LockMark, TraceEntry, TracePast, begins, trace_entry}
+use Rattle.trace.specs.{Cell, CellAccess, CellMove, LockMark, TraceEntry, TracePast, begins, begins_read, trace_entry}
 use Rattle.trace.specs.declared.accesses.CellMove.TheVariants.{Write, End, Read, Value, Set, Get, Swap, Add, Cas}
 use Rattle.trace_engine.specs.trace_judge.trace_memory.{MadeAccess, if_begun, latest_access, one_later, opened, same_cell}
 use Rattle.trace_calls.specs.Keeping.{HasOpened, OpenState, ends_kept_read, kept_move, kept_open, opened_after, opened_by, seen, writes_cell}
-use Rattle.trace_calls.specs.Overlaps.{any_below, begins_read, begins_write, ends_open_read, is_overlapped, is_writing, is_written, opens_write, writes_on}
+use Rattle.trace_calls.specs.Overlaps.{any_below, begins_write, ends_open_read, is_overlapped, is_writing, is_written, opens_write, writes_on}
 use Rattle.trace_calls.specs.declared.opened.OpenMove.{OpenMove}
 
 -- What is kept of an open access.

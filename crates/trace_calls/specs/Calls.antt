@@ -3,8 +3,7 @@ use Rattle.std.specs.Prelude.{ℕ, ◌+◌, ◌==◌, nat_lt, Bool, true, false,
 use Rattle.std.specs.Option.{option_map_or}
 use Rattle.std.specs.List.{list_any}
 use Rattle.calls.specs.{first_if, more_if}
-use Rattle.trace.specs.{CellMove, LockMark, TraceEntry, TracePast}
-use Rattle.trace.specs.declared.accesses.CellMove.TheVariants.{Write, Read, Set, Get, Swap, Add, Cas}
+use Rattle.trace.specs.{CellMove, LockMark, TraceEntry, TracePast, reads, writes}
 use Rattle.trace.specs.declared.marks.LockMark.TheVariants.{Leave, Answer}
 use Rattle.trace_engine.specs.trace_judge.lock_stages.{is_call, is_enter, is_wait}
 use Rattle.trace_calls.specs.declared.kept.TraceCall.{TraceCall}
@@ -25,24 +24,6 @@ is_answer _ = false
 -- an entry has such a mark
 abbrev pub has : (LockMark → Bool) → TraceEntry → Bool
 has test e = list_any test e.marks
-
--- a move begins a read, which may end with it
-abbrev pub reads : CellMove → Bool
-reads Read = true
-reads (Get v) = true
-reads (Swap new gives) = true
-reads (Add addend gives) = true
-reads (Cas expected new gives) = true
-reads _ = false
-
--- a move begins a write, which may end with it
-abbrev pub writes : CellMove → Bool
-writes (Write v) = true
-writes (Set v) = true
-writes (Swap new gives) = true
-writes (Add addend gives) = true
-writes (Cas expected new gives) = true
-writes _ = false
 
 -- an entry has an access with such a move
 abbrev pub moves : (CellMove → Bool) → TraceEntry → Bool

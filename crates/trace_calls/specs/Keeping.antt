@@ -3,14 +3,14 @@ use Rattle.std.specs.Prelude.{◌≡◌, ℕ, ◌+◌, ◌-◌, ◌^◌, ◌<◌
 use Rattle.std.specs.Option.{option_map_or}
 use Rattle.std.specs.List.{list_any}
 use Rattle.calls.specs.{first_if, more_if}
-use Rattle.trace.specs.{Cell, CellAccess, LockMark, TracePast, begins}
+use Rattle.trace.specs.{Cell, CellAccess, LockMark, TracePast, begins, begins_read, reads, writes}
 use Rattle.trace_engine.specs.trace_judge.lock_stages.{is_call, is_enter, is_wait}
 use Rattle.trace_engine.specs.trace_judge.trace_memory.{MadeAccess, opened, same_cell}
 use Rattle.trace_calls.specs.declared.kept.TraceCallState.{TraceCallState}
 use Rattle.trace_calls.specs.declared.kept.TraceCall.{TraceCall}
 use Rattle.trace_calls.specs.declared.opened.OpenMove.{OpenMove}
-use Rattle.trace_calls.specs.Calls.{call_of, is_answer, is_calling, is_leave, reads, writes}
-use Rattle.trace_calls.specs.Overlaps.{begins_read, is_overlapped, writes_on}
+use Rattle.trace_calls.specs.Calls.{call_of, is_answer, is_calling, is_leave}
+use Rattle.trace_calls.specs.Overlaps.{is_overlapped, writes_on}
 
 -- Open accesses.
 

@@ -2,24 +2,14 @@
 use Rattle.std.specs.Prelude.{ℕ, zero, suc, nat_lt, Bool, true, false, ◌&&◌, ◌||◌, is_some}
 use Rattle.std.specs.Option.{option_map_or}
 use Rattle.std.specs.List.{list_any}
-use Rattle.trace.specs.{Cell, CellAccess, CellMove, TraceEntry, TracePast, value_read, value_written}
-use Rattle.trace.specs.declared.accesses.CellMove.TheVariants.{Read, Value, Write}
+use Rattle.trace.specs.{Cell, CellAccess, CellMove, TraceEntry, TracePast, begins_read, ends_read, value_read, value_written}
+use Rattle.trace.specs.declared.accesses.CellMove.TheVariants.{Write}
 use Rattle.trace_engine.specs.trace_judge.trace_memory.{MadeAccess, opened, same_cell}
-
--- a read begins that ends later
-abbrev pub begins_read : CellMove → Bool
-begins_read Read = true
-begins_read _ = false
 
 -- a write begins that ends later
 abbrev pub opens_write : CellMove → Bool
 opens_write (Write v) = true
 opens_write _ = false
-
--- a move ends a read that began earlier
-abbrev pub ends_read : CellMove → Bool
-ends_read (Value v) = true
-ends_read _ = false
 
 -- the access that q has open is a write of a cell
 abbrev pub is_writing : Cell → TracePast → ℕ → Bool

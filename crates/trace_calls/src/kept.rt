@@ -2,7 +2,7 @@
 ghost use Rattle.std.specs.Prelude.{◌≡◌};
 ghost use Rattle.trace_calls.specs.Keeping.{AreFew, at_rest as nothing, begun, gone_on, kept_after};
 
-use crate::moves::{has_answer, has_call, has_enter, has_leave, has_wait, reads, writes};
+use crate::moves::{has_answer, has_call, has_enter, has_leave, has_wait};
 use calls::{first_if, more_if};
 use trace::{CellAccess, LockMark};
 
@@ -104,8 +104,8 @@ impl TraceCallState {
         call.remaining = first_if(call.remaining, has_leave(marks), number);
         call.answered = first_if(call.answered, has_answer(marks), number);
         if let Some(access) = access {
-            call.reads = more_if(call.reads, reads(access.how));
-            call.writes = more_if(call.writes, writes(access.how));
+            call.reads = more_if(call.reads, access.how.reads());
+            call.writes = more_if(call.writes, access.how.writes());
         }
         call.overlapped = more_if(call.overlapped, overlapped);
         if has_answer(marks) {

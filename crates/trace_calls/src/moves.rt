@@ -1,54 +1,12 @@
-//! Which moves read, write, and begin or end a read.
+//! Which accesses write a cell, and which marks an entry has.
 ghost use Rattle.std.specs.Prelude.{◌≡◌, is_some};
 ghost use Rattle.std.specs.List.{list_any};
-ghost use Rattle.trace_calls.specs.Calls.{is_answer, is_leave, reads as is_reading, writes as is_writing};
-ghost use Rattle.trace_calls.specs.Overlaps.{begins_read as is_read, ends_read as is_value, writes_on as is_write_on};
+ghost use Rattle.trace_calls.specs.Calls.{is_answer, is_leave};
+ghost use Rattle.trace_calls.specs.Overlaps.{writes_on as is_write_on};
 ghost use Rattle.trace_engine.specs.trace_judge.lock_stages.{is_call, is_enter, is_wait};
 
-use trace::{Cell, CellAccess, CellMove, LockMark};
+use trace::{Cell, CellAccess, LockMark};
 use trace_memory::same_cell;
-
-/// Returns whether a move begins a read, which may end with it.
-pub(crate) fn reads(how: CellMove) -> bool
-    ensures { result ≡ is_reading how }
-{
-    matches!(
-        how,
-        CellMove::Read
-            | CellMove::Get(_)
-            | CellMove::Swap { .. }
-            | CellMove::Add { .. }
-            | CellMove::Cas { .. }
-    )
-}
-
-/// Returns whether a move begins a write, which may end with it.
-pub(crate) fn writes(how: CellMove) -> bool
-    ensures { result ≡ is_writing how }
-{
-    matches!(
-        how,
-        CellMove::Write(_)
-            | CellMove::Set(_)
-            | CellMove::Swap { .. }
-            | CellMove::Add { .. }
-            | CellMove::Cas { .. }
-    )
-}
-
-/// Returns whether a move begins a read that ends later.
-pub(crate) fn begins_read(how: CellMove) -> bool
-    ensures { result ≡ is_read how }
-{
-    matches!(how, CellMove::Read)
-}
-
-/// Returns whether a move ends a read that began earlier.
-pub(crate) fn ends_read(how: CellMove) -> bool
-    ensures { result ≡ is_value how }
-{
-    matches!(how, CellMove::Value(_))
-}
 
 /// Returns whether an access begins a write of a cell.
 pub(crate) fn writes_on(cell: Cell, access: &CellAccess) -> bool

@@ -5,7 +5,7 @@ ghost use Rattle.trace.specs.{LockMark as Mark, trace_entry};
 ghost use Rattle.trace_calls.specs.Keeping.{HasOpened, OfOpened, ends_kept_read, opened_by, seen, writes_cell};
 ghost use Rattle.trace_calls.specs.Overlaps.{ends_overlapped as ends_overlapped_read, is_written as is_cell_written};
 
-use crate::moves::{begins_read, ends_read, writes_on};
+use crate::moves::writes_on;
 use std::marker::Model;
 use trace::{Cell, CellAccess};
 use trace_memory::same_cell;
@@ -87,7 +87,7 @@ impl OpenMoves {
         ensures { OfOpened self.now (λ past. result
             ≡ ends_overlapped_read self.now.processes past process access.now) }
     {
-        if ends_read(access.how) {
+        if access.how.ends_read() {
             ends_kept(access.cell, self.opened[usize::from(process)])
         } else {
             access.how.value_read().is_some() && self.is_written(access.cell)
@@ -149,7 +149,7 @@ fn opened_by(written: bool, access: &CellAccess) -> Option<OpenMove>
     }
     Some(OpenMove {
         cell: access.cell,
-        reads: begins_read(access.how),
+        reads: access.how.begins_read(),
         overlapped: written,
     })
 }
