@@ -4,9 +4,9 @@ use Rattle.std.specs.Prelude.{fold}
 use Rattle.std.proofs.lemmas.Bool.{cases_eq, cond-true, cond-false, eq-eqb, ltb-false, ne_eqb}
 use Rattle.std.proofs.lemmas.Grind.{fold-append}
 use Rattle.std.proofs.lemmas.List.{get_or-set_other, get_or-set_same, length-map, length-set}
-use Rattle.model.specs.{Mark, Stage}
+use Rattle.model.specs.{Mark, Stage, is_in_doorway}
 use Rattle.model.specs.declared.marks.Mark.TheVariants as mark
-use Rattle.picture.specs.picture_layout.{ProcessDetails, LineContent, State, at_first, is_in_doorway, like, marks_said, no_seat, not_awaiting, seats_marked, stages_marked, stages_reported, state_lock_marked, state_marked, state_reported, ticket_in}
+use Rattle.picture.specs.picture_layout.{ProcessDetails, LineContent, State, at_first, like, marks_said, no_seat, not_awaiting, seats_marked, stages_marked, stages_reported, state_lock_marked, state_marked, state_reported, ticket_in}
 use Rattle.picture.specs.picture_layout.declared.line_contents.LineContent.TheVariants.{LockMarked, Marked}
 use Rattle.picture.specs.picture_layout.trace.{LockMark}
 use Rattle.picture.specs.picture_layout.trace.declared.marks.LockMark.TheVariants as lock

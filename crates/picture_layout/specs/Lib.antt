@@ -23,7 +23,7 @@ pub use OpenAccesses.{first_open, none_open, open_after, open_behind, open_by, o
 pub use Overlaps.{bit_text, read_text, saw_text, title_text}
 pub use Placings.{drawn_apart, end_of_words, event_position, has_room_at, last_of, moved_to, place_of, placing_at_first, put_at, stretched_all, widened}
 pub use Stages.{StagesAreTheRecords, marks_in, marks_said, nothing_reported, stage_among, stages_after, stages_marked, stages_reported}
-pub use States.{at_first, before_in, behind_in, first_waiting, freed_by, group_of, inside_marked, is_in_doorway, line_of_first, lined_up, no_seat, not_awaiting, places_from, places_marked, queue_of, seats_marked, state_lock_marked, state_marked, state_reported, ticket_in, with_seats_marked, word_of}
+pub use States.{at_first, before_in, behind_in, first_waiting, freed_by, group_of, inside_marked, line_of_first, lined_up, no_seat, not_awaiting, places_from, places_marked, queue_of, seats_marked, state_lock_marked, state_marked, state_reported, ticket_in, with_seats_marked, word_of}
 pub use Reported.{change_reported, mark_reported, place_reported, content_text, reports_lock_mark, reports_refusal, text_of, texts, reported_in}
 pub use Waves.{SeenWave, change_in, row_begun, row_set, seen_wave, seen_waves, wave_before, wave_behind, waves_after, waves_begun}
 pub use declared.access_state.AccessState.{AccessState}

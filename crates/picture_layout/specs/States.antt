@@ -1,6 +1,6 @@
 -- The state of all processes after lines: the queue, the word of each bar, and the change by a line.
 use Rattle.std.specs.Prelude.{◌≡◌, ℕ, zero, suc, ◌+◌, ◌-◌, ◌^◌, min, Bool, true, false, ◌==◌, cond, nat_le, nat_lt, List, [], ◌∷◌, ◌++◌, get_or, length, map, replicate, set, take, Option, None, Some}
-use Rattle.model.specs.{Mark, Stage}
+use Rattle.model.specs.{Mark, Stage, is_in_doorway, is_waiting_stage}
 use Rattle.model.specs.declared.marks.Mark.TheVariants as mark
 use Rattle.model.specs.declared.stages.Stage.TheVariants as stage
 use Rattle.picture_layout.specs.Stages.{nothing_reported, stage_among, stages_marked, stages_reported}
@@ -51,20 +51,10 @@ abbrev pub behind_in : ℕ → List ℕ → List ℕ
 behind_in p [] = []
 behind_in p (q ∷ line) = cond (q == p) line (behind_in p line)
 
--- whether a stage is that of a process that waits
-abbrev pub is_waiting : Stage → Bool
-is_waiting stage.Waiting = true
-is_waiting _ = false
-
--- whether a stage is that of a process in its doorway
-abbrev pub is_in_doorway : Stage → Bool
-is_in_doorway stage.Doorway = true
-is_in_doorway _ = false
-
 -- the first of these processes that waits
 abbrev pub first_waiting : List Stage → List ℕ → Option ℕ
 first_waiting stages [] = None
-first_waiting stages (q ∷ line) = cond (is_waiting (stage_among stages q)) (Some q) (first_waiting stages line)
+first_waiting stages (q ∷ line) = cond (is_waiting_stage (stage_among stages q)) (Some q) (first_waiting stages line)
 
 -- the process that is freed when a process gives up its ticket: the first after it in the queue that waits
 abbrev pub freed_in : State → ℕ → Option ℕ

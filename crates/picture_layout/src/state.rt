@@ -1,9 +1,10 @@
 //! The state of all processes after the lines so far.
 ghost use Rattle.std.specs.Prelude.{◌≡◌, ◌≤◌, drop, insert, length, map, set, IfOk, None, OnOk};
+ghost use Rattle.model.specs.{is_in_doorway, is_waiting_stage};
 ghost use Rattle.model.specs.declared.marks.Mark.TheVariants as mark_variants;
 ghost use Rattle.picture_layout.specs.declared.line_contents.LineContent.TheVariants.{LockMarked, Marked};
 ghost use Rattle.picture_layout.specs.Stages.{stage_among, stages_marked, nothing_reported};
-ghost use Rattle.picture_layout.specs.States.{at_first, awaited_in, before_in, first_waiting, freed_by, freed_in, group_of, is_in_doorway, lined_up, queue_of, stages_next, state_marked, state_reported, ticket_in, is_waiting, ticket_set, with_seats_by, with_seats_marked, word_of};
+ghost use Rattle.picture_layout.specs.States.{at_first, awaited_in, before_in, first_waiting, freed_by, freed_in, group_of, lined_up, queue_of, stages_next, state_marked, state_reported, ticket_in, ticket_set, with_seats_by, with_seats_marked, word_of};
 
 use crate::groups::{BarWord, ProcessGroup, group_before, place_behind, places_said, waiting_word};
 use crate::line_contents::{LineContent, RunLine};
@@ -213,9 +214,9 @@ impl State {
 
     /// Returns whether a process waits.
     fn waits(&self, process: u8) -> bool
-        ensures { result ≡ is_waiting (stage_among self.now.stages process) }
+        ensures { result ≡ is_waiting_stage (stage_among self.now.stages process) }
     {
-        matches!(self.stage(process), Stage::Waiting)
+        self.stage(process).is_waiting()
     }
 
     /// Updates the state by a mark of a process.
@@ -288,7 +289,7 @@ impl State {
     {
         let mut are = [false; 16];
         for place in 0..16usize {
-            are[place] = matches!(self.stages[place], Stage::Doorway);
+            are[place] = self.stages[place].is_in_doorway();
         }
         are
     }

@@ -1,6 +1,6 @@
 use Rattle.std.proofs.Common.{◌≡◌, length, map, take}
-use Rattle.picture_layout.specs.{is_in_doorway}
 use Rattle.picture_layout.proofs.state.State.in_doorways.Given as goal
+use Rattle.model.specs.{is_in_doorway}
 
 -- for each process before the present one, whether it is in its doorway
 abbrev pub invariant-loop-place : goal.invariant-loop-place
