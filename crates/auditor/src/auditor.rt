@@ -1,7 +1,6 @@
-ghost use Rattle.std.specs.Prelude.{◌≡◌, ◌↔◌, ◌<◌, ◌≤◌, ◌+◌, IfOk, IsTrue, Ok, Some, None, []};
+ghost use Rattle.std.specs.Prelude.{◌≡◌, ◌<◌, ◌≤◌, ◌+◌, IfOk, Ok, Some, None, []};
 ghost use Rattle.std.specs.List.{list_any};
 ghost use Rattle.plain_store.specs.{checked};
-ghost use Rattle.model.specs.declared.stages.Stage.TheVariants.{Settling};
 ghost use Rattle.safe_monitor.specs.declared.verdicts.Law.{Law as Named};
 ghost use Rattle.safe_monitor.specs.declared.verdicts.Law.TheVariants.{Program};
 ghost use Rattle.safe_monitor.specs.{entry_by};
@@ -12,7 +11,7 @@ ghost use Rattle.auditor.specs.Verdicts.{reports_event};
 use crate::matching::{
     are_at, event_in, flick_in, flick_of, is_alike, is_that, more, reports_event,
 };
-use model::{Access, Event, Mark, Stage};
+use model::{Access, Event, Mark};
 use plain_store::Setup;
 use safe_monitor::Law;
 use std::alloc::{AllocError, Global};
@@ -218,13 +217,7 @@ fn settles(core: &Core, process: u8) -> bool
     ensures { ReportsSettling core.now process result }
 {
     match core.stage(process) {
-        Some(stage) => is_settling(stage),
+        Some(stage) => stage.is_settling(),
         None => false,
     }
-}
-
-fn is_settling(stage: Stage) -> bool
-    ensures { IsTrue result ↔ (stage ≡ Settling) }
-{
-    stage == Stage::Settling
 }
