@@ -2,16 +2,16 @@
 use Rattle.std.proofs.Common.{◌≡◌, ℕ, ◌&&◌, nat_lt, Bool, true, false, cond, Option, None, Some, refl}
 use Rattle.std.specs.Prelude.{is_none}
 use Rattle.model.specs.declared.events.Event.TheVariants.{Step, Fail}
-use Rattle.model.specs.{Refusal, Stage, past_of, refused_at, stage}
+use Rattle.model.specs.{Refusal, Stage, is_at_work, past_of, refused_at, stage}
 use Rattle.model.specs.declared.refusals.Refusal.TheVariants.{CallsFull, NoProcess}
 use Rattle.model.specs.declared.stages.Stage.TheVariants as stages
-use Rattle.sweeper.specs.{FailsAreOfUnfailed, StepsAreOfEnabled, moves, stands}
+use Rattle.sweeper.specs.{FailsAreOfUnfailed, StepsAreOfEnabled, stands}
 
 -- an event that is not a call is refused by the stage of its process alone
 by_stage : Bool → Option Refusal → Bool
 by_stage there refusal = is_none (cond there (elim refusal as (λ _. Option Refusal) [ Some r ↦ Some r | None ↦ cond false (Some CallsFull) None ]) (Some NoProcess))
 
-step_by : (p : ℕ) (v : Bool) (there : Bool) (x : Stage) → by_stage there (refused_at (Step p v) x) ≡ (there && moves x)
+step_by : (p : ℕ) (v : Bool) (there : Bool) (x : Stage) → by_stage there (refused_at (Step p v) x) ≡ (there && is_at_work x)
 unfolding by_stage
 step_by p v false x = refl
 step_by p v true stages.Idle = refl

@@ -3,12 +3,12 @@ use Rattle.std.proofs.Common.{◌≡◌, ℕ, zero, suc, ◌+◌, ◌≤◌, ◌
 use Rattle.std.specs.Prelude.{is_none}
 use Rattle.std.proofs.lemmas.Bool.{and_parts}
 use Rattle.plain_store.specs.{Setup, checked}
-use Rattle.model.specs.{Entry, Event, Past, Refusal, Stage, added, is_failed, own, past_of, process_of, refused, since, stage}
+use Rattle.model.specs.{Entry, Event, Past, Refusal, Stage, added, is_at_work, is_failed, own, past_of, process_of, refused, since, stage}
 use Rattle.model.specs.declared.events.Event.TheVariants.{Step, Fail}
 use Rattle.model.specs.declared.marks.Mark.TheVariants.{Failed}
 use Rattle.model.specs.declared.stages.Stage.TheVariants as stages
 use Rattle.auditor.proofs.laws.UnitSteps.{GoesOn, few_accesses, unit_goes_on}
-use Rattle.sweeper.specs.{AreDownInTime, UnitsAreDownInTime, is_accepted, most, moves, stands, steps_of}
+use Rattle.sweeper.specs.{AreDownInTime, UnitsAreDownInTime, is_accepted, most, stands, steps_of}
 use Rattle.sweeper.proofs.Going.{ended}
 use Rattle.sweeper.proofs.Enabled.{fails_of_standing, steps_of_enabled}
 
@@ -21,8 +21,8 @@ none_of None h = refl
 none_of (Some r) h = cc
 
 -- a step of p at a stage
-step_at : (s : Setup) (events : List Event) (p : ℕ) (v : Bool) (x : Stage) → nat_lt p s.processes ≡ true → stage p (past_of s events) ≡ x → is_accepted s events (Step p v) ≡ moves x
-step_at s events p v x there at = steps_of_enabled s events p v ∙ ap (λ b. b && moves (stage p (past_of s events))) there ∙ ap moves at
+step_at : (s : Setup) (events : List Event) (p : ℕ) (v : Bool) (x : Stage) → nat_lt p s.processes ≡ true → stage p (past_of s events) ≡ x → is_accepted s events (Step p v) ≡ is_at_work x
+step_at s events p v x there at = steps_of_enabled s events p v ∙ ap (λ b. b && is_at_work (stage p (past_of s events))) there ∙ ap is_at_work at
 
 -- a unit that has at most n steps left reaches its end
 unit_ends : (s : Setup) → checked s ≡ Ok tt → (p : ℕ) (v : Bool) → nat_lt p s.processes ≡ true → (n : ℕ) (events : List Event) → stage p (past_of s events) ≡ stages.Settling → 1088 ≤ made_by s p events + n →

@@ -2,9 +2,9 @@
 use Rattle.std.specs.Prelude.{◌≡◌, ℕ, zero, suc, Bool, true, false, ◌&&◌, ◌||◌, List, [], ◌∷◌, ◌++◌, length, map, filter, fold, reverse, Option, None, Some, Ok, is_none, nat_lt, cond}
 use Rattle.std.specs.List.{All, list_all, list_any, AllZip}
 use Rattle.plain_store.specs.{Command, Setup, checked, is_command}
-use Rattle.model.specs.{AreGiven, Entry, Event, KeepsMainTheoremThroughout, Stage, past_of, process_of, processes, refused, stage}
+use Rattle.model.specs.{AreGiven, Entry, Event, KeepsMainTheoremThroughout, Stage, is_at_work, past_of, process_of, processes, refused, stage}
 use Rattle.model.specs.declared.events.Event.TheVariants.{Call, Step, Fail, Restart}
-use Rattle.model.specs.declared.stages.Stage.TheVariants.{Idle, Settling, Down}
+use Rattle.model.specs.declared.stages.Stage.TheVariants.{Settling, Down}
 use Rattle.auditor.specs.{IsVerdict, Law, Verdict}
 use Rattle.auditor.specs.safe_monitor.declared.verdicts.Verdict.TheVariants.{Good, Bad}
 use Rattle.sweeper.specs.declared.swept.BadRun.{BadRun}
@@ -151,12 +151,6 @@ abbrev pub AreDownInTime : Setup → List Event → Type 0
 AreDownInTime s [] = Unit {0}
 AreDownInTime s (event ∷ before) = AreDownInTime s before × ((v : Bool) → IsDownInTime s (process_of event) v (event ∷ before))
 
--- a process runs, or its memory unit settles
-abbrev pub moves : Stage → Bool
-moves Idle = false
-moves Down = false
-moves _ = true
-
 -- a process has not failed and is not down
 abbrev pub stands : Stage → Bool
 stands Settling = false
@@ -169,7 +163,7 @@ is_there test s events p = nat_lt p s.processes && test (stage p (past_of s even
 
 -- A step is accepted if and only if its process runs or its memory unit settles.
 abbrev pub StepsAreOfEnabled : Type 0
-StepsAreOfEnabled = (s : Setup) (events : List Event) (p : ℕ) (v : Bool) → is_accepted s events (Step p v) ≡ is_there moves s events p
+StepsAreOfEnabled = (s : Setup) (events : List Event) (p : ℕ) (v : Bool) → is_accepted s events (Step p v) ≡ is_there is_at_work s events p
 
 -- A failure is accepted if and only if its process has not failed and is not down.
 abbrev pub FailsAreOfUnfailed : Type 0
