@@ -7,12 +7,12 @@ use Rattle.std.proofs.lemmas.List.Elements.{All-filter, filter_passes}
 use Rattle.std.proofs.lemmas.List.FromFn.{get_or-range_with_len, length-range_with_len}
 use Rattle.std.proofs.lemmas.Nat.{mod_below}
 use Rattle.plain_store.specs.{Setup}
-use Rattle.model.specs.{Entry, Event, Past, Refusal, Stage, past_of, processes, refused, refused_at, stage, stage_after}
+use Rattle.model.specs.{Entry, Event, Past, Refusal, Stage, is_at_work, past_of, processes, refused, refused_at, stage, stage_after}
 use Rattle.model.specs.declared.events.Event.TheVariants.{Step}
 use Rattle.model.specs.declared.refusals.Refusal.TheVariants.{NoProcess}
 use Rattle.model.specs.declared.stages.Stage.TheVariants as stages
 use Rattle.world.specs.choices.{pick_of}
-use Rattle.scenario_run.specs.{AddsMarks, Happening, Run, has_step, enabled, past_after, past_in, pick_among}
+use Rattle.scenario_run.specs.{AddsMarks, Happening, Run, enabled, past_after, past_in, pick_among}
 use Rattle.scenario_run.proofs.Refusals.{entry_by}
 
 -- a range with one number more, which the filter keeps or drops
@@ -57,7 +57,7 @@ stage_quiet s p events event adds =
 
 -- after an event without a mark, the same processes have a Step to make
 pub enabled_quiet : (s : Setup) (events : List Event) (event : Event) → AddsMarks s (past_of s events) event [] → enabled s (past_of s (event ∷ events)) ≡ enabled s (past_of s events)
-enabled_quiet s events event adds = λ i. filter (λ p. has_step (stage_quiet s p events event adds i)) (processes s)
+enabled_quiet s events event adds = λ i. filter (λ p. is_at_work (stage_quiet s p events event adds i)) (processes s)
 
 -- The processes that may make a Step.
 
@@ -70,12 +70,12 @@ abbrev unless : Option Refusal → Option Refusal
 unless o = elim o as (λ _. Option Refusal) [ Some r ↦ Some r | None ↦ None ]
 
 -- no Step of a process with a Step to make is refused
-pub enabled_steps : (s : Setup) (happened : List Happening) (p : ℕ) → p < s.processes → has_step (stage p (past_after s happened)) ≡ true → MaySteps p s happened
+pub enabled_steps : (s : Setup) (happened : List Happening) (p : ℕ) → p < s.processes → is_at_work (stage p (past_after s happened)) ≡ true → MaySteps p s happened
 enabled_steps s happened p within has flick =
     let there : nat_lt p s.processes ≡ true = grind (arith, nat_tests) in
     ap (λ b. cond b (unless (refused_at (Step p flick) (stage p (past_after s happened)))) (Some NoProcess)) there ∙ by (stage p (past_after s happened)) has
   where
-    by : (st : Stage) → has_step st ≡ true → unless (refused_at (Step p flick) st) ≡ None
+    by : (st : Stage) → is_at_work st ≡ true → unless (refused_at (Step p flick) st) ≡ None
     by stages.Idle has = absurd (cc)
     by stages.Down has = absurd (cc)
     by stages.Doorway has = refl
@@ -89,11 +89,11 @@ pub pick_steps : (s : Setup) (run : Run) (ps : List ℕ) → enabled s (past_in 
 pick_steps s run ps are some =
     let k : ℕ = pick_of (length ps) run.flicks in
     let less : k < length ps = mod_below _ (length ps) some in
-    let test : ℕ → Bool = λ p. has_step (stage p (past_in s run)) in
+    let test : ℕ → Bool = λ p. is_at_work (stage p (past_in s run)) in
     let below : k < length (filter test (processes s)) = subst (λ l. k < length l) (sym are) less in
     enabled_steps s run.happened (pick_among ps run)
     (subst (λ l. slice_index l k < s.processes) are (All-filter test (λ p. p < s.processes) (processes s) (all_below s.processes) k 0 below))
-    (subst (λ l. has_step (stage (slice_index l k) (past_in s run)) ≡ true) are (filter_passes test (processes s) k 0 below))
+    (subst (λ l. is_at_work (stage (slice_index l k) (past_in s run)) ≡ true) are (filter_passes test (processes s) k 0 below))
   where
     all_below : (n i d : ℕ) → i < length (range_with_len 0 n) → slice_index_or (range_with_len 0 n) i d < n
     all_below n i d within =

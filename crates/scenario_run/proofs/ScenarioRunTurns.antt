@@ -3,7 +3,7 @@ use Rattle.std.proofs.Common.{◌≡◌, ℕ, zero, suc, arith, ◌-◌, ◌<◌
 use Rattle.std.proofs.lemmas.Bool.Decides.{nat_tests}
 use Rattle.std.specs.declared.alloc.AllocError.{AllocError}
 use Rattle.plain_store.specs.{Setup}
-use Rattle.model.specs.{Access, Entry, Event, Mark, Past, Refusal, Stage, Taken, added, entry_of, history, is_event, marked, moves_of, past_of, process_of, refused, stage}
+use Rattle.model.specs.{Access, Entry, Event, Mark, Past, Refusal, Stage, Taken, added, entry_of, history, is_at_work, is_event, marked, moves_of, past_of, process_of, refused, stage}
 use Rattle.model.specs.declared.refusals.Refusal.TheVariants.{NoProcess, Memory}
 use Rattle.model.specs.declared.events.Event.TheVariants as event
 use Rattle.scenario.specs.{Line, Target}
@@ -12,7 +12,7 @@ use Rattle.world.specs.process.{act_of}
 use Rattle.world.specs.{Adds, GoesOn, IsTurnedAway, ends_overlapped, ends_overlapped_read, entry_with, stage_in}
 use Rattle.world.specs.choices.{Flick, FlickState, after_set}
 use Rattle.world.specs.Shows.{Shows, WorldState}
-use Rattle.scenario_run.specs.{Accepted, ScenarioRunState, Follows, IsMarked, Lacks, Looks, Makes, Run, ReportsOf, TurnReport, Tries, Turn, scenario_run, ends, entry_made, go_turn, happens, has_step, is_step, is_there, next_turn, on_turn, past_in, tried, turn_of}
+use Rattle.scenario_run.specs.{Accepted, ScenarioRunState, Follows, IsMarked, Lacks, Looks, Makes, Run, ReportsOf, TurnReport, Tries, Turn, scenario_run, ends, entry_made, go_turn, happens, is_step, is_there, next_turn, on_turn, past_in, tried, turn_of}
 use Rattle.scenario_run.specs.declared.reports.TurnReport.TheVariants as reported
 use Rattle.scenario_run.proofs.Refusals.{shows_refused}
 
@@ -138,8 +138,8 @@ go_ends w flicks had remaining p target at is some run follows =
 
 -- whether a process that exists has a Step to make depends on its stage
 pub enabled_reported : (w : WorldState) (p : ℕ) (at : Stage) → ((events : List Event) → Shows w events → Some at ≡ stage_in w.setup (past_of w.setup events) p) → (flicks : FlickState) (remaining : ℕ) →
-    (run : Run) → Follows (scenario_run w flicks remaining) run → has_step at ≡ has_step (stage p (past_in w.setup run))
-enabled_reported w p at some flicks remaining run follows = ap has_step (sym (stage_reported w p at (tried run.happened) follows.shows (sym (some (tried run.happened) follows.shows))).1)
+    (run : Run) → Follows (scenario_run w flicks remaining) run → is_at_work at ≡ is_at_work (stage p (past_in w.setup run))
+enabled_reported w p at some flicks remaining run follows = ap is_at_work (sym (stage_reported w p at (tried run.happened) follows.shows (sym (some (tried run.happened) follows.shows))).1)
 
 -- a process that does not exist is not below the number of processes
 pub enabled_beyond : (w : WorldState) (p : ℕ) → ((events : List Event) → Shows w events → None ≡ stage_in w.setup (past_of w.setup events) p) → (flicks : FlickState) (remaining : ℕ) →

@@ -31,7 +31,7 @@ pub use Observing.{Comes, ComesAlong, ComesDown, ComesOn, ComesTo, Happens, Obse
 pub use Parts.{IsFront, IsLineMade, IsPart, MadeNewest, PlaysPart, PlaysUntil, events_in, events_to}
 pub use Replays.{InputKeepsMainTheorem, IsSummaryOf, RunKeepsMainTheorem, ended}
 pub use RunRecords.{accepted_events, listed, run_record}
-pub use Runs.{Run, after_pick_in, go_limit, goes, happenings, has_step, is_there, may_step, enabled, next_step, past_in, pick_among, picked, run_after, run_at_start, runs, stepped, steps, wanders, with_happening}
+pub use Runs.{Run, after_pick_in, go_limit, goes, happenings, is_there, may_step, enabled, next_step, past_in, pick_among, picked, run_after, run_at_start, runs, stepped, steps, wanders, with_happening}
 pub use Steppers.{IsAlone, IsAway, remaining_after, turns_drawn}
 pub use Summaries.{CanCount, can_count_less, counted, summary_of}
 pub use Takings.{Took, TookPart, part_before, part_on, part_unobserved, took_none, took_on}

@@ -1,7 +1,7 @@
 -- The run of a scenario: what each line does, given the record so far.
 use Rattle.std.specs.Prelude.{ℕ, zero, suc, Bool, true, false, nat_lt, List, [], ◌∷◌, length, filter, slice_index, is_none}
 use Rattle.plain_store.specs.{Setup}
-use Rattle.model.specs.{Event, Past, Stage, Taken, history, processes, refused, stage}
+use Rattle.model.specs.{Event, Past, Stage, Taken, history, is_at_work, processes, refused, stage}
 use Rattle.model.specs.declared.events.Event.TheVariants as event
 use Rattle.model.specs.declared.stages.Stage.TheVariants.{Idle, Doorway, Waiting, Settling, Down}
 use Rattle.scenario.specs.{Line, Script, Target}
@@ -71,15 +71,9 @@ goes s p target (suc n) run = elim (is_there target (stage p (past_in s run))) [
   | false ↦ elim (may_step s p run) [ true ↦ goes s p target n (stepped p run) | false ↦ stepped p run ]
 ]
 
--- a process in this stage has a Step to make: it is running, or its memory unit is settling
-abbrev pub has_step : Stage → Bool
-has_step Idle = false
-has_step Down = false
-has_step _ = true
-
 -- the processes with a Step to make, ascending
 abbrev pub enabled : Setup → Past → List ℕ
-enabled s past = filter (λ p. has_step (stage p past)) (processes s)
+enabled s past = filter (λ p. is_at_work (stage p past)) (processes s)
 
 -- the process that is picked among these
 abbrev pub pick_among : List ℕ → Run → ℕ

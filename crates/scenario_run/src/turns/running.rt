@@ -1,11 +1,11 @@
 //! The lines that make Steps. A Step without a mark leaves every process in its stage, so a line has to look at the stages
 //! again only after a Step with marks.
 ghost use Rattle.std.specs.Prelude.{◌≡◌, ◌+◌, ◌-◌, ◌^◌, ◌<◌, ◌≤◌, ℕ, length, slice_index, IfErr, IfOk, IfSome, None, Ok};
-ghost use Rattle.model.specs.{stage};
+ghost use Rattle.model.specs.{is_at_work, stage};
 ghost use Rattle.model.specs.declared.Event.TheVariants.{Step};
 ghost use Rattle.scenario.specs.declared.lines.Line.TheVariants.{Go as GoLine, Wander as WanderLine};
 ghost use Rattle.scenario_run.specs.Observing.{Comes, InItsRun, LeavesRoom, RunsAlone, StopsAlone, StopsAmid, room_wanted};
-ghost use Rattle.scenario_run.specs.Runs.{has_step, is_there as is_target, enabled, past_in};
+ghost use Rattle.scenario_run.specs.Runs.{is_there as is_target, enabled, past_in};
 ghost use Rattle.scenario_run.specs.Steppers.{remaining_after};
 ghost use Rattle.scenario_run.specs.Turns.{rest_of, turns_in};
 
@@ -212,20 +212,13 @@ impl ScenarioRun {
     /// Returns whether a process runs, or its memory unit settles.
     fn has_step(&self, process: u8) -> bool
         ensures { InItsRun self.now (λ run. process < self.now.world.setup.processes →
-            result ≡ has_step (stage process (past_in self.now.world.setup run))) }
+            result ≡ is_at_work (stage process (past_in self.now.world.setup run))) }
     {
         match self.world.stage(process) {
-            Some(stage) => has_step_in(stage),
+            Some(stage) => stage.is_at_work(),
             None => false,
         }
     }
-}
-
-/// Returns whether a process in this stage runs, or its memory unit settles.
-fn has_step_in(stage: Stage) -> bool
-    ensures { result ≡ has_step stage }
-{
-    !matches!(stage, Stage::Idle | Stage::Down)
 }
 
 /// Returns whether a process in this stage has reached the target.
@@ -233,10 +226,10 @@ fn is_there(target: Target, stage: Stage) -> bool
     ensures { result ≡ is_target target stage }
 {
     match target {
-        Target::Wait => !matches!(stage, Stage::Doorway | Stage::Settling),
-        Target::Inside => !matches!(stage, Stage::Doorway | Stage::Waiting | Stage::Settling),
-        Target::Idle => matches!(stage, Stage::Idle | Stage::Down),
-        Target::Down => matches!(stage, Stage::Down),
+        Target::Wait => !(stage.is_in_doorway() || stage.is_settling()),
+        Target::Inside => !(stage.is_at_door() || stage.is_settling()),
+        Target::Idle => stage.is_at_rest(),
+        Target::Down => stage.is_down(),
     }
 }
 

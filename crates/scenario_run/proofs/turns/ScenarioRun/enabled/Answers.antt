@@ -1,7 +1,7 @@
 use Rattle.std.proofs.Common.{◌≡◌, ◌<◌, ℕ, Bool, true, false, [], ◌∷◌, length, ◌∙◌, arith, ap, sym, append-nil}
 use Rattle.std.proofs.lemmas.List.{length-append}
-use Rattle.model.specs.{stage}
-use Rattle.scenario_run.specs.{ScenarioRunState, Run, has_step, past_in}
+use Rattle.model.specs.{is_at_work, stage}
+use Rattle.scenario_run.specs.{ScenarioRunState, Run, past_in}
 use Rattle.scenario_run.proofs.Enabled.{kept_more}
 use Rattle.scenario_run.proofs.turns.ScenarioRun.enabled.Goals as goal
 use Rattle.scenario_run.proofs.turns.ScenarioRun.enabled.Goals.{then-has_step, else-has_step}
@@ -17,7 +17,7 @@ pub loop-process-preserved : goal.loop-process-preserved
 loop-process-preserved c =
     let k : ℕ = c.loop-process.process in
     let invariant = c.loop-process.invariant in
-    let test : Run → ℕ → Bool = λ run p. has_step (stage p (past_in c.args.self.now.world.setup run)) in
+    let test : Run → ℕ → Bool = λ run p. is_at_work (stage p (past_in c.args.self.now.world.setup run)) in
     let there : k < c.args.self.now.world.setup.processes = omega (arith, c.loop-process-test.true, c.self.invariant.are, ap (λ (scenario_run : ScenarioRunState). scenario_run.world.setup.processes) c.self.view_is) in
     elim c.if-has_step.branch [
       | then-has_step w ↦ rw w.enabled-is (record {
