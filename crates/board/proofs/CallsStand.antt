@@ -5,7 +5,7 @@ use Rattle.std.specs.List.{list_any}
 use Rattle.std.proofs.lemmas.Bool.{eqb-false}
 use Rattle.std.proofs.lemmas.List.{append-nil, length-append}
 use Rattle.plain_store.specs.{Answer, Command, Contents, Reply, Setup, changes, checked, opening_store, reply_to}
-use Rattle.model.specs.{AreGiven, Entry, Event, IsAnswerTo, Mark, Past, Stage, all_takings, calls_in, entry_of, has, history, is_called, last_command, own, past_of, reply_taken, since, stage, stage_after, store_after, takings, value_of}
+use Rattle.model.specs.{AreGiven, Entry, Event, IsAnswerTo, Mark, Past, Stage, all_takings, calls_in, entry_of, has, history, is_at_rest, is_called, last_command, own, past_of, reply_taken, since, stage, stage_after, store_after, takings, value_of}
 use Rattle.model.specs.declared.marks.Mark.TheVariants as mark
 use Rattle.model.proofs.Width.{IsGood, is_good}
 use Rattle.laws.specs.{Doing, Rests, Lies, call, doing}
@@ -23,20 +23,20 @@ use Rattle.board.proofs.Along.{changes_none, so_many_changes}
 use Rattle.board.proofs.Changes.{changing-push, store_of_changes}
 use Rattle.board.proofs.EntryMarks.{StepMarks, plain, takes, answers, downs, call_marks, closing_marks, plain-calls, plain-quiet, plain-reply, plain-takings, plain-uncalled, quiet-before, both-false, reports}
 use Rattle.board.proofs.KnownCalls.{Known, Stands, known, known-own, known-uncalled, known_then, other_entry}
-use Rattle.board.proofs.Standing.{is_quiet, last_caller, one_change, standing_answered, standing_called, standing_down, standing_none, standing_on, standing_taken, taken_here}
+use Rattle.board.proofs.Standing.{last_caller, one_change, standing_answered, standing_called, standing_down, standing_none, standing_on, standing_taken, taken_here}
 use Rattle.board.proofs.Stands.{finished_stand}
 
 -- The marks of an entry of the process itself.
 
 data OwnMarks (s : Setup) (past : Past) (e : Entry) : Type 0 where
-  calls_now : (command : Command) → is_quiet (stage e.process past) ≡ true → e.marks ≡ mark.Called command ∷ [] → OwnMarks s past e
-  restarted : is_quiet (stage e.process past) ≡ true → e.marks ≡ mark.Restarted ∷ [] → OwnMarks s past e
+  calls_now : (command : Command) → is_at_rest (stage e.process past) ≡ true → e.marks ≡ mark.Called command ∷ [] → OwnMarks s past e
+  restarted : is_at_rest (stage e.process past) ≡ true → e.marks ≡ mark.Restarted ∷ [] → OwnMarks s past e
   steps : StepMarks e.marks → OwnMarks s past e
 
-quiet_rests : (s : Setup) (p : ℕ) (mine : Past) (st : Stage) (d : Doing) → Does s p mine st d → d ≡ Rests → is_quiet st ≡ true
+quiet_rests : (s : Setup) (p : ℕ) (mine : Past) (st : Stage) (d : Doing) → Does s p mine st d → d ≡ Rests → is_at_rest st ≡ true
 quiet_rests s p mine st d h k = grind arith
 
-quiet_lies : (s : Setup) (p : ℕ) (mine : Past) (st : Stage) (d : Doing) → Does s p mine st d → d ≡ Lies → is_quiet st ≡ true
+quiet_lies : (s : Setup) (p : ℕ) (mine : Past) (st : Stage) (d : Doing) → Does s p mine st d → d ≡ Lies → is_at_rest st ≡ true
 quiet_lies s p mine st d h k = grind arith
 
 own_marks : (s : Setup) → IsGood s → (events : List Event) (event : Event) (e : Entry) → entry_of s (past_of s events) event ≡ Some e → OwnMarks s (past_of s events) e
@@ -69,14 +69,14 @@ changes-takes s past e r h =
 
 -- The cases of an entry of the process itself.
 
-own_called : (s : Setup) (past : Past) (e : Entry) (command : Command) → is_quiet (stage e.process past) ≡ true → e.marks ≡ mark.Called command ∷ [] → Stands s e.process (known s past e.process) → Stands s e.process (known_then s past e)
+own_called : (s : Setup) (past : Past) (e : Entry) (command : Command) → is_at_rest (stage e.process past) ≡ true → e.marks ≡ mark.Called command ∷ [] → Stands s e.process (known s past e.process) → Stands s e.process (known_then s past e)
 own_called s past e command quiet is h = subst (λ (ms : List Mark). Stands s e.process (known_then s past (record e { marks = ms }))) (sym is)
     (standing_called s e.process k.stage _ k.number k.command command k.taken k.list k.calls.done k.calls.now quiet refl h)
   where
     k : Known
     k = known s past e.process
 
-own_restarted : (s : Setup) (past : Past) (e : Entry) → is_quiet (stage e.process past) ≡ true → e.marks ≡ mark.Restarted ∷ [] → Stands s e.process (known s past e.process) → Stands s e.process (known_then s past e)
+own_restarted : (s : Setup) (past : Past) (e : Entry) → is_at_rest (stage e.process past) ≡ true → e.marks ≡ mark.Restarted ∷ [] → Stands s e.process (known s past e.process) → Stands s e.process (known_then s past e)
 own_restarted s past e quiet is h = subst (λ (ms : List Mark). Stands s e.process (known_then s past (record e { marks = ms }))) (sym is)
     (subst (λ (taken : List (ℕ × Reply)). Stands s e.process (record k { stage = Rattle.model.specs.declared.stages.Stage.TheVariants.Idle; taken = taken })) (sym (append-nil k.taken))
     (standing_on s e.process k.stage _ k.number k.command k.taken k.list k.calls.done k.calls.now (λ _. quiet) h))
@@ -137,7 +137,7 @@ answers_taken s past e before a none is (goes t) =
     subst (IsAnswerTo a) (ap (λ (l : List (ℕ × Reply)). taken ++ l) (ap takings is ∙ plain-takings before (mark.Answered a ∷ []) none) ∙ append-nil taken) here.0
 
 -- A stage that is quiet after such marks was quiet before them.
-quiet_after : (st : Stage) (before : List Mark) (k : ℕ) (r : Reply) → list_any reports before ≡ false → is_quiet (fold stage_after st (before ++ mark.Taken k r ∷ [])) ≡ true → is_quiet st ≡ true
+quiet_after : (st : Stage) (before : List Mark) (k : ℕ) (r : Reply) → list_any reports before ≡ false → is_at_rest (fold stage_after st (before ++ mark.Taken k r ∷ [])) ≡ true → is_at_rest st ≡ true
 quiet_after st [] k r none q = q
 quiet_after st (m ∷ before) k r none q =
     let both = both-false (reports m) (list_any reports before) none in
@@ -163,8 +163,8 @@ own_takes s past e before j r none is reported reply h = subst (Stands s p) (sym
     uncalled : has is_called e ≡ false
     uncalled = ap (list_any is_called) is ∙ plain-uncalled before (mark.Taken j r ∷ []) none
 
-    quiet : is_quiet then ≡ true → is_quiet k.stage ≡ true
-    quiet q = quiet_after k.stage before j r none (ap (λ (ms : List Mark). is_quiet (fold stage_after k.stage ms)) (sym is) ∙ q)
+    quiet : is_at_rest then ≡ true → is_at_rest k.stage ≡ true
+    quiet q = quiet_after k.stage before j r none (ap (λ (ms : List Mark). is_at_rest (fold stage_after k.stage ms)) (sym is) ∙ q)
 
     took : takings e.marks ≡ (j, r) ∷ []
     took = ap takings is ∙ plain-takings before (mark.Taken j r ∷ []) none

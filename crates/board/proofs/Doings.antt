@@ -1,7 +1,7 @@
 -- The call or closing of a process has not come to its end, and the process has a next access if its stage allows a step.
 use Rattle.std.proofs.Common.{◌≡◌, ℕ, Bool, true, false, cond, List, ◌∷◌, [], ◌==◌, refl, sym, ◌∙◌, arith}
 use Rattle.std.specs.Prelude.{Option, None, Some}
-use Rattle.model.specs.{Access, Call, Entry, Event, Mark, Past, Stage, call_number, last_call, last_command, last_write, own, past_of, refused_at, settling_from, stage, start_in, unfinished}
+use Rattle.model.specs.{Access, Call, Entry, Event, Mark, Past, Stage, call_number, is_at_work, last_call, last_command, last_write, own, past_of, refused_at, settling_from, stage, start_in, unfinished}
 use Rattle.plain_store.specs.{Command, Setup}
 use Rattle.model.specs.declared.events.Event.TheVariants as event
 use Rattle.model.specs.declared.marks.Mark.TheVariants as mark
@@ -10,7 +10,7 @@ use Rattle.laws.proofs.Doings as laws
 use Rattle.laws.proofs.FrameInside.{stage-is}
 use Rattle.laws.specs.{Closes, Doing, does_after, does_then, doing, goes_on, next_of}
 use Rattle.process.specs.{may_step, next_at, stage_doing}
-use Rattle.board.specs.{IsUnended, OwnView, goes_at, process_at, with_event}
+use Rattle.board.specs.{IsUnended, OwnView, process_at, with_event}
 
 -- The call or closing has not come to its end.
 
@@ -72,13 +72,13 @@ pub stage_known : (s : Setup) → IsGood s → (events : List Event) (p : ℕ) �
 stage_known s g events p = same-stage (doing s p (past_of s events)) ∙ sym (stage-is s g events p)
 
 -- if there is a next access, the stage allows one
-pub next_goes : (s : Setup) (p : ℕ) (d : Doing) (flick : Bool) (n : Access) → IsUnended d → next_of s p d flick ≡ Some n → goes_at (stage_doing d) ≡ true
+pub next_goes : (s : Setup) (p : ℕ) (d : Doing) (flick : Bool) (n : Access) → IsUnended d → next_of s p d flick ≡ Some n → is_at_work (stage_doing d) ≡ true
 next_goes s p d flick n h k = grind arith
 
 -- a stage that allows an access allows a step
-pub step_allowed : (st : Stage) (p : ℕ) (flick : Bool) → goes_at st ≡ true → refused_at (event.Step p flick) st ≡ None
+pub step_allowed : (st : Stage) (p : ℕ) (flick : Bool) → is_at_work st ≡ true → refused_at (event.Step p flick) st ≡ None
 step_allowed st p flick h = grind arith
 
 -- a process whose stage allows an access may step
-pub goes_steps : (d : Doing) → goes_at (stage_doing d) ≡ true → may_step d ≡ true
+pub goes_steps : (d : Doing) → is_at_work (stage_doing d) ≡ true → may_step d ≡ true
 goes_steps d h = grind arith

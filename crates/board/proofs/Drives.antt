@@ -2,15 +2,15 @@
 use Rattle.std.proofs.Common.{◌≡◌, ℕ, suc, ◌<◌, Bool, true, ap, ◌∙◌, subst, arith}
 use Rattle.plain_store.specs.{Answer, Setup}
 use Rattle.process.specs.choices.{FlickState, after_flick, flick_of}
-use Rattle.model.specs.{Stage}
+use Rattle.model.specs.{Stage, is_at_work}
 use Rattle.model.specs.declared.stages.Stage.TheVariants as stage
 use Rattle.process.specs.{StepOutcome}
 use Rattle.process.specs.declared.outcomes.StepOutcome.TheVariants as reports
 use Rattle.board.specs.declared.driving.Driven.TheVariants as driven
-use Rattle.board.specs.{Drives, LeadsTo, OwnView, PortState, SamePort, Walks, WordStep, flicks_after, goes, goes_at}
+use Rattle.board.specs.{Drives, LeadsTo, OwnView, PortState, SamePort, Walks, WordStep, flicks_after, goes}
 
 -- a process that is neither idle nor down has a next access
-pub goes_unless : (st : Stage) → (st ≡ stage.Idle → ⊥) → (st ≡ stage.Down → ⊥) → goes_at st ≡ true
+pub goes_unless : (st : Stage) → (st ≡ stage.Idle → ⊥) → (st ≡ stage.Down → ⊥) → is_at_work st ≡ true
 goes_unless st h k = grind arith
 
 -- a process whose word step neither finishes its call nor brings it down still has a next access

@@ -5,12 +5,11 @@ use Rattle.std.specs.List.{list_any}
 use Rattle.model.specs.reader_copies.Runs as copies
 use Rattle.plain_store.specs.{Answer, Reply, changes}
 use Rattle.plain_store.specs.declared.Answer.TheVariants as answer
-use Rattle.model.specs.{Call, Mark, Next, Part, Place, Stage, Wait, bits_with, entered_if_none, first_marks, is_called, is_fresh, is_last, last_marks, lets_by, marks_of, placed, reply, reply_taken, stage_after, store_read, takings, waits_of}
+use Rattle.model.specs.{Call, Mark, Next, Part, Place, Stage, Wait, bits_with, entered_if_none, first_marks, is_at_rest, is_called, is_fresh, is_last, last_marks, lets_by, marks_of, placed, reply, reply_taken, stage_after, store_read, takings, waits_of}
 use Rattle.model.specs.declared.marks.Mark.TheVariants.{Called, Taken, Left, Answered, Settled, Down, Restarted}
 use Rattle.model.specs.Closings.{Closing, Withdraws, Settles, Frees, Lowers, Quit, Ended, closing_next, is_last_settled, is_last_written, is_unwritten, no_ticket, settled_marks}
 use Rattle.model.specs.Parts as part
 use Rattle.board.specs.Calls.{Calls, calls_after}
-use Rattle.board.proofs.Standing.{is_quiet}
 
 -- a mark that begins, takes or ends a call, or restarts its process
 abbrev pub reports : Mark → Bool
@@ -165,9 +164,9 @@ pub plain-uncalled : (ms more : List Mark) → list_any reports ms ≡ false →
 plain-uncalled [] more h = refl
 plain-uncalled (m ∷ ms) more h = let both = both-false (reports m) (list_any reports ms) h in ap (λ b. b || list_any is_called (ms ++ more)) (one-uncalled m both.0) ∙ plain-uncalled ms more both.1
 
-pub quiet-before : (st : Stage) (m : Mark) → reports m ≡ false → is_quiet (stage_after st m) ≡ true → is_quiet st ≡ true
+pub quiet-before : (st : Stage) (m : Mark) → reports m ≡ false → is_at_rest (stage_after st m) ≡ true → is_at_rest st ≡ true
 quiet-before st m h k = grind arith
 
-pub plain-quiet : (st : Stage) (ms : List Mark) → list_any reports ms ≡ false → is_quiet (fold stage_after st ms) ≡ true → is_quiet st ≡ true
+pub plain-quiet : (st : Stage) (ms : List Mark) → list_any reports ms ≡ false → is_at_rest (fold stage_after st ms) ≡ true → is_at_rest st ≡ true
 plain-quiet st [] h q = q
 plain-quiet st (m ∷ ms) h q = let both = both-false (reports m) (list_any reports ms) h in quiet-before st m both.0 (plain-quiet (stage_after st m) ms both.1 q)

@@ -1,10 +1,10 @@
 -- The begin and the end of each read are neighbours.
 use Rattle.std.proofs.Common.{◌≡◌, ◌==◌, ◌&&◌, Bool, true, false, [], ◌∷◌, Option, Some, None, refl, ap, ◌∙◌, eq-eqb, arith}
 use Rattle.std.specs.Prelude.{not}
-use Rattle.model.specs.safe_bit.{Move}
+use Rattle.model.specs.safe_bit.{Move, is_of_read}
 use Rattle.model.specs.{Access, Entry, Past, same_bit}
 use Rattle.model.proofs.Singles.{is_write}
-use Rattle.board.specs.{are_neighbours, is_of_read, is_pair, is_whole_read, reads}
+use Rattle.board.specs.{are_neighbours, is_pair, is_whole_read, reads}
 
 -- an entry that does not belong to a read ends no read
 no-pair : (a b : Move) → is_of_read b ≡ false → is_pair a b ≡ false

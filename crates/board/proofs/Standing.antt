@@ -4,16 +4,10 @@ use Rattle.std.specs.Prelude.{IfSome, option_map}
 use Rattle.std.proofs.lemmas.List.{length-append}
 use Rattle.plain_store.specs.{Answer, Caller, Command, Contents, Reply, Setup, changes, reply_to}
 use Rattle.plain_store.specs.declared.Answer.TheVariants as answer
-use Rattle.model.specs.{IsAnswerTo, Placed, Stage, Taken, store_after}
+use Rattle.model.specs.{IsAnswerTo, Placed, Stage, Taken, is_at_rest, store_after}
 use Rattle.model.specs.declared.stages.Stage.TheVariants as stage
 use Rattle.board.specs.{PlacedAsAnswered, StandsAt, StandsIn, and_then, called, caller_of, change_at, place_after, store_at}
 use Rattle.board.proofs.Stands.{ComesLast, behind_all, comes_last, last_is, stands_front, stands_longer, stands_push, store-longer}
-
--- a stage in which no call is under way
-abbrev pub is_quiet : Stage → Bool
-is_quiet stage.Idle = true
-is_quiet stage.Down = true
-is_quiet _ = false
 
 -- the caller of the last of n calls
 abbrev pub last_caller : Setup → ℕ → ℕ → Caller
@@ -32,7 +26,7 @@ pub record IsNow (s : Setup) (p n : ℕ) (command : Command) (taken : List (ℕ 
 
 -- the state of the calls of a process that is in this stage and has called n times, last with this command; that call has taken these commands
 pub record Standing (s : Setup) (p : ℕ) (st : Stage) (n : ℕ) (command : Command) (taken : List (ℕ × Reply)) (list : List Taken) (done : List Placed) (now : Option Placed) : Type 0 where
-  pub rests : is_quiet st ≡ true → now ≡ None
+  pub rests : is_at_rest st ≡ true → now ≡ None
   pub count : length (and_then done now) ≡ n
   pub last : IfSome now (IsNow s p n command taken list)
   pub stands : StandsIn s p (and_then done now) list
@@ -47,7 +41,7 @@ standing_none s p = record {
 }
 
 -- A call begins.
-pub standing_called : (s : Setup) (p : ℕ) (st then : Stage) (n : ℕ) (command next : Command) (taken : List (ℕ × Reply)) (list : List Taken) (done : List Placed) (now : Option Placed) → is_quiet st ≡ true → is_quiet then ≡ false →
+pub standing_called : (s : Setup) (p : ℕ) (st then : Stage) (n : ℕ) (command next : Command) (taken : List (ℕ × Reply)) (list : List Taken) (done : List Placed) (now : Option Placed) → is_at_rest st ≡ true → is_at_rest then ≡ false →
     Standing s p st n command taken list done now → Standing s p then (suc n) next [] list done (Some (called next))
 standing_called s p st then n command next taken list done now quiet busy h = by now (h.rests quiet) h.count h.stands
   where
@@ -61,7 +55,7 @@ standing_called s p st then n command next taken list done now quiet busy h = by
     by (Some call) is count stands = cc
 
 -- The stage changes.
-pub standing_on : (s : Setup) (p : ℕ) (st then : Stage) (n : ℕ) (command : Command) (taken : List (ℕ × Reply)) (list : List Taken) (done : List Placed) (now : Option Placed) → (is_quiet then ≡ true → is_quiet st ≡ true) →
+pub standing_on : (s : Setup) (p : ℕ) (st then : Stage) (n : ℕ) (command : Command) (taken : List (ℕ × Reply)) (list : List Taken) (done : List Placed) (now : Option Placed) → (is_at_rest then ≡ true → is_at_rest st ≡ true) →
     Standing s p st n command taken list done now → Standing s p then n command taken list done now
 standing_on s p st then n command taken list done now quiet h = record { rests = λ q. h.rests (quiet q); count = h.count; last = h.last; stands = h.stands }
 
@@ -106,7 +100,7 @@ last_change : (list : List Taken) (b : Bool) (t : Taken) → b ≡ true → slic
 last_change list true t h = last_is list t
 last_change list false t h = cc
 
-pub standing_taken : (s : Setup) (p : ℕ) (st then : Stage) (n : ℕ) (command : Command) (k : ℕ) (r : Reply) (list : List Taken) (done : List Placed) (now : Option Placed) → (is_quiet then ≡ true → is_quiet st ≡ true) →
+pub standing_taken : (s : Setup) (p : ℕ) (st then : Stage) (n : ℕ) (command : Command) (k : ℕ) (r : Reply) (list : List Taken) (done : List Placed) (now : Option Placed) → (is_at_rest then ≡ true → is_at_rest st ≡ true) →
     r ≡ reply_to (store_after s list) command (last_caller s p n) → Standing s p st n command [] list done now →
     Standing s p then n command ((k, r) ∷ []) (list ++ one_change s list (last_caller s p n) command r) done (taken_here (length list) now)
 standing_taken s p st then n command k r list done None quiet reply h = record {

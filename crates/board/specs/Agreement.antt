@@ -2,7 +2,7 @@
 use Rattle.std.specs.Prelude.{◌≡◌, ◌⊎◌, ℕ, ◌<◌, ◌≤◌, ◌==◌, ◌&&◌, not, Bool, true, false, List, [], ◌∷◌, length, slice_index, None, Some, Ok}
 use mathlib.Core.Option.{some}
 use lib.ListN.{get_elem?}
-use Rattle.model.specs.safe_bit.{Move}
+use Rattle.model.specs.safe_bit.{Move, is_of_read}
 use Rattle.model.specs.safe_bit.declared.Move.TheVariants.{BeginRead, EndRead}
 use Rattle.model.specs.{Access, AreGiven, Entry, Event, Past, own, past_of, same_bit}
 use Rattle.plain_store.specs.{Setup, checked}
@@ -46,12 +46,6 @@ pub record Shows (s : Setup) (events : List Event) (words : List ℕ) (views : L
   pub known : (i : ℕ) (v : ViewState) → get_elem? views i ≡ some v → v.spent ≡ false → Knows s (past_of s events) v
   pub apart : (i j : ℕ) (v w : ViewState) → get_elem? views i ≡ some v → get_elem? views j ≡ some w → v.spent ≡ false → w.spent ≡ false → v.own.process ≡ w.own.process → i ≡ j
   pub seats : (v : ViewState) × KnowsSeats s (past_of s events) views v
-
--- the move begins or ends a read
-abbrev pub is_of_read : Move → Bool
-is_of_read BeginRead = true
-is_of_read (EndRead v) = true
-is_of_read _ = false
 
 -- the entry begins or ends a read
 abbrev pub reads : Entry → Bool

@@ -2,7 +2,7 @@
 use Rattle.std.specs.Prelude.{◌≡◌, ◌⊎◌, ℕ, Bool, true, false, List, [], length, None, Some, fold}
 use Rattle.model.specs.safe_bit.declared.Move.TheVariants.{BeginRead, BeginWrite, EndRead, EndWrite}
 use Rattle.model.specs.safe_bit.{Move}
-use Rattle.model.specs.{Access, Stage, Taken, reply_taken, stage_after}
+use Rattle.model.specs.{Access, Taken, is_at_work, reply_taken, stage_after}
 use Rattle.model.specs.reader_copies.{IsWrite}
 use Rattle.plain_store.specs.{Setup}
 use Rattle.model.specs.declared.marks.Mark.TheVariants.{Answered, Down}
@@ -62,15 +62,9 @@ pub record Stores (s : Setup) (flick : Bool) (v w : ViewState) : Type 0 where
 abbrev pub WordStep : Setup → Bool → ViewState → ViewState → Type 0
 WordStep s flick v w = ((word : ℕ) × Loads s flick v word w) ⊎ Stores s flick v w
 
--- the process, or its memory unit, has a next access in this stage
-abbrev pub goes_at : Stage → Bool
-goes_at stage.Idle = false
-goes_at stage.Down = false
-goes_at _ = true
-
 -- the process, or its memory unit, has a next access
 abbrev pub goes : Setup → OwnView → Bool
-goes s o = goes_at (stage_in s o)
+goes s o = is_at_work (stage_in s o)
 
 -- the outcome of a word step: the call is answered, or the process is down, or there is a next access
 abbrev pub LeadsTo : Setup → StepOutcome → OwnView → OwnView → Type 0

@@ -68,7 +68,7 @@ impl Port {
     pub(crate) fn is_still(&self) -> bool
         ensures { IsTrue result ↔ IsStill self.now.setup self.now.view.own }
     {
-        matches!(self.stage(), Stage::Idle | Stage::Down)
+        self.stage().is_at_rest()
     }
 
     /// Returns its seat and its finished calls, once its process is idle or down.

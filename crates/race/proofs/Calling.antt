@@ -3,14 +3,14 @@ use Rattle.std.proofs.Common.{◌≡◌, ◌⊎◌, ℕ, zero, suc, Bool, true, 
 use Rattle.std.specs.Prelude.{fold, option_map}
 use Rattle.plain_store.specs.{Answer, Command, Reply, Setup, changes}
 use Rattle.board.specs.choices.{FlickState, flick_of}
-use Rattle.model.specs.{Call, Event, Mark, Part, Placed, Refusal, Stage, Taken, Wait, bits_with, entered_if_none, first_marks, is_fresh, is_last, is_over, last_marks, lets_by, place_after, reply, stage_after, stage_of, store_read, waits_of}
+use Rattle.model.specs.{Call, Event, Mark, Part, Placed, Refusal, Stage, Taken, Wait, bits_with, entered_if_none, first_marks, is_at_work, is_fresh, is_last, is_over, last_marks, lets_by, place_after, reply, stage_after, stage_of, store_read, waits_of}
 use Rattle.model.specs.declared.marks.Mark.TheVariants as mark
 use Rattle.model.specs.declared.stages.Stage.TheVariants as stage
 use Rattle.model.specs.Parts as part
 use Rattle.board.specs.laws.{Closes, Doing, Lies, Rests, Runs, call, does_then, marks_with}
 use Rattle.board.specs.process.{stage_doing}
 use Rattle.board.specs.Calls.{Calls, and_then, calls_after}
-use Rattle.board.specs.{BoardState, Driven, Drives, EndsWith, IsBegun, IsOf, Loads, Makes, OwnView, PortState, SamePort, ViewState, Walks, WordStep, at_events, called, flicks_after, goes, goes_at, port_after, refusal_in, stage_in}
+use Rattle.board.specs.{BoardState, Driven, Drives, EndsWith, IsBegun, IsOf, Loads, Makes, OwnView, PortState, SamePort, ViewState, Walks, WordStep, at_events, called, flicks_after, goes, port_after, refusal_in, stage_in}
 use Rattle.board.specs.declared.driving.Driven.TheVariants as driven
 use Rattle.board.proofs.Leads.{begin_calls}
 use Rattle.board.proofs.Drives.{same_on}
@@ -44,8 +44,8 @@ uncut_up (Runs command number at) h is = part_up at.part (is_fresh at.run) is
 uncut_up (Closes command number at) h is = cc
 
 -- a process that has a next access is not idle
-goes_busy : (st : Stage) → goes_at st ≡ true → st ≡ stage.Idle → ⊥
-goes_busy st h is = let f : false ≡ true = sym (ap goes_at is) ∙ h in cc
+goes_busy : (st : Stage) → is_at_work st ≡ true → st ≡ stage.Idle → ⊥
+goes_busy st h is = let f : false ≡ true = sym (ap is_at_work is) ∙ h in cc
 
 -- The marks of a call: it goes on, or it is answered.
 
