@@ -3,10 +3,10 @@ use Rattle.std.proofs.Common.{◌≡◌, ◌≢◌, ℕ, zero, suc, ◌<◌, Boo
 use Rattle.std.specs.List.{list_any}
 use Rattle.std.proofs.lemmas.Bool.{cases_eq}
 use Rattle.plain_store.specs.{Answer, Setup}
-use Rattle.model.specs.{Access, AnswersNoCutCall, Entry, Mark, Past, Stage, has, is_called, is_failed, is_waiting_stage, own, since, stage_after}
+use Rattle.model.specs.{Access, AnswersNoCutCall, Entry, Mark, Past, Stage, has, is_called, is_down, is_failed, is_in_doorway, is_leaving, is_running, is_settling, is_waiting_stage, own, since, stage_after}
 use Rattle.model.specs.declared.marks.Mark.TheVariants as mark
 use Rattle.model.specs.declared.stages.Stage.TheVariants as stage
-use Rattle.any_lock.specs.{MarkRefusal, ProcessView, accessed_by, has_nothing, has_one_mark, is_down, is_in_doorway, is_leaving, is_running, is_settling, its_call, mark_refusal, marked, marked_all, refusal_of_marks, refusal_on, process_view, stands_alone}
+use Rattle.any_lock.specs.{MarkRefusal, ProcessView, accessed_by, has_nothing, has_one_mark, its_call, mark_refusal, marked, marked_all, refusal_of_marks, refusal_on, process_view, stands_alone}
 use Rattle.any_lock.specs.declared.refusals.MarkRefusal.TheVariants as refusal
 use Rattle.any_lock.proofs.Alone.{AllKeep, Keeps, not_not}
 use Rattle.any_lock.proofs.Breaks.{none_else, none_if}

@@ -10,9 +10,9 @@ use Rattle.plain_store.specs.{Answer, Reply, Setup}
 use Rattle.plain_store.specs.declared.Answer.TheVariants as answer
 use Rattle.plain_store.specs.declared.Reply.TheVariants as reply
 use Rattle.plain_store.proofs.Changes.{same_value-Decides}
-use Rattle.model.specs.{Access, Entry, Mark, Past, begins_read, has, history, is_entered, moves_of, opening_bit, takings}
+use Rattle.model.specs.{Access, Entry, Mark, Past, begins_read, has, history, is_entered, is_in_doorway, is_leaving, moves_of, opening_bit, takings}
 use Rattle.model.specs.declared.marks.Mark.TheVariants as mark
-use Rattle.any_lock.specs.{AnyLockLaw, MarkRefusal, MaysKeepAllLaws, Remedy, ProcessView, accessed_by, breaks_access, breaks_history, breaks_marks, breaks_overtaken, breaks_safe, breaks_together, broken_inside, broken_later, change_of, changed, ends_with, ends_wrongly, first_broken, first_that, has_other_reply, is_in_doorway, is_leaving, is_reply, is_that, is_withdrawn, mark_refusal, mark_with, marked, other_ahead, other_inside, other_value, passage_in, refusal_of_marks, refusal_on, right_reply, same_reply, same_truth, process_view, stands_alone, value_in, with_value}
+use Rattle.any_lock.specs.{AnyLockLaw, MarkRefusal, MaysKeepAllLaws, Remedy, ProcessView, accessed_by, breaks_access, breaks_history, breaks_marks, breaks_overtaken, breaks_safe, breaks_together, broken_inside, broken_later, change_of, changed, ends_with, ends_wrongly, first_broken, first_that, has_other_reply, is_reply, is_that, is_withdrawn, mark_refusal, mark_with, marked, other_ahead, other_inside, other_value, passage_in, refusal_of_marks, refusal_on, right_reply, same_reply, same_truth, process_view, stands_alone, value_in, with_value}
 use Rattle.any_lock.specs.declared.reasons.Remedy.TheVariants.{Value, Taking}
 use Rattle.any_lock.specs.declared.any_lock_law.AnyLockLaw.TheVariants as law
 use Rattle.any_lock.specs.declared.refusals.MarkRefusal.TheVariants as refusal

@@ -5,11 +5,11 @@ use Rattle.std.proofs.lemmas.Bool.{cases_eq}
 use Rattle.std.proofs.lemmas.List.{length-append}
 use Rattle.std.proofs.lemmas.List.Elements.{Contains-append_cases}
 use Rattle.plain_store.specs.{Reply, Setup}
-use Rattle.model.specs.{Access, Entry, Mark, Past, PlacesKeepOrder, Stage, all_takings, ends_span, has, has_ended, history, is_called, is_waiting_stage, own, reply_taken, takings, takings_of_call, until}
+use Rattle.model.specs.{Access, Entry, Mark, Past, PlacesKeepOrder, Stage, all_takings, ends_span, has, has_ended, history, is_called, is_in_doorway, is_leaving, is_settling, is_waiting_stage, own, reply_taken, takings, takings_of_call, until}
 use Rattle.model.specs.declared.marks.Mark.TheVariants as mark
 use Rattle.model.specs.declared.stages.Stage.TheVariants as stage
 use Rattle.any_lock.specs.declared.refusals.MarkRefusal.TheVariants as refusal
-use Rattle.any_lock.specs.{ProcessView, accessed_by, is_in_doorway, is_leaving, is_settling, mark_refusal, marked, marked_all, refusal_on, process_view}
+use Rattle.any_lock.specs.{ProcessView, accessed_by, mark_refusal, marked, marked_all, refusal_on, process_view}
 use Rattle.any_lock.proofs.Alone.{AllKeep, Keeps, takes_its_place}
 use Rattle.any_lock.proofs.Breaks.{none_else, none_if}
 use Rattle.any_lock.proofs.Cuts.{IsSound, all_sound, answers_not, cut_after, first_unrefused, is_cut, orderly, own-other, rest_unrefused, rests, sound_accessed, sound_marked, unrefused_on}

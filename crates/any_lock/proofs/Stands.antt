@@ -8,10 +8,10 @@ use Rattle.std.proofs.lemmas.List.{take-append-le}
 use Rattle.std.proofs.Math.Seq.{take-append_seam}
 use Rattle.plain_store.specs.declared.Answer.TheVariants as answer
 use Rattle.plain_store.specs.{Reply, Setup, reply_to}
-use Rattle.model.specs.{Access, Call, Entry, Mark, Past, StandsAt, IsInHistory, Taken, caller, history, is_called, last_call, own, reply_taken, since, store_after, takings}
+use Rattle.model.specs.{Access, Call, Entry, Mark, Past, StandsAt, IsInHistory, Taken, caller, history, is_called, is_in_doorway, is_leaving, last_call, own, reply_taken, since, store_after, takings}
 use Rattle.model.specs.declared.marks.Mark.TheVariants as mark
 use Rattle.any_lock.specs.declared.refusals.MarkRefusal.TheVariants as refusal
-use Rattle.any_lock.specs.{ProcessView, accessed_by, has_other_reply, is_in_doorway, is_leaving, is_reply, is_withdrawn, its_call, mark_refusal, marked, marked_all, refusal_on, reply_in, same_reply, process_view, stands_alone}
+use Rattle.any_lock.specs.{ProcessView, accessed_by, has_other_reply, is_reply, is_withdrawn, its_call, mark_refusal, marked, marked_all, refusal_on, reply_in, same_reply, process_view, stands_alone}
 use Rattle.any_lock.proofs.Alone.{AllKeep, Keeps, not_not, same_is, takes_its_place}
 use Rattle.any_lock.proofs.Breaks.{none_else, none_if}
 use Rattle.any_lock.proofs.Cuts.{Orderly, answered_plain, first_unrefused, orderly, own-other, rest_unrefused, unrefused_on}

@@ -6,11 +6,11 @@ use Rattle.std.proofs.lemmas.Bool.{cases_eq}
 use Rattle.std.proofs.lemmas.List.{append-nil}
 use Rattle.plain_store.specs.{Answer, Reply, Setup}
 use Rattle.plain_store.specs.declared.Answer.TheVariants as answer
-use Rattle.model.specs.{Access, Entry, IsAnswerTo, Mark, Past, all_takings, is_called, is_waiting_stage, reply_taken, since, takings}
+use Rattle.model.specs.{Access, Entry, IsAnswerTo, Mark, Past, all_takings, is_called, is_in_doorway, is_leaving, is_settling, is_waiting_stage, reply_taken, since, takings}
 use Rattle.model.specs.declared.marks.Mark.TheVariants as mark
 use Rattle.model.specs.declared.stages.Stage.TheVariants as stage
 use Rattle.any_lock.specs.declared.refusals.MarkRefusal.TheVariants as refusal
-use Rattle.any_lock.specs.{AnswersWhatItTook, ProcessView, accessed_by, has_other_reply, is_in_doorway, is_leaving, is_reply, is_settling, is_withdrawn, its_call, mark_refusal, marked, marked_all, refusal_on, reply_in, process_view, stands_alone}
+use Rattle.any_lock.specs.{AnswersWhatItTook, ProcessView, accessed_by, has_other_reply, is_reply, is_withdrawn, its_call, mark_refusal, marked, marked_all, refusal_on, reply_in, process_view, stands_alone}
 use Rattle.any_lock.proofs.Alone.{AllKeep, Keeps}
 use Rattle.any_lock.proofs.Breaks.{none_else, none_if}
 use Rattle.any_lock.proofs.Cuts.{IsSound, Orderly, all_sound, answered_plain, answers_not, cut_after, first_unrefused, holds, is_cut, orderly, own-other, rest_unrefused, sound_accessed, sound_marked, unrefused_on}

@@ -1,7 +1,7 @@
 -- The state of a process, computed from a past.
 use Rattle.std.specs.Prelude.{ℕ, ◌==◌, Bool, true, false, [], ◌∷◌, length, fold, cond, Option, None, Some, is_some}
 use Rattle.std.specs.List.{list_any}
-use Rattle.model.specs.safe_bit.{Move}
+use Rattle.model.specs.safe_bit.{is_begin, settles}
 use Rattle.model.specs.safe_bit.declared.Move.TheVariants.{BeginWrite, EndWrite, BeginRead, EndRead, Settle}
 use Rattle.plain_store.specs.{Reply, Setup}
 use Rattle.model.specs.{Access, Entry, Mark, Past, call_number, doorway_end, has, inside, is_called, is_entered, is_failed, is_waiting_stage, last_command, number_in_call, own, reply_taken, since, stage}
@@ -30,21 +30,10 @@ has_access e = is_some e.access
 
 -- The open access.
 
--- the move begins an access
-abbrev pub begins : Move → Bool
-begins (BeginWrite v) = true
-begins BeginRead = true
-begins _ = false
-
--- the move settles a bit
-abbrev pub settles : Move → Bool
-settles (Settle v) = true
-settles _ = false
-
 -- the open access after an access: that access, if it is a begin
 abbrev pub begun_by : ℕ → Option Access → Option BegunAccess → Option BegunAccess
 begun_by entry None before = before
-begun_by entry (Some a) before = cond (begins a.how) (Some (record { entry = entry; access = a })) None
+begun_by entry (Some a) before = cond (is_begin a.how) (Some (record { entry = entry; access = a })) None
 
 -- the open access, if it is a write
 abbrev pub write_of : Option BegunAccess → Option BegunAccess

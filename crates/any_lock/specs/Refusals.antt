@@ -2,80 +2,31 @@
 use Rattle.std.specs.Prelude.{ℕ, ◌==◌, nat_lt, nat_le, Bool, true, false, not, ◌&&◌, ◌||◌, List, [], ◌∷◌, ◌++◌, length, Option, None, Some, is_none, is_some, if◌then◌else◌}
 use Rattle.std.specs.List.{list_any}
 use Rattle.std.specs.Ordering.{int_eq}
-use Rattle.model.specs.safe_bit.{Move}
-use Rattle.model.specs.safe_bit.declared.Move.TheVariants.{BeginWrite, EndWrite, BeginRead, EndRead}
+use Rattle.model.specs.safe_bit.{Move, is_begin_of_write, is_end, is_of_read, settles}
 use Rattle.plain_store.specs.{Answer, Reply, Setup, same_value}
 use Rattle.plain_store.specs.declared.Answer.TheVariants as answer
 use Rattle.plain_store.specs.declared.Reply.TheVariants as reply
-use Rattle.model.specs.{Access, Entry, Mark, Past, Stage, is_waiting_stage, same_bit, width}
+use Rattle.model.specs.{Access, Entry, Mark, Past, Stage, is_down, is_in_doorway, is_leaving, is_running, is_settling, is_waiting_stage, same_bit, width}
 use Rattle.model.specs.declared.marks.Mark.TheVariants.{Called, Waiting, Entered, Taken, Left, Answered, Failed, Settled, Down, Withdrew, Restarted}
-use Rattle.model.specs.declared.stages.Stage.TheVariants as stage
 use Rattle.any_lock.specs.declared.refusals.AccessRefusal.{AccessRefusal}
 use Rattle.any_lock.specs.declared.refusals.AccessRefusal.TheVariants as access
 use Rattle.any_lock.specs.declared.refusals.MarkRefusal.{MarkRefusal}
 use Rattle.any_lock.specs.declared.refusals.MarkRefusal.TheVariants as mark
 use Rattle.any_lock.specs.declared.process_views.BegunAccess.{BegunAccess}
 use Rattle.any_lock.specs.declared.process_views.ProcessView.{ProcessView}
-use Rattle.any_lock.specs.ProcessViews.{settles, process_view}
+use Rattle.any_lock.specs.ProcessViews.{process_view}
 
 -- the first value whose test holds
 abbrev pub first_that : {R : Type 0} → List (Bool × R) → Option R
 first_that [] = None
 first_that (test ∷ tests) = if test.0 then Some test.1 else first_that tests
 
--- Stages.
-
--- a process runs from its call to its answer, unless it fails
-abbrev pub is_running : Stage → Bool
-is_running stage.Doorway = true
-is_running stage.Waiting = true
-is_running stage.Inside = true
-is_running stage.Leaving = true
-is_running _ = false
-
--- the memory unit of a process settles and clears
-abbrev pub is_settling : Stage → Bool
-is_settling stage.Settling = true
-is_settling _ = false
-
--- the memory unit of a process has finished
-abbrev pub is_down : Stage → Bool
-is_down stage.Down = true
-is_down _ = false
-
--- a process is in its doorway
-abbrev pub is_in_doorway : Stage → Bool
-is_in_doorway stage.Doorway = true
-is_in_doorway _ = false
-
--- a process is leaving
-abbrev pub is_leaving : Stage → Bool
-is_leaving stage.Leaving = true
-is_leaving _ = false
-
--- Moves.
+-- Accesses.
 
 -- both are true, or both are false
 abbrev pub same_truth : Bool → Bool → Bool
 same_truth true b = b
 same_truth false b = not b
-
--- the move belongs to a read
-abbrev pub reads : Move → Bool
-reads BeginRead = true
-reads (EndRead v) = true
-reads _ = false
-
--- the move ends a write or a read
-abbrev pub ends : Move → Bool
-ends EndWrite = true
-ends (EndRead v) = true
-ends _ = false
-
--- the move begins a write
-abbrev pub begins_write : Move → Bool
-begins_write (BeginWrite v) = true
-begins_write _ = false
 
 -- the bit of an access exists
 abbrev pub is_there : Setup → Access → Bool
@@ -83,7 +34,7 @@ is_there s a = nat_lt a.owner s.processes && nat_lt a.reader s.processes && nat_
 
 -- a process at this stage may make this move: any move while it runs, a move of a write while it is settling; a settling has its own rules
 abbrev pub may_move : Stage → Move → Bool
-may_move at how = settles how || is_running at || (is_settling at && not (reads how))
+may_move at how = settles how || is_running at || (is_settling at && not (is_of_read how))
 
 -- this began an access to the same bit
 abbrev pub is_of_bit : Option BegunAccess → Access → Bool
@@ -93,25 +44,25 @@ is_of_bit (Some b) a = same_bit b.access a
 -- this began the access that ends here
 abbrev pub is_end_of : Option BegunAccess → Access → Bool
 is_end_of None a = false
-is_end_of (Some b) a = same_bit b.access a && same_truth (reads a.how) (reads b.access.how)
+is_end_of (Some b) a = same_bit b.access a && same_truth (is_of_read a.how) (is_of_read b.access.how)
 
 -- The tables of refusals of an access: by the process that makes it, and by the state of that process.
 abbrev pub maker_refusals : Setup → ℕ → Access → List (Bool × AccessRefusal)
 maker_refusals s p a =
     (not (nat_lt p s.processes), access.NoProcess)
     ∷ (not (is_there s a), access.NoBit)
-    ∷ (not (reads a.how) && not (a.owner == p), access.NotOwner)
-    ∷ (reads a.how && not (a.reader == p), access.NotReader)
+    ∷ (not (is_of_read a.how) && not (a.owner == p), access.NotOwner)
+    ∷ (is_of_read a.how && not (a.reader == p), access.NotReader)
     ∷ []
 
 abbrev pub move_refusals : ProcessView → Access → List (Bool × AccessRefusal)
 move_refusals k a =
     (settles a.how && not (is_settling k.stage), access.NotSettling)
     ∷ (not (may_move k.stage a.how), access.NotRunning)
-    ∷ (ends a.how && not (is_end_of k.opened a), access.NotOpen)
-    ∷ (not (ends a.how) && is_some k.opened, access.AccessOpen)
+    ∷ (is_end a.how && not (is_end_of k.opened a), access.NotOpen)
+    ∷ (not (is_end a.how) && is_some k.opened, access.AccessOpen)
     ∷ (settles a.how && not (is_of_bit k.torn a), access.NotTorn)
-    ∷ (begins_write a.how && is_of_bit k.torn a, access.Torn)
+    ∷ (is_begin_of_write a.how && is_of_bit k.torn a, access.Torn)
     ∷ []
 
 -- the refusal of an access that p makes in this state

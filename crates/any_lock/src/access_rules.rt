@@ -1,9 +1,9 @@
 //! The refusals of an access, by the state of its process.
 ghost use Rattle.std.specs.Prelude.{◌≡◌, Ok};
 ghost use Rattle.plain_store.specs.{checked};
-ghost use Rattle.any_lock.specs.Refusals.{access_refusal, begins_write, ends, first_that, is_end_of, is_of_bit, is_running as runs, is_settling as stage_settles, is_there as bit_is_there, maker_refusals, may_move, move_refusals, reads};
+ghost use Rattle.any_lock.specs.Refusals.{access_refusal, first_that, is_end_of, is_of_bit, is_there as bit_is_there, maker_refusals, may_move, move_refusals};
 
-use crate::process_views::{BegunAccess, ProcessView, is_settling};
+use crate::process_views::{BegunAccess, ProcessView};
 use crate::refusals::AccessRefusal;
 use model::{Access, Move, Stage, width_of};
 use plain_store::Setup;
@@ -32,17 +32,17 @@ impl ProcessView {
         ensures { result ≡ first_that (move_refusals self.now access.now) }
     {
         let how = access.how;
-        if is_settling(how) && !settles(self.stage) {
+        if how.settles() && !self.stage.is_settling() {
             Some(AccessRefusal::NotSettling)
         } else if !may_move(self.stage, how) {
             Some(AccessRefusal::NotRunning)
-        } else if ends(how) && !is_end_of(&self.opened, access) {
+        } else if how.is_end() && !is_end_of(&self.opened, access) {
             Some(AccessRefusal::NotOpen)
-        } else if !ends(how) && self.opened.is_some() {
+        } else if !how.is_end() && self.opened.is_some() {
             Some(AccessRefusal::AccessOpen)
-        } else if is_settling(how) && !is_of_bit(&self.torn, access) {
+        } else if how.settles() && !is_of_bit(&self.torn, access) {
             Some(AccessRefusal::NotTorn)
-        } else if begins_write(how) && is_of_bit(&self.torn, access) {
+        } else if how.is_begin_of_write() && is_of_bit(&self.torn, access) {
             Some(AccessRefusal::Torn)
         } else {
             None
@@ -60,30 +60,11 @@ fn refuses_maker(setup: &Setup, process: u8, access: &Access) -> Option<AccessRe
         Some(AccessRefusal::NoProcess)
     } else if !is_there(setup, access) {
         Some(AccessRefusal::NoBit)
-    } else if reads(access.how) {
+    } else if access.how.is_of_read() {
         (access.reader != process).then_some(AccessRefusal::NotReader)
     } else {
         (access.owner != process).then_some(AccessRefusal::NotOwner)
     }
-}
-
-/// Returns whether a process runs at a stage: from its call to its answer, unless it fails.
-#[inline]
-pub(crate) fn is_running(stage: Stage) -> bool
-    ensures { result ≡ runs stage }
-{
-    matches!(
-        stage,
-        Stage::Doorway | Stage::Waiting | Stage::Inside | Stage::Leaving
-    )
-}
-
-/// Returns whether its memory unit settles and clears.
-#[inline]
-pub(crate) fn settles(stage: Stage) -> bool
-    ensures { result ≡ stage_settles stage }
-{
-    matches!(stage, Stage::Settling)
 }
 
 /// Returns whether a process at a stage may make a move that does not settle a bit.
@@ -91,31 +72,7 @@ pub(crate) fn settles(stage: Stage) -> bool
 fn may_move(stage: Stage, how: Move) -> bool
     ensures { result ≡ may_move stage how }
 {
-    is_settling(how) || is_running(stage) || (settles(stage) && !reads(how))
-}
-
-/// Returns whether a move is one of a read.
-#[inline]
-fn reads(how: Move) -> bool
-    ensures { result ≡ reads how }
-{
-    matches!(how, Move::BeginRead | Move::EndRead(_))
-}
-
-/// Returns whether a move is an end, of a write or of a read.
-#[inline]
-fn ends(how: Move) -> bool
-    ensures { result ≡ ends how }
-{
-    matches!(how, Move::EndWrite | Move::EndRead(_))
-}
-
-/// Returns whether a move begins a write.
-#[inline]
-fn begins_write(how: Move) -> bool
-    ensures { result ≡ begins_write how }
-{
-    matches!(how, Move::BeginWrite(_))
+    how.settles() || stage.is_running() || (stage.is_settling() && !how.is_of_read())
 }
 
 /// Returns whether the bit of an access exists.
@@ -148,7 +105,8 @@ fn is_end_of(begun: &Option<BegunAccess>, access: &Access) -> bool
     match begun {
         None => false,
         Some(begun) => {
-            begun.access.same_bit(access) && reads(access.how) == reads(begun.access.how)
+            begun.access.same_bit(access)
+                && access.how.is_of_read() == begun.access.how.is_of_read()
         }
     }
 }

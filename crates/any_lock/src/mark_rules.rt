@@ -3,13 +3,12 @@ ghost use Rattle.std.specs.Prelude.{◌≡◌, ◌||◌, ◌∷◌, [], ℕ, Boo
 ghost use Rattle.plain_store.specs.declared.Command.{Command as Asked};
 ghost use Rattle.plain_store.specs.declared.Reply.{Reply as Replied};
 ghost use Rattle.model.specs.declared.marks.Mark.TheVariants.{Answered, Called, Down, Settled, Taken};
-ghost use Rattle.model.specs.{is_waiting_stage};
-ghost use Rattle.any_lock.specs.Refusals.{first_that, has_other_reply, is_down, is_in_doorway, is_leaving, is_reply as answers_reply, is_settling, is_withdrawn, mark_refusal, same_reply, stands_alone as is_alone};
+ghost use Rattle.model.specs.{is_down, is_settling};
+ghost use Rattle.any_lock.specs.Refusals.{first_that, has_other_reply, is_reply as answers_reply, is_withdrawn, mark_refusal, same_reply, stands_alone as is_alone};
 
-use crate::access_rules::{is_running, settles};
 use crate::process_views::ProcessView;
 use crate::refusals::MarkRefusal;
-use model::{Mark, Stage};
+use model::Mark;
 use plain_store::{Answer, NestedTypes, Reply};
 
 /// The most calls of a process in version 2.
@@ -25,11 +24,11 @@ impl ProcessView {
             Mark::Called(_command) => self.refuses_call(),
             Mark::Failed => refused_if(self.has_failed(), MarkRefusal::AlreadyFailed),
             Mark::Withdrew | Mark::Entered => {
-                refused_if(!waits(self.stage), MarkRefusal::NotWaiting)
+                refused_if(!self.stage.is_waiting(), MarkRefusal::NotWaiting)
             }
-            Mark::Restarted => refused_if(!is_down(self.stage), MarkRefusal::NotDown),
+            Mark::Restarted => refused_if(!self.stage.is_down(), MarkRefusal::NotDown),
             Mark::Waiting(_) => {
-                refused_if(!is_in_doorway(self.stage), MarkRefusal::NotInDoorway)
+                refused_if(!self.stage.is_in_doorway(), MarkRefusal::NotInDoorway)
             }
             Mark::Left => refused_if(!self.passage.inside, MarkRefusal::NotInside),
             Mark::Taken(_place, _reply) => self.refuses_taking(),
@@ -43,7 +42,7 @@ impl ProcessView {
     fn refuses_call(&self) -> Option<MarkRefusal>
         ensures { (c : Asked) → result ≡ mark_refusal self.now (Called c) }
     {
-        if is_running(self.stage) {
+        if self.stage.is_running() {
             Some(MarkRefusal::Busy)
         } else if self.has_failed() {
             Some(MarkRefusal::IsDown)
@@ -73,7 +72,7 @@ impl ProcessView {
     {
         let _nested: NestedTypes = None;
         let withdrawn = is_withdrawn(answer);
-        if !(is_in_doorway(self.stage) || is_leaving(self.stage)) {
+        if !(self.stage.is_in_doorway() || self.stage.is_leaving()) {
             Some(MarkRefusal::NotLeaving)
         } else if self.withdrawn && !withdrawn {
             Some(MarkRefusal::WasWithdrawn)
@@ -94,7 +93,7 @@ impl ProcessView {
     fn refuses_settled(&self) -> Option<MarkRefusal>
         ensures { (value : Bool) → result ≡ mark_refusal self.now (Settled value) }
     {
-        if !settles(self.stage) {
+        if !self.stage.is_settling() {
             Some(MarkRefusal::NotSettling)
         } else if self.torn.is_some() {
             Some(MarkRefusal::Torn)
@@ -107,7 +106,7 @@ impl ProcessView {
     fn refuses_down(&self) -> Option<MarkRefusal>
         ensures { result ≡ mark_refusal self.now Down }
     {
-        if !settles(self.stage) {
+        if !self.stage.is_settling() {
             Some(MarkRefusal::NotSettling)
         } else if self.passage.inside {
             Some(MarkRefusal::StillInside)
@@ -124,7 +123,7 @@ impl ProcessView {
     fn has_failed(&self) -> bool
         ensures { result ≡ (is_settling self.now.stage || is_down self.now.stage) }
     {
-        settles(self.stage) || is_down(self.stage)
+        self.stage.is_settling() || self.stage.is_down()
     }
 }
 
@@ -143,34 +142,6 @@ pub(crate) fn stands_alone(mark: &Mark) -> bool
         mark,
         Mark::Called(_) | Mark::Failed | Mark::Withdrew | Mark::Restarted
     )
-}
-
-/// Returns whether a process waits.
-fn waits(stage: Stage) -> bool
-    ensures { result ≡ is_waiting_stage stage }
-{
-    matches!(stage, Stage::Waiting)
-}
-
-/// Returns whether a process is down.
-fn is_down(stage: Stage) -> bool
-    ensures { result ≡ is_down stage }
-{
-    matches!(stage, Stage::Down)
-}
-
-/// Returns whether a process is in its doorway.
-fn is_in_doorway(stage: Stage) -> bool
-    ensures { result ≡ is_in_doorway stage }
-{
-    matches!(stage, Stage::Doorway)
-}
-
-/// Returns whether a process leaves.
-fn is_leaving(stage: Stage) -> bool
-    ensures { result ≡ is_leaving stage }
-{
-    matches!(stage, Stage::Leaving)
 }
 
 /// Returns whether an answer is that of a withdrawal.

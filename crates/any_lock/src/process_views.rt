@@ -5,11 +5,11 @@ ghost use Rattle.model.specs.declared.marks.Mark.TheVariants.{Called, Left};
 ghost use Rattle.lock_stages.specs.{without_wait};
 ghost use Rattle.any_lock.specs.Keeping.{IsRefusedFor, accessed, at_rest, marked, marked_all, refusal_on};
 ghost use Rattle.any_lock.specs.Refusals.{mark_refusal};
-ghost use Rattle.any_lock.specs.ProcessViews.{begins as begins_access, settles as settles_bit, write_of as write_in};
+ghost use Rattle.any_lock.specs.ProcessViews.{write_of as write_in};
 
 use crate::refusals::MarkRefusal;
 use lock_stages::{HasPassage, Passage};
-use model::{Access, Mark, Move, Stage};
+use model::{Access, Mark, Stage};
 use plain_store::{Command, NestedTypes, Reply, Setup};
 
 /// An access that begins, and the number of its entry.
@@ -69,12 +69,12 @@ impl ProcessView {
     pub(crate) fn make(&mut self, entry: u64, access: Access)
         ensures { self.new ≡ accessed entry self.old access }
     {
-        if is_begin(access.how) {
+        if access.how.is_begin() {
             self.opened = Some(BegunAccess { entry, access });
         } else {
             self.opened = None;
         }
-        if is_settling(access.how) {
+        if access.how.settles() {
             self.torn = None;
         }
         self.passage.access(entry);
@@ -173,28 +173,12 @@ impl ProcessView {
     }
 }
 
-/// Returns whether a move begins an access.
-#[inline]
-fn is_begin(how: Move) -> bool
-    ensures { result ≡ begins_access how }
-{
-    matches!(how, Move::BeginWrite(_) | Move::BeginRead)
-}
-
-/// Returns whether a move settles.
-#[inline]
-pub(crate) fn is_settling(how: Move) -> bool
-    ensures { result ≡ settles_bit how }
-{
-    matches!(how, Move::Settle(_))
-}
-
 /// Returns the open access, if it is a write.
 fn write_of(opened: Option<BegunAccess>) -> Option<BegunAccess>
     ensures { result ≡ write_in opened }
 {
     match opened {
-        Some(begun) if matches!(begun.access.how, Move::BeginWrite(_)) => Some(begun),
+        Some(begun) if begun.access.how.is_begin_of_write() => Some(begun),
         _ => None,
     }
 }

@@ -4,14 +4,14 @@ use Rattle.std.specs.List.{list_any}
 use Rattle.std.proofs.lemmas.Bool.{and_parts, cases_eq}
 use Rattle.std.proofs.lemmas.Bool.Decides.{nat_tests}
 use Rattle.plain_store.specs.{Command, Setup}
-use Rattle.model.specs.{Access, Entry, Mark, Past, Stage, field_number, has, is_called, moves_of, same_bit, stage_after}
+use Rattle.model.specs.{Access, Entry, Mark, Past, Stage, field_number, has, is_called, is_down, is_running, is_settling, moves_of, same_bit, stage_after}
 use Rattle.model.specs.declared.marks.Mark.TheVariants as mark
 use Rattle.model.specs.declared.stages.Stage.TheVariants as stage
-use Rattle.model.specs.safe_bit.{Move}
+use Rattle.model.specs.safe_bit.{Move, is_begin, is_end, is_of_read, settles}
 use Rattle.model.specs.safe_bit.declared.Move.TheVariants.{BeginWrite, EndWrite, BeginRead, EndRead, Settle}
 use Rattle.world.specs.{ends_overlapped, ends_overlapped_read}
 use Rattle.calls.specs.{begins_read_of, ends_own_overlapped, goes_on_after, is_calling, is_read, is_there, last_access, later_access, overlaps_in}
-use Rattle.judge.specs.any_lock.{BegunAccess, ProcessView, access_refusal, accessed_by, begins, begun_by, ends, is_down, is_end_of, is_running, is_settling, left_open, mark_refusal, marked, marked_all, may_move, opened, reads, refusal_of_access, refusal_on, same_truth, settles, process_view, stands_alone}
+use Rattle.judge.specs.any_lock.{BegunAccess, ProcessView, access_refusal, accessed_by, begun_by, is_end_of, left_open, mark_refusal, marked, marked_all, may_move, opened, refusal_of_access, refusal_on, same_truth, process_view, stands_alone}
 use Rattle.judge.specs.any_lock.declared.refusals.AccessRefusal.TheVariants as access
 use Rattle.judge.specs.any_lock.declared.refusals.MarkRefusal.TheVariants as refusal
 use Rattle.judge.proofs.any_lock.Alone.{AllKeep, Keeps, not_not}
@@ -43,7 +43,7 @@ were_open o (m ∷ ms) b is = was_open o m b (were_open (left_open o m) ms b is)
 
 -- it is the last access, which begins
 abbrev IsLast : Option Access → BegunAccess → Type 0
-IsLast o b = (o ≡ Some b.access) × (begins b.access.how ≡ true)
+IsLast o b = (o ≡ Some b.access) × (is_begin b.access.how ≡ true)
 
 opened_last : (p : ℕ) (past : Past) (b : BegunAccess) → opened p past ≡ Some b → IsLast (last_access p past) b
 opened_last p [] b is = absurd (cc)
@@ -52,13 +52,13 @@ opened_last p (e ∷ past) b is = by (e.process == p) e.access is (opened_last p
     n : ℕ
     n = length past
 
-    one : (a : Access) (t : Bool) → begins a.how ≡ t → cond t (Some (let x : BegunAccess = record { entry = n; access = a } in x)) None ≡ Some b → IsLast (Some a) b
-    one a true h is = let same : (let x : BegunAccess = record { entry = n; access = a } in x) ≡ b = cc in (ap (λ (x : BegunAccess). Some x.access) same, ap (λ (x : BegunAccess). begins x.access.how) (sym same) ∙ h)
+    one : (a : Access) (t : Bool) → is_begin a.how ≡ t → cond t (Some (let x : BegunAccess = record { entry = n; access = a } in x)) None ≡ Some b → IsLast (Some a) b
+    one a true h is = let same : (let x : BegunAccess = record { entry = n; access = a } in x) ≡ b = cc in (ap (λ (x : BegunAccess). Some x.access) same, ap (λ (x : BegunAccess). is_begin x.access.how) (sym same) ∙ h)
     one a false h is = absurd (cc)
 
     with : (o : Option Access) → begun_by n o (opened p past) ≡ Some b → (opened p past ≡ Some b → IsLast (last_access p past) b) → IsLast (later_access (last_access p past) o) b
     with None is before = before is
-    with (Some a) is before = one a (begins a.how) refl is
+    with (Some a) is before = one a (is_begin a.how) refl is
 
     by : (mine : Bool) (o : Option Access) → cond mine (fold left_open (begun_by n o (opened p past)) e.marks) (opened p past) ≡ Some b → (opened p past ≡ Some b → IsLast (last_access p past) b) →
         IsLast (cond mine (later_access (last_access p past) o) (last_access p past)) b
@@ -76,10 +76,10 @@ same_back a b same =
     back m n h = eq-eqb m n (sym (eqb-true n m h))
 
 -- so the end of what is open ends the process's own read
-ends_own : (p : ℕ) (past : Past) (a : Access) → reads a.how ≡ true → is_end_of (opened p past) a ≡ true → begins_read_of (last_access p past) a ≡ true
+ends_own : (p : ℕ) (past : Past) (a : Access) → is_of_read a.how ≡ true → is_end_of (opened p past) a ≡ true → begins_read_of (last_access p past) a ≡ true
 ends_own p past a ends h = go (opened p past) refl h
   where
-    read_begun : (m : Move) → begins m ≡ true → reads m ≡ true → is_read m ≡ true
+    read_begun : (m : Move) → is_begin m ≡ true → is_of_read m ≡ true → is_read m ≡ true
     read_begun BeginRead b r = refl
     read_begun (EndRead v) b r = absurd (true≢false (sym b))
     read_begun (BeginWrite v) b r = absurd (true≢false (sym r))
@@ -89,9 +89,9 @@ ends_own p past a ends h = go (opened p past) refl h
     go : (o : Option BegunAccess) → opened p past ≡ o → is_end_of o a ≡ true → begins_read_of (last_access p past) a ≡ true
     go None is h = absurd (true≢false (sym h))
     go (Some b) is h =
-        let both = and_parts (same_bit b.access a) (same_truth (reads a.how) (reads b.access.how)) h in
+        let both = and_parts (same_bit b.access a) (same_truth (is_of_read a.how) (is_of_read b.access.how)) h in
         let last = opened_last p past b is in
-        let read : reads b.access.how ≡ true = ap (λ t. same_truth t (reads b.access.how)) (sym ends) ∙ both.1 in
+        let read : is_of_read b.access.how ≡ true = ap (λ t. same_truth t (is_of_read b.access.how)) (sym ends) ∙ both.1 in
         ap (λ o. begins_read_of o a) last.0 ∙ (λ i. read_begun b.access.how last.1 read i && same_back a b.access both.0 i)
 
 -- Overlapped reads are those of a run.
@@ -99,18 +99,18 @@ ends_own p past a ends h = go (opened p past) refl h
 -- what is known of an access that is not refused
 record IsAllowed (s : Setup) (p : ℕ) (past : Past) (a : Access) : Type 0 where
   pub there : is_there s a ≡ true
-  pub fits : (ends a.how && not (is_end_of (opened p past) a)) ≡ false
+  pub fits : (is_end a.how && not (is_end_of (opened p past) a)) ≡ false
 
 allowed : (s : Setup) (p : ℕ) (past : Past) (a : Access) → access_refusal s p (process_view s p past) a ≡ None → IsAllowed s p past a
 allowed s p past a none =
     let k : ProcessView = process_view s p past in
     let one = none_else (not (nat_lt p s.processes)) access.NoProcess _ none in
     let two = none_else (not (is_there s a)) access.NoBit _ one in
-    let three = none_else (not (reads a.how) && not (a.owner == p)) access.NotOwner _ two in
-    let four = none_else (reads a.how && not (a.reader == p)) access.NotReader _ three in
+    let three = none_else (not (is_of_read a.how) && not (a.owner == p)) access.NotOwner _ two in
+    let four = none_else (is_of_read a.how && not (a.reader == p)) access.NotReader _ three in
     let five = none_else (settles a.how && not (is_settling k.stage)) access.NotSettling _ four in
     let six = none_else (not (may_move k.stage a.how)) access.NotRunning _ five in
-    record { there = not_not (is_there s a) (none_if (not (is_there s a)) access.NoBit _ one); fits = none_if (ends a.how && not (is_end_of k.opened a)) access.NotOpen _ six }
+    record { there = not_not (is_there s a) (none_if (not (is_there s a)) access.NoBit _ one); fits = none_if (is_end a.how && not (is_end_of k.opened a)) access.NotOpen _ six }
 
 own_read : (s : Setup) (p : ℕ) (past : Past) (a : Access) → IsAllowed s p past a → ends_own_overlapped s p past a ≡ ends_overlapped (moves_of a past) a.how
 own_read s p past a h = by a.how refl
@@ -121,8 +121,8 @@ own_read s p past a h = by a.how refl
 
     by : (m : Move) → a.how ≡ m → (is_there s a && begins_read_of (last_access p past) a && ends_overlapped (moves_of a past) m) ≡ ends_overlapped (moves_of a past) m
     by (EndRead v) is =
-        let fits : not (is_end_of (opened p past) a) ≡ false = ap (λ m. ends m && not (is_end_of (opened p past) a)) (sym is) ∙ h.fits in
-        λ i. h.there i && ends_own p past a (ap reads is) (not_not (is_end_of (opened p past) a) fits) i && ends_overlapped (moves_of a past) (EndRead v)
+        let fits : not (is_end_of (opened p past) a) ≡ false = ap (λ m. is_end m && not (is_end_of (opened p past) a)) (sym is) ∙ h.fits in
+        λ i. h.there i && ends_own p past a (ap is_of_read is) (not_not (is_end_of (opened p past) a) fits) i && ends_overlapped (moves_of a past) (EndRead v)
     by (BeginWrite v) is = never (is_there s a && begins_read_of (last_access p past) a)
     by EndWrite is = never (is_there s a && begins_read_of (last_access p past) a)
     by BeginRead is = never (is_there s a && begins_read_of (last_access p past) a)

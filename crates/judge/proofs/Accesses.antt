@@ -5,10 +5,10 @@ use Rattle.std.proofs.lemmas.Bool.Decides.{nat_tests}
 use Rattle.std.specs.Option.{is_some}
 use Rattle.std.specs.Prelude.{option_map}
 use Rattle.model.specs.reader_copies.Runs as copies
-use Rattle.model.specs.safe_bit.{Move, read_value}
+use Rattle.model.specs.safe_bit.{Move, is_begin_of_write, is_end, is_of_read, read_value, settles}
 use Rattle.model.specs.safe_bit.declared.Move.TheVariants.{BeginWrite, EndWrite, BeginRead, EndRead, Settle}
 use Rattle.model.specs.safe_number.{NumberWrite}
-use Rattle.model.specs.{Access, Call, Clears, Entry, Event, Field, Next, Over, Part, Past, Place, Reading, Run, Stage, Writing, access_at, access_of, bit_written, ended, ended_with, entry_of, field_number, is_fresh, is_over, moves_of, opening_bit, past_of, stage, stage_of, width, written_at}
+use Rattle.model.specs.{Access, Call, Clears, Entry, Event, Field, Next, Over, Part, Past, Place, Reading, Run, Stage, Writing, access_at, access_of, bit_written, ended, ended_with, entry_of, field_number, is_fresh, is_over, is_running, is_settling, moves_of, opening_bit, past_of, stage, stage_of, width, written_at}
 use Rattle.model.specs.declared.stages.Stage.TheVariants as stages
 use Rattle.plain_store.specs.{Command, Setup}
 use Rattle.model.specs.Closings.{Closing, Withdraws, Settles, Frees, Lowers, Quit, Ended, closing_next, closing_stage, no_ticket}
@@ -24,7 +24,7 @@ use Rattle.any_lock.proofs.safe_monitor.laws.FrameEvents.{Accepted, accepted}
 use Rattle.any_lock.proofs.safe_monitor.laws.FrameInside.{stage-is}
 use Rattle.any_lock.proofs.safe_monitor.laws.FrameSteps.{closing-writes, entry-by}
 use Rattle.any_lock.proofs.safe_monitor.laws.HeldThere.{access_there}
-use Rattle.any_lock.specs.{AccessRefusal, BegunAccess, ProcessView, access_refusal, begins_write, ends, first_that, is_end_of, is_of_bit, is_running, is_settling, may_move, opened, reads, refusal_of_access, settles, process_view, torn}
+use Rattle.any_lock.specs.{AccessRefusal, BegunAccess, ProcessView, access_refusal, first_that, is_end_of, is_of_bit, may_move, opened, refusal_of_access, process_view, torn}
 use Rattle.any_lock.specs.declared.refusals.AccessRefusal.TheVariants as access
 use Rattle.judge.proofs.OpenDoings.{opens}
 use Rattle.judge.proofs.Opened.{Fits, FitsNext}
@@ -46,7 +46,7 @@ record Allowed (s : Setup) (p : ℕ) (k : ProcessView) (a : Access) : Type 0 whe
   pub settling : (settles a.how && not (is_settling k.stage)) ≡ false
   pub fits : Fits k.opened a
   pub of_torn : (settles a.how && not (is_of_bit k.torn a)) ≡ false
-  pub off_torn : (begins_write a.how && is_of_bit k.torn a) ≡ false
+  pub off_torn : (is_begin_of_write a.how && is_of_bit k.torn a) ≡ false
 
 below : (m n : ℕ) → m < n → nat_lt m n ≡ true
 below m n h = grind (arith, nat_tests)
@@ -59,20 +59,20 @@ unrefused s p k a h = λ i. first_that (
     ∷ (read a.how refl i, access.NotReader)
     ∷ (h.settling i, access.NotSettling)
     ∷ (not (h.at_stage i), access.NotRunning)
-    ∷ (ended_one (ends a.how) h.fits i, access.NotOpen)
-    ∷ (one_only (ends a.how) h.fits i, access.AccessOpen)
+    ∷ (ended_one (is_end a.how) h.fits i, access.NotOpen)
+    ∷ (one_only (is_end a.how) h.fits i, access.AccessOpen)
     ∷ (h.of_torn i, access.NotTorn)
     ∷ (h.off_torn i, access.Torn)
     ∷ [])
   where
-    owned : (m : Move) → a.how ≡ m → (not (reads m) && not (a.owner == p)) ≡ false
+    owned : (m : Move) → a.how ≡ m → (not (is_of_read m) && not (a.owner == p)) ≡ false
     owned BeginRead is = refl
     owned (EndRead v) is = refl
     owned (BeginWrite v) is = ap not (eq-eqb a.owner p (h.by.writes (ap is_write is)))
     owned EndWrite is = ap not (eq-eqb a.owner p (h.by.writes (ap is_write is)))
     owned (Settle v) is = ap not (eq-eqb a.owner p (h.by.writes (ap is_write is)))
 
-    read : (m : Move) → a.how ≡ m → (reads m && not (a.reader == p)) ≡ false
+    read : (m : Move) → a.how ≡ m → (is_of_read m && not (a.reader == p)) ≡ false
     read BeginRead is = ap not (eq-eqb a.reader p (h.by.reads (ap is_write is)))
     read (EndRead v) is = ap not (eq-eqb a.reader p (h.by.reads (ap is_write is)))
     read _ is = refl
@@ -124,9 +124,9 @@ part_runs (Clears a) false o = refl
 part_runs _ fresh o = refl
 
 running_moves : (st : Stage) (m : Move) → is_running st ≡ true → may_move st m ≡ true
-running_moves st m run = ap (λ b. settles m || b || (is_settling st && not (reads m))) run ∙ go (settles m)
+running_moves st m run = ap (λ b. settles m || b || (is_settling st && not (is_of_read m))) run ∙ go (settles m)
   where
-    go : (b : Bool) → (b || true || (is_settling st && not (reads m))) ≡ true
+    go : (b : Bool) → (b || true || (is_settling st && not (is_of_read m))) ≡ true
     go true = refl
     go false = refl
 
@@ -143,7 +143,7 @@ module _ (s : Setup) (past : Past) (p : ℕ) (a : Access) (process : p < s.proce
         settling = ap (λ b. b && not (is_settling (stage p past))) calm;
         fits = subst (Fits (opened p past)) (sym made) (fits_ended (opened p past) v (access_at c at.part at.run) fits);
         of_torn = ap (λ b. b && not (is_of_bit (torn p past) a)) calm;
-        off_torn = ap (λ o. begins_write a.how && is_of_bit o a) none ∙ and_false (begins_write a.how);
+        off_torn = ap (λ o. is_begin_of_write a.how && is_of_bit o a) none ∙ and_false (is_begin_of_write a.how);
       }
 
 -- Accesses in a closing.
@@ -156,7 +156,7 @@ written_settles bits w = go ((bit_written bits w).made % 2 == 0)
     go true = refl
     go false = refl
 
-not_reading : (m : Move) → is_write m ≡ true → reads m ≡ false
+not_reading : (m : Move) → is_write m ≡ true → is_of_read m ≡ false
 not_reading BeginRead h = absurd (true≢false (sym h))
 not_reading (EndRead v) h = absurd (true≢false (sym h))
 not_reading _ h = refl
@@ -172,13 +172,13 @@ settling_moves m h = ap (λ b. settles m || false || (true && not b)) (not_readi
 record OfTorn (st : Stage) (torn : Option BegunAccess) (a : Access) : Type 0 where
   pub settling : (settles a.how && not (is_settling st)) ≡ false
   pub of_torn : (settles a.how && not (is_of_bit torn a)) ≡ false
-  pub off_torn : (begins_write a.how && is_of_bit torn a) ≡ false
+  pub off_torn : (is_begin_of_write a.how && is_of_bit torn a) ≡ false
 
 calm_torn : (st : Stage) (torn : Option BegunAccess) (a : Access) → settles a.how ≡ false → torn ≡ None → OfTorn st torn a
 calm_torn st torn a calm none = record {
   settling = ap (λ b. b && not (is_settling st)) calm;
   of_torn = ap (λ b. b && not (is_of_bit torn a)) calm;
-  off_torn = ap (λ o. begins_write a.how && is_of_bit o a) none ∙ and_false (begins_write a.how);
+  off_torn = ap (λ o. is_begin_of_write a.how && is_of_bit o a) none ∙ and_false (is_begin_of_write a.how);
 }
 
 -- the access with which a unit settles a copy, or writes it

@@ -1,6 +1,6 @@
 -- The write that a process has open, as any lock's look-back finds it, is its last one, and its last one is open, if that is a begin.
 use Rattle.std.proofs.Common.{◌≡◌, ℕ, ◌<◌, ◌+◌, ◌==◌, ◌&&◌, not, Bool, true, false, cond, [], ◌∷◌, Option, Some, None, length, refl, sym, ap, subst, ◌∙◌, true≢false}
-use Rattle.model.specs.safe_bit.{Move}
+use Rattle.model.specs.safe_bit.{Move, is_begin}
 use Rattle.model.specs.safe_bit.declared.Move.TheVariants.{BeginWrite, EndWrite, BeginRead, EndRead, Settle}
 use Rattle.model.specs.{Access, Entry, Mark, Past, Withdraws, is_begin_of_write, last_write, own, unfinished}
 use Rattle.plain_store.specs.{Setup}
@@ -11,7 +11,7 @@ use Rattle.any_lock.specs.safe_monitor.laws.{Doing, Runs, Closes}
 use Rattle.any_lock.proofs.safe_monitor.laws.Frame.{own-own}
 use Rattle.any_lock.proofs.safe_monitor.laws.FrameCells.{ByProcess}
 use Rattle.any_lock.proofs.safe_monitor.laws.FrameCuts.{last-made}
-use Rattle.any_lock.specs.{BegunAccess, begins, left_open, opened, write_of}
+use Rattle.any_lock.specs.{BegunAccess, left_open, opened, write_of}
 use Rattle.any_lock.proofs.Markings.{ArePlain}
 use Rattle.judge.proofs.OpenDoings.{opened_access, opened_marked}
 use Rattle.judge.proofs.Opened.{open_by}
@@ -48,10 +48,10 @@ finished n last o none a unended closed =
 
 -- an access, if it is a write that is open
 abbrev of_write : BegunAccess → Move → Option BegunAccess
-of_write b m = cond (begins m) (elim m as (λ _. Option BegunAccess) [ BeginWrite v ↦ Some b | EndWrite ↦ None | BeginRead ↦ None | EndRead v ↦ None | Settle v ↦ None ]) None
+of_write b m = cond (is_begin m) (elim m as (λ _. Option BegunAccess) [ BeginWrite v ↦ Some b | EndWrite ↦ None | BeginRead ↦ None | EndRead v ↦ None | Settle v ↦ None ]) None
 
 open_write : (entry : ℕ) (x : Access) → write_of (open_by entry x) ≡ of_write (record { entry = entry; access = x }) x.how
-open_write entry x = push (begins x.how)
+open_write entry x = push (is_begin x.how)
   where
     b : BegunAccess
     b = record { entry = entry; access = x }

@@ -1,7 +1,7 @@
 -- The entry of an event keeps the law `Marks` of any lock.
 use Rattle.std.proofs.Common.{◌≡◌, ℕ, ◌==◌, ◌&&◌, ◌||◌, not, nat_le, nat_lt, Bool, true, false, cond, List, [], ◌∷◌, Option, Some, None, length, map, refl, sym, ap, subst, ◌∙◌, true≢false}
 use Rattle.std.specs.List.{list_any}
-use Rattle.model.specs.{Access, Call, Clears, Closing, Ended, Entry, Event, Mark, Part, Past, Place, Quit, Refusal, Settles, Withdraws, added, all_takings, bits_with, calls_full, calls_in, closing_after, enter, entry_of, history, inside, is_call, is_failed, is_fresh, is_last, is_over, is_waiting_stage, marks_of, own, part_after, past_of, place_after, placed, process_of, refused_at, run_after, stage, stage_of, starts, value_of}
+use Rattle.model.specs.{Access, Call, Clears, Closing, Ended, Entry, Event, Mark, Part, Past, Place, Quit, Refusal, Settles, Withdraws, added, all_takings, bits_with, calls_full, calls_in, closing_after, enter, entry_of, history, inside, is_call, is_down, is_failed, is_fresh, is_last, is_over, is_running, is_settling, is_waiting_stage, marks_of, own, part_after, past_of, place_after, placed, process_of, refused_at, run_after, stage, stage_of, starts, value_of}
 use Rattle.plain_store.specs.{Command, Setup}
 use Rattle.model.specs.declared.events.Event.TheVariants as event
 use Rattle.model.specs.declared.marks.Mark.TheVariants as mark
@@ -20,7 +20,7 @@ use Rattle.any_lock.proofs.safe_monitor.laws.FrameInside.{inside-is, stage-is}
 use Rattle.any_lock.proofs.safe_monitor.laws.Steps.{step_is}
 use Rattle.judge.proofs.history_laws.Reported.{reported}
 use Rattle.judge.proofs.history_laws.Took.{TookBy}
-use Rattle.any_lock.specs.{BegunAccess, MarkRefusal, ProcessView, accessed, first_that, has_one_mark, is_down, is_running, is_settling, its_call, mark_refusal, opened, refusal_of_marks, refusal_on, process_view, stands_alone, torn, torn_after}
+use Rattle.any_lock.specs.{BegunAccess, MarkRefusal, ProcessView, accessed, first_that, has_one_mark, its_call, mark_refusal, opened, refusal_of_marks, refusal_on, process_view, stands_alone, torn, torn_after}
 use Rattle.any_lock.specs.declared.refusals.MarkRefusal.TheVariants as refusal
 use Rattle.any_lock.proofs.Markings.{ArePlain, no_failure, none_of, with_marks}
 use Rattle.any_lock.proofs.Steps.{torn-mine}

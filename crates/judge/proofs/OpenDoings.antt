@@ -3,7 +3,7 @@ use Rattle.std.proofs.Common.{◌≡◌, ◌≢◌, ℕ, ◌<◌, ◌+◌, ◌==
 use Rattle.std.proofs.lemmas.Bool.{and_parts}
 use Rattle.std.specs.Prelude.{fold}
 use Rattle.model.specs.reader_copies.Runs as copies
-use Rattle.model.specs.safe_bit.{Move, read_value}
+use Rattle.model.specs.safe_bit.{Move, is_of_read, read_value}
 use Rattle.model.specs.safe_bit.declared.Move.TheVariants.{BeginWrite, EndWrite, BeginRead, EndRead, Settle}
 use Rattle.model.specs.safe_number.{new_write}
 use Rattle.model.specs.{Access, Call, Entry, Event, Field, Mark, Next, Part, Past, Raises, Reading, Run, Wait, Waits, Writing, access_at, access_of, bits_with, ended_with, enter, history, is_last, is_over, is_read, last_write, made_with, moves_of, new_run, next_written, opening_bit, own, part_after, past_of, place_after, read_at, run_after, same_bit, unfinished, value_of, width, write_moved, written_at}
@@ -20,7 +20,7 @@ use Rattle.any_lock.proofs.safe_monitor.laws.FrameCuts.{LeftClosing, LeftIn, Lef
 use Rattle.any_lock.proofs.safe_monitor.laws.FrameEvents.{accepted}
 use Rattle.any_lock.proofs.safe_monitor.laws.FrameSteps.{remaining-is}
 use Rattle.any_lock.proofs.safe_monitor.laws.HeldThere.{access_there}
-use Rattle.any_lock.specs.{BegunAccess, ProcessView, begun_by, left_open, opened, reads, write_of}
+use Rattle.any_lock.specs.{BegunAccess, ProcessView, begun_by, left_open, opened, write_of}
 use Rattle.any_lock.proofs.Markings.{ArePlain}
 use Rattle.any_lock.proofs.Steps.{opened-mine, process_view-other}
 use Rattle.judge.proofs.Opened.{Fits, FitsNext, LeadsOn, open_by, same_copy, write_leads}
@@ -199,9 +199,9 @@ read_only s p command number t w ws (Writing n) torn o l fits = absurd (true≢f
 read_only s p command number t w ws (Reading bits false) torn o l fits = ap write_of fits
 read_only s p command number t w ws (Reading bits true) torn None l fits = refl
 read_only s p command number t w ws (Reading bits true) torn (Some b) l fits =
-    of_read b.access.how (and_parts (same_bit b.access (access_at (call s p command number) (Waits t w ws) (Reading bits true))) (reads b.access.how) fits).1
+    of_read b.access.how (and_parts (same_bit b.access (access_at (call s p command number) (Waits t w ws) (Reading bits true))) (is_of_read b.access.how) fits).1
   where
-    of_read : (m : Move) → reads m ≡ true → elim m as (λ _. Option BegunAccess) [ BeginWrite v ↦ Some b | EndWrite ↦ None | BeginRead ↦ None | EndRead v ↦ None | Settle v ↦ None ] ≡ None
+    of_read : (m : Move) → is_of_read m ≡ true → elim m as (λ _. Option BegunAccess) [ BeginWrite v ↦ Some b | EndWrite ↦ None | BeginRead ↦ None | EndRead v ↦ None | Settle v ↦ None ] ≡ None
     of_read BeginRead r = refl
     of_read (EndRead v) r = refl
     of_read (BeginWrite v) r = absurd (true≢false (sym r))

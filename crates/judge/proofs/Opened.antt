@@ -2,15 +2,15 @@
 use Rattle.std.proofs.Common.{◌≡◌, ◌≢◌, ℕ, ◌+◌, ◌*◌, ◌/◌, ◌%◌, ◌<◌, ◌==◌, ◌&&◌, Bool, true, false, cond, List, Option, Some, None, refl, sym, ap, arith, true≢false, eqb-true, eq-eqb, ne_eqb}
 use Rattle.std.proofs.lemmas.Bool.{eqb-false}
 use Rattle.model.specs.reader_copies.Runs as copies
-use Rattle.model.specs.safe_bit.{Move}
+use Rattle.model.specs.safe_bit.{Move, is_end}
 use Rattle.model.specs.safe_bit.declared.Move.TheVariants.{BeginWrite, EndWrite}
 use Rattle.model.specs.safe_number.{NumberWrite, write_on}
 use Rattle.model.specs.{Access, Field, access_of, bit_written, ended_with, field_number, next_written, same_bit, write_moved}
-use Rattle.any_lock.specs.{BegunAccess, begun_by, ends, is_end_of}
+use Rattle.any_lock.specs.{BegunAccess, begun_by, is_end_of}
 
 -- the open access fits the next one
 abbrev pub Fits : Option BegunAccess → Access → Type 0
-Fits o a = elim (ends a.how) as (λ _. Type 0) [ true ↦ is_end_of o a ≡ true | false ↦ o ≡ None ]
+Fits o a = elim (is_end a.how) as (λ _. Type 0) [ true ↦ is_end_of o a ≡ true | false ↦ o ≡ None ]
 
 -- the open access fits the next one, if there is one; otherwise no access is open
 abbrev pub FitsNext : Option BegunAccess → Option Access → Type 0

@@ -2,7 +2,7 @@
 use Rattle.std.proofs.Common.{◌≡◌, ℕ, ◌&&◌, ◌||◌, not, Bool, true, false, cond, List, [], ◌∷◌, ◌++◌, Option, Some, None, refl, sym, ap, subst, ◌∙◌, true≢false}
 use Rattle.std.specs.Prelude.{if◌then◌else◌}
 use Rattle.model.specs.reader_copies.Runs as copies
-use Rattle.model.specs.{AsksImage, Call, Clears, Field, IsAnswerTo, Mark, Next, Part, Refuses, Waits, WritesCommit, entered_if_none, first_marks, is_commit, is_over, is_version, last_marks, lets_by, part_after, reply, stage_after, stage_of, store_read, waits_of, write_moved}
+use Rattle.model.specs.{AsksImage, Call, Clears, Field, IsAnswerTo, Mark, Next, Part, Refuses, Waits, WritesCommit, entered_if_none, first_marks, is_commit, is_in_doorway, is_leaving, is_over, is_version, last_marks, lets_by, part_after, reply, stage_after, stage_of, store_read, waits_of, write_moved}
 use Rattle.model.specs.declared.access.Field.TheVariants.{Commit}
 use Rattle.plain_store.specs.{Answer, Command, Reply, Setup, changes}
 use Rattle.plain_store.specs.declared.Answer.TheVariants as answer
@@ -12,7 +12,7 @@ use Rattle.model.specs.Parts as part
 use Rattle.any_lock.specs.safe_monitor.laws.{Closes, call, is_inside_at, is_inside_closing}
 use Rattle.any_lock.proofs.safe_monitor.laws.Alone.{SettlesInside}
 use Rattle.judge.proofs.history_laws.Took.{TookAt, TookIn}
-use Rattle.any_lock.specs.{ProcessView, is_in_doorway, is_leaving, is_withdrawn, marked}
+use Rattle.any_lock.specs.{ProcessView, is_withdrawn, marked}
 use Rattle.any_lock.proofs.Took.{Takes}
 use Rattle.judge.proofs.PlainMarks.{Fine, MayAnswer, answers, fine_entered, fine_more, fine_one, fits_answer, leaves, lies_down, no_reply, settles, takes, waits}
 use Rattle.judge.proofs.Withdrawals.{WithdrawnIn, answers_withdrawn}

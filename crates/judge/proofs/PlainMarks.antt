@@ -3,10 +3,10 @@ use Rattle.std.proofs.Common.{◌≡◌, ℕ, ◌&&◌, ◌||◌, not, Bool, tru
 use Rattle.std.specs.Option.{is_none, is_some}
 use Rattle.plain_store.specs.{Answer, Reply, Setup}
 use Rattle.plain_store.specs.declared.Answer.TheVariants as answer
-use Rattle.model.specs.{IsAnswerTo, Mark, Wait, entered_if_none, is_waiting_stage, placed}
+use Rattle.model.specs.{IsAnswerTo, Mark, Wait, entered_if_none, is_in_doorway, is_leaving, is_settling, is_waiting_stage, placed}
 use Rattle.model.specs.declared.marks.Mark.TheVariants.{Waiting, Entered, Taken, Left, Answered, Settled, Down}
 use Rattle.model.specs.declared.stages.Stage.TheVariants as stages
-use Rattle.any_lock.specs.{MarkRefusal, ProcessView, first_that, has_other_reply, is_in_doorway, is_leaving, is_reply, is_settling, is_withdrawn, mark_refusal, marked, refusal_on}
+use Rattle.any_lock.specs.{MarkRefusal, ProcessView, first_that, has_other_reply, is_reply, is_withdrawn, mark_refusal, marked, refusal_on}
 use Rattle.any_lock.specs.declared.refusals.MarkRefusal.TheVariants as refusal
 use Rattle.any_lock.proofs.Took.{Takes}
 use Rattle.judge.proofs.SameReply.{same_as_itself}

@@ -2,6 +2,7 @@
 use Rattle.std.proofs.Common.{◌≡◌, ◌≢◌, ℕ, ◌<◌, ◌≤◌, ◌+◌, ◌*◌, ◌==◌, ◌||◌, Bool, true, false, cond, [], ◌∷◌, Option, Some, None, refl, sym, ap, subst, ◌∙◌, arith, true≢false, eqb-true}
 use Rattle.std.proofs.lemmas.Bool.{eqb-false}
 use Rattle.model.specs.reader_copies.Runs as copies
+use Rattle.model.specs.safe_bit.{settles}
 use Rattle.model.specs.safe_bit.declared.Move.TheVariants.{BeginWrite, EndWrite, Settle}
 use Rattle.model.specs.safe_number.{new_write}
 use Rattle.model.specs.{Access, Call, Field, Next, Place, access_of, is_over, write_moved}
@@ -9,7 +10,7 @@ use Rattle.plain_store.specs.{Command, Reply, Setup}
 use Rattle.model.specs.Closings.{Closing, Withdraws, Settles, Frees, Lowers, Quit, Ended, closing_after, closing_next, freeing, is_last_written, no_ticket}
 use Rattle.model.proofs.PlaceTurns.{access_in}
 use Rattle.any_lock.specs.safe_monitor.laws.{Doing, Rests, Runs, Closes, call, closes, runs}
-use Rattle.any_lock.specs.{BegunAccess, settles, torn, torn_after}
+use Rattle.any_lock.specs.{BegunAccess, torn, torn_after}
 
 -- Torn bits.
 
