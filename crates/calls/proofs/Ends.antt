@@ -4,13 +4,13 @@ use Rattle.std.specs.List.{list_any}
 use Rattle.std.proofs.lemmas.Bool.{and_parts, cases_eq}
 use Rattle.std.proofs.lemmas.Bool.Decides.{nat_tests}
 use Rattle.plain_store.specs.{Command, Setup}
-use Rattle.model.specs.{Access, Entry, Mark, Past, Stage, field_number, has, is_called, is_down, is_running, is_settling, moves_of, same_bit, stage_after}
+use Rattle.model.specs.{Access, Entry, Mark, Past, Stage, field_number, has, is_at_work, is_called, is_down, is_running, is_settling, moves_of, same_bit, stage_after}
 use Rattle.model.specs.declared.marks.Mark.TheVariants as mark
 use Rattle.model.specs.declared.stages.Stage.TheVariants as stage
-use Rattle.model.specs.safe_bit.{Move, is_begin, is_end, is_of_read, settles}
+use Rattle.model.specs.safe_bit.{Move, is_begin, is_begin_of_read, is_end, is_of_read, settles}
 use Rattle.model.specs.safe_bit.declared.Move.TheVariants.{BeginWrite, EndWrite, BeginRead, EndRead, Settle}
 use Rattle.world.specs.{ends_overlapped, ends_overlapped_read}
-use Rattle.calls.specs.{begins_read_of, ends_own_overlapped, goes_on_after, is_calling, is_read, is_there, last_access, later_access, overlaps_in}
+use Rattle.calls.specs.{begins_read_of, ends_own_overlapped, goes_on_after, is_calling, is_there, last_access, later_access, overlaps_in}
 use Rattle.judge.specs.any_lock.{BegunAccess, ProcessView, access_refusal, accessed_by, begun_by, is_end_of, left_open, mark_refusal, marked, marked_all, may_move, opened, refusal_of_access, refusal_on, same_truth, process_view, stands_alone}
 use Rattle.judge.specs.any_lock.declared.refusals.AccessRefusal.TheVariants as access
 use Rattle.judge.specs.any_lock.declared.refusals.MarkRefusal.TheVariants as refusal
@@ -79,7 +79,7 @@ same_back a b same =
 ends_own : (p : ℕ) (past : Past) (a : Access) → is_of_read a.how ≡ true → is_end_of (opened p past) a ≡ true → begins_read_of (last_access p past) a ≡ true
 ends_own p past a ends h = go (opened p past) refl h
   where
-    read_begun : (m : Move) → is_begin m ≡ true → is_of_read m ≡ true → is_read m ≡ true
+    read_begun : (m : Move) → is_begin m ≡ true → is_of_read m ≡ true → is_begin_of_read m ≡ true
     read_begun BeginRead b r = refl
     read_begun (EndRead v) b r = absurd (true≢false (sym b))
     read_begun (BeginWrite v) b r = absurd (true≢false (sym r))
@@ -137,26 +137,20 @@ overlaps_same s past e kept = by e.access kept.access
 
 -- Calls.
 
--- the stages of a process whose call goes on
-abbrev goes : Stage → Bool
-goes stage.Idle = false
-goes stage.Down = false
-goes _ = true
-
 -- one that calls is at such a stage
 abbrev IsAtCall : Bool → Stage → Type 0
-IsAtCall calling at = calling ≡ true → goes at ≡ true
+IsAtCall calling at = calling ≡ true → is_at_work at ≡ true
 
 -- whether a call goes on after a mark, which may be its first
 abbrev calling_after : Bool → Mark → Bool
 calling_after calling (mark.Called c) = true
 calling_after calling m = goes_on_after calling m
 
-left_goes : (x : Stage) → goes (stage_after x mark.Left) ≡ true
+left_goes : (x : Stage) → is_at_work (stage_after x mark.Left) ≡ true
 left_goes stage.Settling = refl
 left_goes _ = refl
 
-is_downs : (x : Stage) → is_down x ≡ true → goes x ≡ false
+is_downs : (x : Stage) → is_down x ≡ true → is_at_work x ≡ false
 is_downs stage.Down h = refl
 is_downs _ h = absurd (true≢false (sym h))
 
@@ -253,7 +247,7 @@ all_at_call s (e ∷ past) all p = go (cases_eq e.process p) (all_at_call s past
         subst (λ (k : ProcessView). IsAtCall (is_calling p (e ∷ past)) k.stage) (sym (process_view-other s p e past other))
         (subst (λ b. IsAtCall b (process_view s p past).stage) (sym (rw (other, is_calling) refl)) before)
 
-rested : (x : Stage) → is_running x ≡ false → (is_settling x || is_down x) ≡ false → goes x ≡ false
+rested : (x : Stage) → is_running x ≡ false → (is_settling x || is_down x) ≡ false → is_at_work x ≡ false
 rested stage.Idle a b = refl
 rested stage.Down a b = refl
 rested stage.Settling a b = absurd (true≢false b)
@@ -276,7 +270,7 @@ calls_at_rest s past e all kept some = by (is_calling e.process past) (all_at_ca
     none = first_unrefused s (length past) k (mark.Called only.0) []
         ((λ i. refusal_on s (length past) (accessed_by (length past) k (sym only.1 i)) (sym only.2 i)) ∙ unrefused_on s past q e.access e.marks kept.marks)
 
-    rests : goes k.stage ≡ false
+    rests : is_at_work k.stage ≡ false
     rests = rested k.stage (none_if (is_running k.stage) refusal.Busy _ none) (none_if (is_settling k.stage || is_down k.stage) refusal.IsDown _ (none_else (is_running k.stage) refusal.Busy _ none))
 
     by : (b : Bool) → IsAtCall b k.stage → b ≡ false

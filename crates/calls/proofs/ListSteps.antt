@@ -4,8 +4,9 @@ use Rattle.std.proofs.lemmas.Bool.{cases_eq, cases_lt}
 use Rattle.std.proofs.lemmas.Bool.Decides.{nat_tests}
 use Rattle.std.proofs.lemmas.Option.{slice_get_within}
 use Rattle.plain_store.specs.{Command, Setup}
+use Rattle.model.specs.safe_bit.{is_begin_of_read, is_begin_of_write}
 use Rattle.model.specs.{Access, Entry, Mark, Past, called_in, has, is_called}
-use Rattle.calls.specs.{AreFew, CallState, Called, EntryFacts, GoesOn, HasListed, IsKnown, Lists, TableState, accessed_by, begun, call_kept, count_in_call, ended_of_process, ended_recorded, ends_own_overlapped, observed, is_calling, is_read, is_write, listed, makes_itself, marked_all, marked_on, more_if, open_recorded, overlaps_in, recorded, call_state}
+use Rattle.calls.specs.{AreFew, CallState, Called, EntryFacts, GoesOn, HasListed, IsKnown, Lists, TableState, accessed_by, begun, call_kept, count_in_call, ended_of_process, ended_recorded, ends_own_overlapped, observed, is_calling, listed, makes_itself, marked_all, marked_on, more_if, open_recorded, overlaps_in, recorded, call_state}
 use Rattle.calls.proofs.Folds.{called_has}
 use Rattle.calls.proofs.Observed.{slice_get-set_other, slice_get-set_same, table_with}
 use Rattle.calls.proofs.InCall.{calls-few, count-few, over-called, over-mine, over-other}
@@ -79,8 +80,8 @@ has_room : (s : Setup) (p : ℕ) (past : Past) → length past < 2 ^ 64 - 1 → 
 has_room s p past few = (
   omega (arith, calls-few p past, few),
   record {
-    reads = omega (arith, count-few p (makes_itself p is_read) past, few);
-    writes = omega (arith, count-few p (makes_itself p is_write) past, few);
+    reads = omega (arith, count-few p (makes_itself p is_begin_of_read) past, few);
+    writes = omega (arith, count-few p (makes_itself p is_begin_of_write) past, few);
     overlapped = omega (arith, count-few p (overlaps_in s) past, few);
   },
 )

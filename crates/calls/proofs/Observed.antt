@@ -6,9 +6,9 @@ use Rattle.std.proofs.lemmas.List.{get_or-set_same, get_or-set_other}
 use Rattle.std.proofs.lemmas.List.FromFn.{get_or-map-range_with_len, length-map-range_with_len, map-range_with_len_more}
 use Rattle.std.specs.List.{range_with_len}
 use Rattle.plain_store.specs.{Setup}
-use Rattle.model.specs.safe_bit.{Move}
+use Rattle.model.specs.safe_bit.{Move, is_begin_of_read, is_begin_of_write}
 use Rattle.model.specs.{Access, Entry, Mark, Past}
-use Rattle.calls.specs.{AreFew, CallState, Called, ComesInTurn, EntryFacts, GoesBy, GoesOn, HasObserved, HasNotFailed, HaveRoom, Passes, TableState, at_rest, ended_call, observed, is_read, is_write, makes_itself, passed, reads_begun, call_state, writes_begun}
+use Rattle.calls.specs.{AreFew, CallState, Called, ComesInTurn, EntryFacts, GoesBy, GoesOn, HasObserved, HasNotFailed, HaveRoom, Passes, TableState, at_rest, ended_call, observed, makes_itself, passed, reads_begun, call_state, writes_begun}
 use Rattle.world.specs.{ends_overlapped_read}
 use Rattle.calls.proofs.InCall.{calls-few, count-few}
 use Rattle.calls.proofs.Passing.{HasPassed, passed_by, passes, reads_few, writes_few}
@@ -42,8 +42,8 @@ has_room s p past k is few =
     subst (λ (k : CallState). (k.last.call < 2 ^ 64 - 1) × AreFew k.last.accesses) (sym is) (
       omega (arith, calls-few p past, few),
       record {
-        reads = omega (arith, count-few p (makes_itself p is_read) past, few);
-        writes = omega (arith, count-few p (makes_itself p is_write) past, few);
+        reads = omega (arith, count-few p (makes_itself p is_begin_of_read) past, few);
+        writes = omega (arith, count-few p (makes_itself p is_begin_of_write) past, few);
         overlapped = omega (arith, count-few p ends_overlapped_read past, few);
       },
     )
@@ -111,8 +111,8 @@ has_room_for s p past n how overlapped room few =
     let reads = reads_few n how in
     let writes = writes_few n how in
     record {
-      reads_fit = omega (arith, count-few p (makes_itself p is_read) past, reads, room);
-      writes_fit = omega (arith, count-few p (makes_itself p is_write) past, writes, room);
+      reads_fit = omega (arith, count-few p (makes_itself p is_begin_of_read) past, reads, room);
+      writes_fit = omega (arith, count-few p (makes_itself p is_begin_of_write) past, writes, room);
       overlapped_fit = omega (arith, count-few p ends_overlapped_read past, few, room);
     }
 

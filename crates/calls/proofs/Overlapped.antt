@@ -6,10 +6,10 @@ use Rattle.std.proofs.lemmas.List.{get_or-set_other, get_or-set_same}
 use Rattle.plain_store.specs.{Setup}
 use Rattle.plain_store.proofs.GoodSetups.{few-processes}
 use Rattle.model.specs.{Access, Mark, Past, begins_read, moves_of, same_bit}
-use Rattle.model.specs.safe_bit.{Move}
+use Rattle.model.specs.safe_bit.{Move, is_begin_of_read}
 use Rattle.model.specs.safe_bit.declared.Move.TheVariants.{BeginRead, EndRead}
 use Rattle.world.specs.{ends_overlapped}
-use Rattle.calls.specs.{begins_read_of, ends_own_overlapped, entry_with, is_read, is_there, last_access, later_access}
+use Rattle.calls.specs.{begins_read_of, ends_own_overlapped, entry_with, is_there, last_access, later_access}
 use Rattle.judge.specs.safe_monitor.MonitoredBits as looks
 use Rattle.judge.specs.safe_monitor.laws.{IsThere}
 use Rattle.judge.specs.safe_monitor.{HasObserved}
@@ -17,7 +17,7 @@ use Rattle.calls.specs.{OverlapMonitor, Monitors}
 
 -- Reads that have begun.
 
-begins_here : (m : Move) (moves : List Move) → is_read m ≡ true → begins_read (m ∷ moves) ≡ true
+begins_here : (m : Move) (moves : List Move) → is_begin_of_read m ≡ true → begins_read (m ∷ moves) ≡ true
 begins_here BeginRead moves is = refl
 begins_here m moves is = absurd (true≢false (sym is))
 
@@ -37,9 +37,9 @@ begins_behind a (Some x) moves is = by (same_bit a x)
     by true = begins_on x.how moves is
     by false = is
 
-begins_with : (a x : Access) (moves : List Move) → (is_read x.how && same_bit a x) ≡ true → begins_read (moves_with a (Some x) moves) ≡ true
+begins_with : (a x : Access) (moves : List Move) → (is_begin_of_read x.how && same_bit a x) ≡ true → begins_read (moves_with a (Some x) moves) ≡ true
 begins_with a x moves is =
-    let both = and_parts (is_read x.how) (same_bit a x) is in
+    let both = and_parts (is_begin_of_read x.how) (same_bit a x) is in
     ap (λ b. begins_read (cond b (x.how ∷ []) [] ++ moves)) both.1 ∙ begins_here x.how moves both.0
 
 -- where a process's last access began a read of a bit, a read of that bit has begun

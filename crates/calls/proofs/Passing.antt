@@ -1,10 +1,10 @@
 -- How many entries at once change the state of a process.
 use Rattle.std.proofs.Common.{◌≡◌, ℕ, zero, suc, ◌+◌, ◌≤◌, ◌==◌, Bool, true, false, ◌&&◌, cond, ◌∷◌, Option, None, Some, is_none, length, refl, sym, ap, subst, ◌∙◌, arith}
 use Rattle.plain_store.specs.{Setup}
-use Rattle.model.specs.safe_bit.{Move}
+use Rattle.model.specs.safe_bit.{Move, is_begin_of_read, is_begin_of_write, is_of_read}
 use Rattle.model.specs.safe_bit.declared.Move.TheVariants.{BeginWrite, EndWrite, BeginRead, EndRead, Settle}
 use Rattle.model.specs.{Access, Past, first_of, width}
-use Rattle.calls.specs.{Accesses, CallState, EntryFacts, HasNotFailed, IsKnown, Passes, begun_among, ends_number, first_if, follows, is_read, is_write, more_if, of_read, passed, quiet_entry, reads_begun, call_state, with_access, with_passed, writes_begun}
+use Rattle.calls.specs.{Accesses, CallState, EntryFacts, HasNotFailed, IsKnown, Passes, begun_among, ends_number, first_if, follows, more_if, passed, quiet_entry, reads_begun, call_state, with_access, with_passed, writes_begun}
 use Rattle.world.specs.{ends_overlapped_read}
 use Rattle.calls.proofs.Steps.{call_state-observed, call_state-other}
 
@@ -18,7 +18,7 @@ first-again None a b = refl
 
 -- with one more, after another
 begun-more : (n : ℕ) (before how : Move) (k m : ℕ) → follows before how ≡ true →
-    (more_if (is_read how && true) (k + reads_begun (suc n) before) ≡ k + reads_begun (suc (suc n)) how) × (more_if (is_write how && true) (m + writes_begun (suc n) before) ≡ m + writes_begun (suc (suc n)) how)
+    (more_if (is_begin_of_read how && true) (k + reads_begun (suc n) before) ≡ k + reads_begun (suc (suc n)) how) × (more_if (is_begin_of_write how && true) (m + writes_begun (suc n) before) ≡ m + writes_begun (suc (suc n)) how)
 begun-more n BeginRead (EndRead v) k m is = (omega arith, omega arith)
 begun-more n (EndRead u) BeginRead k m is = (omega arith, omega arith)
 begun-more n (BeginWrite u) EndWrite k m is = (omega arith, omega arith)
@@ -42,7 +42,7 @@ begun-more n EndWrite (Settle v) k m is = absurd (cc)
 begun-more n (Settle u) how k m is = absurd (cc)
 
 -- the first of them
-begun-one : (how : Move) (k m : ℕ) → (more_if (is_read how && true) k ≡ k + reads_begun 1 how) × (more_if (is_write how && true) m ≡ m + writes_begun 1 how)
+begun-one : (how : Move) (k m : ℕ) → (more_if (is_begin_of_read how && true) k ≡ k + reads_begun 1 how) × (more_if (is_begin_of_write how && true) m ≡ m + writes_begun 1 how)
 begun-one BeginRead k m = (omega arith, omega arith)
 begun-one (EndRead v) k m = (omega arith, omega arith)
 begun-one (BeginWrite v) k m = (omega arith, omega arith)
@@ -84,15 +84,15 @@ writes_few n EndWrite = omega arith
 writes_few n (Settle v) = omega arith
 
 -- the accesses of a read begin no write
-pub reads_alone : (n : ℕ) (how : Move) → of_read how ≡ true → writes_begun n how ≡ 0
+pub reads_alone : (n : ℕ) (how : Move) → is_of_read how ≡ true → writes_begun n how ≡ 0
 reads_alone n BeginRead is = refl
 reads_alone n (EndRead v) is = refl
 reads_alone n (BeginWrite v) is = absurd (cc)
 reads_alone n EndWrite is = absurd (cc)
 reads_alone n (Settle v) is = absurd (cc)
 
-pub others_alone : (n : ℕ) (how : Move) → of_read how ≡ false → reads_begun n how ≡ 0
-others_alone n how is = ap (λ b. cond b (begun_among n (is_read how)) 0) is
+pub others_alone : (n : ℕ) (how : Move) → is_of_read how ≡ false → reads_begun n how ≡ 0
+others_alone n how is = ap (λ b. cond b (begun_among n (is_begin_of_read how)) 0) is
 
 -- One entry.
 
@@ -129,7 +129,7 @@ module _ (s : Setup) (p : ℕ) (a : Access) (past : Past) where
       let k : CallState = call_state s p past in
       let was : Accesses = k.last.accesses in
       quiet-observed ends ∙ ap (with_accesses k) (accesses_by (with_access s p (length past) known k.last.marks a was) (with_passed (length past) (reads_begun 1 a.how) (writes_begun 1 a.how) overlapped was)
-      (begins k none was.doorway) (itself is_read k none was.reads ∙ (begun-one a.how was.reads was.writes).0) (itself is_write k none was.writes ∙ (begun-one a.how was.reads was.writes).1) (more-one known.overlapped was.overlapped 0 refl ∙ ap (λ n. was.overlapped + n) (sym is)) refl)
+      (begins k none was.doorway) (itself is_begin_of_read k none was.reads ∙ (begun-one a.how was.reads was.writes).0) (itself is_begin_of_write k none was.writes ∙ (begun-one a.how was.reads was.writes).1) (more-one known.overlapped was.overlapped 0 refl ∙ ap (λ n. was.overlapped + n) (sym is)) refl)
 
   again : (n number : ℕ) (before : Move) (count overlapped : ℕ) (first : CallState) → first.last.marks.failed ≡ None → call_state s p past ≡ passed_by number (suc n) before count first → follows before a.how ≡ true → ends_number (width s a.field) a.bit a.how ≡ false →
       overlapped ≡ more_if known.overlapped count → call_state s p (quiet_entry p a ∷ past) ≡ passed_by number (suc (suc n)) a.how overlapped first
@@ -138,7 +138,7 @@ module _ (s : Setup) (p : ℕ) (a : Access) (past : Past) where
       let mid : Accesses = with_passed number (reads_begun (suc n) before) (writes_begun (suc n) before) count was in
       quiet-observed ends ∙ ap after_one at
       ∙ ap (with_accesses first) (accesses_by (with_access s p (length past) known first.last.marks a mid) (with_passed number (reads_begun (suc (suc n)) a.how) (writes_begun (suc (suc n)) a.how) overlapped was)
-      (begins first none mid.doorway ∙ first-again was.doorway number (length past)) (itself is_read first none mid.reads ∙ (begun-more n before a.how was.reads was.writes follow).0) (itself is_write first none mid.writes ∙ (begun-more n before a.how was.reads was.writes follow).1)
+      (begins first none mid.doorway ∙ first-again was.doorway number (length past)) (itself is_begin_of_read first none mid.reads ∙ (begun-more n before a.how was.reads was.writes follow).0) (itself is_begin_of_write first none mid.writes ∙ (begun-more n before a.how was.reads was.writes follow).1)
       (more-again known.overlapped was.overlapped count ∙ ap (λ n. was.overlapped + n) (sym is)) refl)
 
 -- Many entries.

@@ -1,11 +1,12 @@
 -- The state of a process is what the look-backs find: an entry changes both in the same way.
 use Rattle.std.proofs.Common.{◌≡◌, ℕ, suc, ◌==◌, Bool, true, false, ◌&&◌, cond, ◌∷◌, Option, None, Some, fold, is_none, is_some, length, refl, sym, ap, ◌∙◌, eq-eqb, add-one}
 use Rattle.plain_store.specs.{Answer, Command, Setup}
+use Rattle.model.specs.safe_bit.{is_begin_of_read, is_begin_of_write}
 use Rattle.model.specs.{Access, Entry, Mark, Past, called_in, calls_in, has, is_called, is_entered, is_failed, is_waiting, last_command, moves_of, number_in_call, own, width}
 use Rattle.world.specs.laws.{doing}
 use Rattle.world.specs.process.{number_read}
 use Rattle.world.specs.{ends_overlapped, ends_overlapped_read}
-use Rattle.calls.specs.{Accesses, CallState, EntryFacts, IsKnown, Marked, ReportsRead, accessed_by, accesses, accesses_itself, answer_after, begun, called, called_at, count_in_call, ends_number, ends_waiting, first_if, first_in_call, observed, holds_up, is_answered, is_calling, is_left, is_read, is_taken, is_unmarked, is_withdrawal, is_write, makes_itself, marked, marked_all, more_if, no_accesses, no_marks, number_after, over_call, place_after, call_state, reports_waiting, ticket_after, ticket_in_call, waited_for, waits_by, with_access, with_mark}
+use Rattle.calls.specs.{Accesses, CallState, EntryFacts, IsKnown, Marked, ReportsRead, accessed_by, accesses, accesses_itself, answer_after, begun, called, called_at, count_in_call, ends_number, ends_waiting, first_if, first_in_call, observed, holds_up, is_answered, is_calling, is_left, is_taken, is_unmarked, is_withdrawal, makes_itself, marked, marked_all, more_if, no_accesses, no_marks, number_after, over_call, place_after, call_state, reports_waiting, ticket_after, ticket_in_call, waited_for, waits_by, with_access, with_mark}
 use Rattle.calls.proofs.Folds.{answer-on, answered-on, called_has, door_end-on, entered-on, failed-on, fold-field, fold-first, remaining-on, marked_all-is, place-on, taken-on, ticket-on, wait_end-on, with_marks, withdrew-on}
 use Rattle.calls.proofs.InCall.{first-called, first-mine, first-other, number-called, number-mine, number-other, over-called, over-mine, over-other}
 
@@ -150,10 +151,10 @@ accesses-with : (s : Setup) (p : ℕ) (e : Entry) (past : Past) → e.process �
 accesses-with s p e past h called None none known turn =
     let doorway = first-mine p (accesses_itself p) e past h called
     ∙ ap (λ (o : Option Access). first_if (is_some o && is_none (number_in_call p (has is_failed) past)) (length past) (first_in_call p (accesses_itself p) past)) none in
-    let reads = over-mine {A = ℕ} p 0 (counting (makes_itself p is_read)) e past h called
-    ∙ ap (λ (o : Option Access). more_if (elim o as (λ _. Bool) [ None ↦ false | Some a ↦ is_read a.how && is_none (number_in_call p (has is_failed) past) ]) (count_in_call p (makes_itself p is_read) past)) none in
-    let writes = over-mine {A = ℕ} p 0 (counting (makes_itself p is_write)) e past h called
-    ∙ ap (λ (o : Option Access). more_if (elim o as (λ _. Bool) [ None ↦ false | Some a ↦ is_write a.how && is_none (number_in_call p (has is_failed) past) ]) (count_in_call p (makes_itself p is_write) past)) none in
+    let reads = over-mine {A = ℕ} p 0 (counting (makes_itself p is_begin_of_read)) e past h called
+    ∙ ap (λ (o : Option Access). more_if (elim o as (λ _. Bool) [ None ↦ false | Some a ↦ is_begin_of_read a.how && is_none (number_in_call p (has is_failed) past) ]) (count_in_call p (makes_itself p is_begin_of_read) past)) none in
+    let writes = over-mine {A = ℕ} p 0 (counting (makes_itself p is_begin_of_write)) e past h called
+    ∙ ap (λ (o : Option Access). more_if (elim o as (λ _. Bool) [ None ↦ false | Some a ↦ is_begin_of_write a.how && is_none (number_in_call p (has is_failed) past) ]) (count_in_call p (makes_itself p is_begin_of_write) past)) none in
     let overlapped = over-mine {A = ℕ} p 0 (counting ends_overlapped_read) e past h called
     ∙ ap (λ (o : Option Access). more_if (elim o as (λ _. Bool) [ None ↦ false | Some a ↦ ends_overlapped (moves_of a past) a.how ]) (count_in_call p ends_overlapped_read past)) none in
     let waited = over-mine {A = Option ℕ} p None (waiting s p) e past h called
@@ -165,10 +166,10 @@ accesses-with s p e past h called None none known turn =
 accesses-with s p e past h called (Some a) some known turn =
     let doorway = first-mine p (accesses_itself p) e past h called
     ∙ ap (λ (o : Option Access). first_if (is_some o && is_none (number_in_call p (has is_failed) past)) (length past) (first_in_call p (accesses_itself p) past)) some in
-    let reads = over-mine {A = ℕ} p 0 (counting (makes_itself p is_read)) e past h called
-    ∙ ap (λ (o : Option Access). more_if (elim o as (λ _. Bool) [ None ↦ false | Some a ↦ is_read a.how && is_none (number_in_call p (has is_failed) past) ]) (count_in_call p (makes_itself p is_read) past)) some in
-    let writes = over-mine {A = ℕ} p 0 (counting (makes_itself p is_write)) e past h called
-    ∙ ap (λ (o : Option Access). more_if (elim o as (λ _. Bool) [ None ↦ false | Some a ↦ is_write a.how && is_none (number_in_call p (has is_failed) past) ]) (count_in_call p (makes_itself p is_write) past)) some in
+    let reads = over-mine {A = ℕ} p 0 (counting (makes_itself p is_begin_of_read)) e past h called
+    ∙ ap (λ (o : Option Access). more_if (elim o as (λ _. Bool) [ None ↦ false | Some a ↦ is_begin_of_read a.how && is_none (number_in_call p (has is_failed) past) ]) (count_in_call p (makes_itself p is_begin_of_read) past)) some in
+    let writes = over-mine {A = ℕ} p 0 (counting (makes_itself p is_begin_of_write)) e past h called
+    ∙ ap (λ (o : Option Access). more_if (elim o as (λ _. Bool) [ None ↦ false | Some a ↦ is_begin_of_write a.how && is_none (number_in_call p (has is_failed) past) ]) (count_in_call p (makes_itself p is_begin_of_write) past)) some in
     let overlapped = over-mine {A = ℕ} p 0 (counting ends_overlapped_read) e past h called
     ∙ ap (λ t. more_if t (count_in_call p ends_overlapped_read past)) (sym turn.overlapped) in
     let waited = over-mine {A = Option ℕ} p None (waiting s p) e past h called
@@ -181,16 +182,16 @@ accesses-with s p e past h called (Some a) some known turn =
 
 accesses-called : (s : Setup) (p : ℕ) (e : Entry) (past : Past) → e.process ≡ p → has is_called e ≡ true → accesses s p (e ∷ past) ≡ no_accesses
 accesses-called s p e past h some =
-    let reads = over-called {A = ℕ} p 0 (counting (makes_itself p is_read)) e past h some in
-    let writes = over-called {A = ℕ} p 0 (counting (makes_itself p is_write)) e past h some in
+    let reads = over-called {A = ℕ} p 0 (counting (makes_itself p is_begin_of_read)) e past h some in
+    let writes = over-called {A = ℕ} p 0 (counting (makes_itself p is_begin_of_write)) e past h some in
     let overlapped = over-called {A = ℕ} p 0 (counting ends_overlapped_read) e past h some in
     let waited = over-called {A = Option ℕ} p None (waiting s p) e past h some in
     λ i. record { doorway = first-called p (accesses_itself p) e past h some i; reads = reads i; writes = writes i; overlapped = overlapped i; waited_for = waited i }
 
 accesses-other : (s : Setup) (p : ℕ) (e : Entry) (past : Past) → (e.process == p) ≡ false → accesses s p (e ∷ past) ≡ accesses s p past
 accesses-other s p e past h =
-    let reads = over-other {A = ℕ} p 0 (counting (makes_itself p is_read)) e past h in
-    let writes = over-other {A = ℕ} p 0 (counting (makes_itself p is_write)) e past h in
+    let reads = over-other {A = ℕ} p 0 (counting (makes_itself p is_begin_of_read)) e past h in
+    let writes = over-other {A = ℕ} p 0 (counting (makes_itself p is_begin_of_write)) e past h in
     let overlapped = over-other {A = ℕ} p 0 (counting ends_overlapped_read) e past h in
     let waited = over-other {A = Option ℕ} p None (waiting s p) e past h in
     λ i. record { doorway = first-other p (accesses_itself p) e past h i; reads = reads i; writes = writes i; overlapped = overlapped i; waited_for = waited i }

@@ -1,7 +1,7 @@
 -- The columns of a call. Each number is found by looking back over a past.
 use Rattle.std.specs.Prelude.{ℕ, ◌+◌, ◌==◌, nat_lt, Bool, true, false, ◌&&◌, List, [], ◌∷◌, length, fold, cond, Option, None, Some, is_none, is_some, bit_or, ◌^◌}
-use Rattle.model.specs.safe_bit.{Move}
-use Rattle.model.specs.safe_bit.declared.Move.TheVariants.{BeginWrite, BeginRead, EndRead}
+use Rattle.model.specs.safe_bit.{Move, is_begin_of_read, is_begin_of_write}
+use Rattle.model.specs.safe_bit.declared.Move.TheVariants.{EndRead}
 use Rattle.plain_store.specs.{Answer, Setup}
 use Rattle.model.specs.{Access, Entry, Field, Mark, Past, calls_in, doorway_end, first_of, has, is_below, is_called, is_entered, is_failed, last_command, number_in_call, own, width}
 use Rattle.model.specs.declared.access.Field.TheVariants.{Choosing, Ticket}
@@ -148,21 +148,6 @@ has_access e = is_some e.access
 abbrev pub accesses_itself : ℕ → Past → Entry → Bool
 accesses_itself p before e = has_access e && is_none (number_in_call p (has is_failed) before)
 
--- a read begins
-abbrev pub is_read : Move → Bool
-is_read BeginRead = true
-is_read _ = false
-
--- a write begins
-abbrev pub is_write : Move → Bool
-is_write (BeginWrite v) = true
-is_write _ = false
-
--- a read ends
-abbrev pub is_read_end : Move → Bool
-is_read_end (EndRead v) = true
-is_read_end _ = false
-
 -- p makes such a move itself: it has not failed before in this call
 abbrev pub makes_itself : ℕ → (Move → Bool) → Past → Entry → Bool
 makes_itself p test before e = elim e.access [ None ↦ false | Some a ↦ test a.how && is_none (number_in_call p (has is_failed) before) ]
@@ -208,8 +193,8 @@ waited_for s p past = over_call p None (λ before e newest. elim e.access [
 abbrev pub accesses : Setup → ℕ → Past → Accesses
 accesses s p past = record {
   doorway = first_in_call p (accesses_itself p) past;
-  reads = count_in_call p (makes_itself p is_read) past;
-  writes = count_in_call p (makes_itself p is_write) past;
+  reads = count_in_call p (makes_itself p is_begin_of_read) past;
+  writes = count_in_call p (makes_itself p is_begin_of_write) past;
   overlapped = count_in_call p ends_overlapped_read past;
   waited_for = waited_for s p past;
 }

@@ -1,25 +1,20 @@
 -- Many entries at once within a register access: their accesses begin and end in turns, and are of one kind.
 use Rattle.std.specs.Prelude.{◌≡◌, ℕ, zero, suc, ◌+◌, ◌/◌, ◌<◌, ◌^◌, Bool, true, false, ◌||◌, if◌then◌else◌, [], ◌∷◌, cond, Some, None}
 use Rattle.plain_store.specs.{Setup}
-use Rattle.model.specs.safe_bit.{Move}
+use Rattle.model.specs.safe_bit.{Move, is_begin_of_read, is_begin_of_write, is_end_of_read, is_end_of_write, is_of_read}
 use Rattle.model.specs.safe_bit.declared.Move.TheVariants.{BeginWrite, EndWrite, BeginRead, EndRead, Settle}
 use Rattle.model.specs.{Access, Entry, Past, first_of, has, is_failed, number_in_call, width}
 use Rattle.calls.specs.declared.called.Accesses.{Accesses}
 use Rattle.calls.specs.declared.call_state.CallState.{CallState}
 use Rattle.world.specs.{ends_overlapped_read}
-use Rattle.calls.specs.Columns.{ends_number, is_read, is_read_end, is_write, more_if}
-
--- a write ends
-abbrev pub is_write_end : Move → Bool
-is_write_end EndWrite = true
-is_write_end _ = false
+use Rattle.calls.specs.Columns.{ends_number, more_if}
 
 -- within a register access the second move comes after the first
 abbrev pub follows : Move → Move → Bool
-follows BeginRead how = is_read_end how
-follows (EndRead v) how = is_read how
-follows (BeginWrite v) how = is_write_end how
-follows EndWrite how = is_write how
+follows BeginRead how = is_end_of_read how
+follows (EndRead v) how = is_begin_of_read how
+follows (BeginWrite v) how = is_end_of_write how
+follows EndWrite how = is_begin_of_write how
 follows (Settle v) how = false
 
 -- an entry of p with this access, and without a mark
@@ -38,19 +33,16 @@ Passes s p (suc n) newest overlapped past after =
 abbrev pub begun_among : ℕ → Bool → ℕ
 begun_among steps begins = (steps + (if begins then 1 else 0)) / 2
 
--- a move of a read, and one of a write
-abbrev pub of_read : Move → Bool
-of_read how = is_read how || is_read_end how
-
+-- the move begins or ends a write
 abbrev pub of_write : Move → Bool
-of_write how = is_write how || is_write_end how
+of_write how = is_begin_of_write how || is_end_of_write how
 
 -- how many of `steps` accesses begin a read or a write, where the newest makes this move
 abbrev pub reads_begun : ℕ → Move → ℕ
-reads_begun steps how = cond (of_read how) (begun_among steps (is_read how)) 0
+reads_begun steps how = cond (is_of_read how) (begun_among steps (is_begin_of_read how)) 0
 
 abbrev pub writes_begun : ℕ → Move → ℕ
-writes_begun steps how = cond (of_write how) (begun_among steps (is_write how)) 0
+writes_begun steps how = cond (of_write how) (begun_among steps (is_begin_of_write how)) 0
 
 -- `reads` reads and `writes` writes more, the first of them with the entry of this number; `overlapped` reads were overlapped
 abbrev pub with_passed : ℕ → ℕ → ℕ → ℕ → Accesses → Accesses

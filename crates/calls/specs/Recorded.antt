@@ -1,12 +1,13 @@
 -- The calls of a record, of whatever lock it is and whatever its entries are: what became of each, found by looking back.
 use Rattle.std.specs.Prelude.{◌≡◌, ◌-◌, ◌<◌, ℕ, ◌==◌, Bool, true, false, not, ◌&&◌, nat_lt, List, [], ◌∷◌, ◌++◌, cond, flat_map, length, slice_get, Option, None, Some}
+use Rattle.model.specs.safe_bit.{is_begin_of_read, is_begin_of_write}
 use Rattle.model.specs.{Access, Entry, Mark, Past, calls_in, has, is_called, last_command, moves_of, own, processes, same_bit, width}
 use Rattle.plain_store.specs.{Setup}
 use Rattle.world.specs.{ends_overlapped}
 use Rattle.calls.specs.declared.called.Accesses.{Accesses}
 use Rattle.calls.specs.declared.called.Called.{Called}
 use Rattle.calls.specs.declared.call_state.CallState.{CallState}
-use Rattle.calls.specs.Columns.{accesses_itself, called_at, count_in_call, first_in_call, is_calling, is_read, is_write, makes_itself, marked}
+use Rattle.calls.specs.Columns.{accesses_itself, called_at, count_in_call, first_in_call, is_calling, makes_itself, marked}
 use Rattle.calls.specs.Observing.{TableState}
 use Rattle.calls.specs.Lines.{header, line_of}
 
@@ -29,7 +30,7 @@ last_access p (e ∷ past) = cond (e.process == p) (later_access (last_access p 
 -- an access begins a read of the bit of the next one
 abbrev pub begins_read_of : Option Access → Access → Bool
 begins_read_of None a = false
-begins_read_of (Some b) a = is_read b.how && same_bit a b
+begins_read_of (Some b) a = is_begin_of_read b.how && same_bit a b
 
 -- an access of p ends a read that a write overlapped: p's last access began that read, of a bit that exists
 abbrev pub ends_own_overlapped : Setup → ℕ → Past → Access → Bool
@@ -45,8 +46,8 @@ overlaps_in s before e = elim e.access [ None ↦ false | Some a ↦ ends_own_ov
 abbrev pub recorded_accesses : Setup → ℕ → Past → Accesses
 recorded_accesses s p past = record {
   doorway = first_in_call p (accesses_itself p) past;
-  reads = count_in_call p (makes_itself p is_read) past;
-  writes = count_in_call p (makes_itself p is_write) past;
+  reads = count_in_call p (makes_itself p is_begin_of_read) past;
+  writes = count_in_call p (makes_itself p is_begin_of_write) past;
   overlapped = count_in_call p (overlaps_in s) past;
   waited_for = None;
 }

@@ -2,13 +2,14 @@
 use Rattle.std.specs.Prelude.{ℕ, ◌+◌, ◌-◌, ◌^◌, ◌<◌, Bool, true, false, ◌&&◌, List, fold, cond, Option, None, Some, is_none}
 use Rattle.plain_store.specs.{Command, Setup}
 use Rattle.plain_store.specs.declared.Command.TheVariants.{Ask}
+use Rattle.model.specs.safe_bit.{is_begin_of_read, is_begin_of_write}
 use Rattle.model.specs.{Access, Mark, Past, called_in, first_of}
 use Rattle.model.specs.declared.marks.Mark.TheVariants as mark
 use Rattle.calls.specs.declared.called.Accesses.{Accesses}
 use Rattle.calls.specs.declared.called.EntryFacts.{EntryFacts}
 use Rattle.calls.specs.declared.called.Marked.{Marked}
 use Rattle.calls.specs.declared.call_state.CallState.{CallState}
-use Rattle.calls.specs.Columns.{answer_after, called, first_if, goes_on_after, is_calling, is_read, is_write, more_if, number_after, reports_waiting}
+use Rattle.calls.specs.Columns.{answer_after, called, first_if, goes_on_after, is_calling, more_if, number_after, reports_waiting}
 
 -- the state of p
 abbrev pub call_state : Setup → ℕ → Past → CallState
@@ -42,8 +43,8 @@ waits_by s p ticket wait_end a (Some n) = reports_waiting s p ticket wait_end a 
 abbrev pub with_access : Setup → ℕ → ℕ → EntryFacts → Marked → Access → Accesses → Accesses
 with_access s p number known m a k = record {
   doorway = first_if (is_none m.failed) number k.doorway;
-  reads = more_if (is_read a.how && is_none m.failed) k.reads;
-  writes = more_if (is_write a.how && is_none m.failed) k.writes;
+  reads = more_if (is_begin_of_read a.how && is_none m.failed) k.reads;
+  writes = more_if (is_begin_of_write a.how && is_none m.failed) k.writes;
   overlapped = more_if known.overlapped k.overlapped;
   waited_for = cond (waits_by s p m.ticket m.wait_end a known.read) (Some a.owner) k.waited_for;
 }

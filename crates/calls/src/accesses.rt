@@ -1,9 +1,9 @@
-//! Facts about an access of a call: whether it begins or ends a read or a write, and which number it has read.
+//! Facts about an access of a call: which number it has read, and whether its process waits by it.
 ghost use Rattle.std.specs.Prelude.{◌≡◌, ◌+◌, ◌-◌, ◌^◌, ◌<◌, ◌&&◌, Some, Ok};
 ghost use Rattle.plain_store.specs.{checked};
 ghost use Rattle.model.specs.{is_below as below, width};
-ghost use Rattle.calls.specs.Columns.{ends_number, holds_up as holds, is_read as begins_read, is_write as begins_write, more_if as one_more_if, number_after as after, reports_waiting, with_bit as bit_with};
-ghost use Rattle.calls.specs.Passing.{of_read, reads_begun, writes_begun};
+ghost use Rattle.calls.specs.Columns.{ends_number, holds_up as holds, more_if as one_more_if, number_after as after, reports_waiting, with_bit as bit_with};
+ghost use Rattle.calls.specs.Passing.{reads_begun, writes_begun};
 ghost use Rattle.calls.specs.Stepping.{waits_by};
 
 use crate::called::Marked;
@@ -16,30 +16,6 @@ pub fn more_if(count: u64, test: bool) -> u64
     ensures { count < 2 ^ 64 - 1 → result ≡ one_more_if test count }
 {
     if test { count.saturating_add(1) } else { count }
-}
-
-/// Returns whether a move begins a read.
-#[inline]
-pub(crate) fn is_read(how: Move) -> bool
-    ensures { result ≡ begins_read how }
-{
-    matches!(how, Move::BeginRead)
-}
-
-/// Returns whether a move begins a write.
-#[inline]
-pub(crate) fn is_write(how: Move) -> bool
-    ensures { result ≡ begins_write how }
-{
-    matches!(how, Move::BeginWrite(_))
-}
-
-/// Returns whether a move begins or ends a read.
-#[inline(always)]
-pub(crate) fn is_of_read(how: Move) -> bool
-    ensures { result ≡ of_read how }
-{
-    matches!(how, Move::BeginRead | Move::EndRead(_))
 }
 
 /// Returns how many of `steps` accesses begin a read, where begins and ends alternate and the last makes the move `newest`.

@@ -6,7 +6,7 @@ ghost use Rattle.calls.specs.Columns.{first_if as first_number_if};
 ghost use Rattle.calls.specs.Passing.{HaveRoom, passed, with_passed};
 ghost use Rattle.calls.specs.Stepping.{AreFew, accessed, observed, at_rest, begun, marked_all, marked_on, no_accesses, no_marks, with_access, with_mark};
 
-use crate::accesses::{is_read, is_write, more_if, waits_by};
+use crate::accesses::{more_if, waits_by};
 use crate::called::{Accesses, Called, EntryFacts, Marked};
 use model::{Access, Field, Mark};
 use plain_store::{Command, NestedTypes, Setup};
@@ -180,8 +180,8 @@ impl Accesses {
     {
         let itself = marks.failed.is_none();
         self.doorway = first_if(self.doorway, itself, number);
-        self.reads = more_if(self.reads, is_read(access.how) & itself);
-        self.writes = more_if(self.writes, is_write(access.how) & itself);
+        self.reads = more_if(self.reads, access.how.is_begin_of_read() & itself);
+        self.writes = more_if(self.writes, access.how.is_begin_of_write() & itself);
         self.overlapped = more_if(self.overlapped, known.overlapped);
         if waits_by(setup, process, marks, access, known.read) {
             self.waited_for = Some(access.owner);

@@ -8,7 +8,7 @@ ghost use Rattle.calls.specs.Recorded.{begins_read_of, entry_with, overlaps_in};
 ghost use Rattle.calls.specs.RecordTables.{Monitors};
 
 use judge::SafeMonitor;
-use model::{Access, Move};
+use model::Access;
 use plain_store::Setup;
 use std::alloc::{AllocError, Global};
 
@@ -50,7 +50,7 @@ impl OverlapMonitor {
         ensures { result ≡ begins_read_of (get_or self.now.last process None) access.now }
     {
         match self.last.get(usize::from(process)) {
-            Some(Some(last)) => matches!(last.how, Move::BeginRead) && access.same_bit(last),
+            Some(Some(last)) => last.how.is_begin_of_read() && access.same_bit(last),
             _ => false,
         }
     }

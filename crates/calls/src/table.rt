@@ -7,7 +7,7 @@ ghost use Rattle.calls.specs.Passing.{HasNotFailed, Passes};
 ghost use Rattle.calls.specs.Observing.{ComesInTurn, GoesBy, GoesOn, HasObserved, ended_call, open_call};
 ghost use Rattle.calls.specs.Recorded.{HasListed, Lists, call_kept, entry_with, open_recorded};
 
-use crate::accesses::{is_of_read, reads_among, writes_among};
+use crate::accesses::{reads_among, writes_among};
 use crate::call_state::{CallState, called_in};
 use crate::called::{Accesses, Called, EntryFacts, Marked};
 use model::{Access, Mark, Move};
@@ -97,7 +97,7 @@ impl CallTable {
             HasObserved self.old past → HasObserved self.new after }
     {
         // This test comes first: where the caller's move is known, the compiler keeps only one of the two calls.
-        if is_of_read(newest) {
+        if newest.is_of_read() {
             self.pass_on(process, steps, reads_among(steps, newest), 0, overlapped);
         } else {
             self.pass_on(process, steps, 0, writes_among(steps, newest), overlapped);

@@ -9,7 +9,7 @@ use Rattle.plain_store.proofs.GoodSetups.{few-processes, good-checked}
 use Rattle.plain_store.specs.{Setup, checked}
 use Rattle.model.specs.safe_bit.declared.Move.TheVariants.{BeginRead, BeginWrite, EndRead, EndWrite, Settle}
 use Rattle.model.specs.safe_bit.Cell.{Cell}
-use Rattle.model.specs.safe_bit.{Move, read_value}
+use Rattle.model.specs.safe_bit.{Move, is_end_of_read, is_end_of_write, read_value}
 use Rattle.model.specs.{Access, Call, Entry, Event, Field, Past, Reading, Run, Writing, access_at, access_of, bit_written, copy, ended, ended_with, entry_of, moves_of, next_written, opening_bit, past_of, valued, width}
 use Rattle.model.specs.Closings.{Withdraws, Settles, Frees, Lowers}
 use Rattle.model.specs.declared.access.Field.TheVariants.{Choosing, Ticket, Commit, Stamp0, Stamp1, Image0, Image1}
@@ -18,13 +18,12 @@ use Rattle.model.proofs.Width.{IsGood, is_good}
 use Rattle.calls.specs.world.laws.Writes.{WritesFitTheirRegister, WritesLeaveTheirBits}
 use Rattle.calls.specs.world.laws.{Closes, CopiesHold, Doing, FitsItsRegister, HoldsBit, RegisterWrite, Runs, accesses_in_all, accesses_made, call, cell_held, doing, next_of, register_write, steps_alone, write_at, write_ended}
 use Rattle.calls.proofs.world_proofs.laws_proofs.Steps.{StepIs, step_is}
-use Rattle.calls.specs.{is_read_end}
 use Rattle.calls.specs.world.process.declared.looks.Settling.{Settling as Torn}
 use Rattle.calls.specs.world.process.{AccessProgress, progress, settling_of}
 use Rattle.calls.specs.world.process.registers.{has_open_write, values_in}
 use Rattle.run_state.specs.{ComesNext, access_in, bits_in_cells, bits_text, busy_lines, copy_text, process_line, read_progress, reads_words, settling_progress, shown, value_written, write_progress, writes_words}
 use Rattle.calls.specs.world.process.RegisterProgress.{run_progress}
-use Rattle.run_state.specs.Doing.{is_write_end, is_writing, one_if}
+use Rattle.run_state.specs.Doing.{is_writing, one_if}
 
 -- The next access.
 
@@ -57,7 +56,7 @@ next_by s p (Closes command number (Lowers w)) a none h = (sym (some_access _ a 
 next_by s p _ a none h = absurd (cc)
 
 -- the value with which a read ends makes no difference
-ended-same : (v : Bool) (m : Move) → (is_writing (ended v m) ≡ is_writing m) × (is_read_end (ended v m) ≡ is_read_end m)
+ended-same : (v : Bool) (m : Move) → (is_writing (ended v m) ≡ is_writing m) × (is_end_of_read (ended v m) ≡ is_end_of_read m)
 ended-same v (BeginWrite w) = (refl, refl)
 ended-same v EndWrite = (refl, refl)
 ended-same v BeginRead = (refl, refl)
@@ -83,7 +82,7 @@ next-within s p v w = let is = go (made % 2 == 0) refl in record { owner = refl;
     how : Bool → Move
     how b = ended v (if b then BeginWrite (bit_written w.bits w.run).value else EndWrite)
 
-    go : (b : Bool) → (made % 2 == 0) ≡ b → (2 * (w.run.bit * n + made / 2) + one_if (is_write_end (how b)) ≡ 2 * (n * w.run.bit) + made) × (is_writing (how b) ≡ true)
+    go : (b : Bool) → (made % 2 == 0) ≡ b → (2 * (w.run.bit * n + made / 2) + one_if (is_end_of_write (how b)) ≡ 2 * (n * w.run.bit) + made) × (is_writing (how b) ≡ true)
     go true even = let none : made % 2 ≡ 0 = eqb-true (made % 2) 0 even in (omega (arith, none), refl)
     go false odd = let some : made % 2 ≢ 0 = eqb-false (made % 2) 0 odd in (omega (arith, some), refl)
 

@@ -2,14 +2,14 @@
 use Rattle.std.specs.Prelude.{◌≡◌, ℕ, ◌+◌, ◌-◌, ◌*◌, ◌/◌, ◌%◌, ◌==◌, nat_lt, Bool, true, false, not, ◌&&◌, ◌||◌, List, [], ◌++◌, codes, cond, if◌then◌else◌, Option, None, Some}
 use Rattle.std.specs.Fmt.{decimal}
 use Rattle.plain_store.specs.{Setup}
-use Rattle.model.specs.safe_bit.{Move}
+use Rattle.model.specs.safe_bit.{Move, is_end_of_read, is_end_of_write}
 use Rattle.model.specs.safe_bit.declared.Move.TheVariants.{BeginWrite, EndWrite, EndRead}
 use Rattle.model.specs.{Access, Entry, Field, Past, Stage, entry_of, field_word, width}
 use Rattle.model.specs.declared.access.Field.TheVariants.{Ticket}
 use Rattle.model.specs.declared.events.Event.TheVariants.{Step}
 use Rattle.model.specs.declared.stages.Stage.TheVariants.{Doorway, Waiting, Inside, Settling}
 use Rattle.judge.specs.record_file.scenario.{bit_word}
-use Rattle.calls.specs.{Called, holds_up, is_read_end, open_call}
+use Rattle.calls.specs.{Called, holds_up, open_call}
 use Rattle.run_state.specs.declared.kept.FinishedRead.{FinishedRead}
 use Rattle.calls.specs.world.laws.{Doing, doing, steps_alone}
 use Rattle.calls.specs.world.process.{AccessProgress, KnownTicket, number_read, settling_of, ticket_known}
@@ -82,18 +82,13 @@ progress_words owner field g = decimal owner ++ (codes "." ++ (field_word field 
 abbrev pub one_if : Bool → ℕ
 one_if b = if b then 1 else 0
 
--- a write ends
-abbrev pub is_write_end : Move → Bool
-is_write_end EndWrite = true
-is_write_end _ = false
-
 -- the write of a register has two accesses for each bit on each copy; those before this one are made
 abbrev pub write_progress : Setup → Access → AccessProgress
-write_progress s a = record { made = 2 * (a.bit * s.processes + a.reader) + one_if (is_write_end a.how); all = 2 * (s.processes * width s a.field) }
+write_progress s a = record { made = 2 * (a.bit * s.processes + a.reader) + one_if (is_end_of_write a.how); all = 2 * (s.processes * width s a.field) }
 
 -- its read has two for each bit
 abbrev pub read_progress : Setup → Access → AccessProgress
-read_progress s a = record { made = 2 * a.bit + one_if (is_read_end a.how); all = 2 * width s a.field }
+read_progress s a = record { made = 2 * a.bit + one_if (is_end_of_read a.how); all = 2 * width s a.field }
 
 -- the register's first copy, once p alone has made the remaining accesses of its write
 abbrev pub value_written : Setup → Past → ℕ → Access → List ℕ
