@@ -18,7 +18,7 @@ pub use Knowing.{AreGiven, AreOf, CoreShows}
 pub use Lines.{line_if, open_lines, process_line, taken_words}
 pub use Making.{EventsAreMade, IsMade, WritesMade, made_line, makes_event, making_line, number_in}
 pub use Observing.{HasObservedRecord, IsNext, IsStored, StoresNext, newest_lines, newest_stored, taken_with}
-pub use Processes.{count_line, is_resting, lines_at, lines_of_two, newest_line, process_lines, rest_line, running_lines, words_added}
+pub use Processes.{count_line, lines_at, lines_of_two, newest_line, process_lines, rest_line, running_lines, words_added}
 pub use RecordStates.{RecordsHaveStatesOfRuns, StateEnds, ReportsState, bad_line, good_ones, line_of_newest, recorded_state}
 pub use ObservedRuns.{HasObserved, SnapshotState, HasObservedWorld, state_lines}
 pub use States.{HasSeen, Observes, ObservesReported, IsNewestWithin, entry_reported, first_of, head_lines, newest, state_after, state_of, state_text, stated, stated_in, unmarked_entry}

@@ -4,8 +4,7 @@ use Rattle.std.specs.Fmt.{decimal}
 use Rattle.std.specs.Str.{bytes_eq}
 use Rattle.plain_store.specs.{Setup}
 use Rattle.model.specs.declared.events.Event.TheVariants.{Step}
-use Rattle.model.specs.{Entry, Past, Stage, calls_in, entry_of, history, own, stage, stage_word}
-use Rattle.model.specs.declared.stages.Stage.TheVariants.{Idle, Down}
+use Rattle.model.specs.{Entry, Past, Stage, calls_in, entry_of, history, is_at_rest, own, stage, stage_word}
 use Rattle.judge.specs.record_file.{entry_line}
 use Rattle.calls.specs.{open_call}
 use Rattle.run_state.specs.Doing.{doing_lines}
@@ -44,12 +43,6 @@ next_lines s past p = lines_of_two p (next_words s past p false) (next_words s p
 abbrev pub rest_line : ℕ → Stage → ℕ → List ℕ
 rest_line p stage calls = process_line p (cond (calls == 0) (stage_word stage) (stage_word stage ++ (codes " calls " ++ decimal calls)))
 
--- the process rests: it is idle or down
-abbrev pub is_resting : Stage → Bool
-is_resting Idle = true
-is_resting Down = true
-is_resting _ = false
-
 -- the lines of one that runs, or whose unit settles, at a stage
 abbrev pub running_lines : Setup → Past → ℕ → Stage → List ℕ
 running_lines s past p stage =
@@ -57,7 +50,7 @@ running_lines s past p stage =
 
 -- the lines of p at a stage
 abbrev pub lines_at : Setup → Past → ℕ → Stage → List ℕ
-lines_at s past p stage = cond (is_resting stage) (rest_line p stage (calls_in (own p past))) (running_lines s past p stage)
+lines_at s past p stage = cond (is_at_rest stage) (rest_line p stage (calls_in (own p past))) (running_lines s past p stage)
 
 -- the lines of p
 abbrev pub process_lines : Setup → Past → ℕ → List ℕ

@@ -3,7 +3,7 @@ ghost use Rattle.std.specs.Prelude.{◌≡◌, ◌+◌, ◌-◌, ◌^◌, ◌<�
 ghost use Rattle.plain_store.specs.{checked};
 ghost use Rattle.model.specs.{Entry as Noted, Past, processes};
 ghost use Rattle.run_state.specs.Keeping.{Passes, ReportsNumber, kept as kept_of};
-ghost use Rattle.run_state.specs.Processes.{count_line, is_resting as rests, newest_line, process_lines, rest_line};
+ghost use Rattle.run_state.specs.Processes.{count_line, newest_line, process_lines, rest_line};
 ghost use Rattle.run_state.specs.ObservedRuns.{HasObserved, HasObservedWorld, state_lines};
 
 use crate::called::{push_line, push_words};
@@ -206,7 +206,7 @@ impl ObservedRun {
             return Ok(());
         };
         let kept = self.kept(process);
-        if is_resting(stage) {
+        if stage.is_at_rest() {
             return push_rest(alloc, process, stage, kept.call_state.last.call, text);
         }
         let lines = ProcessLines {
@@ -220,13 +220,6 @@ impl ObservedRun {
         };
         lines.push(text)
     }
-}
-
-/// Returns whether a process at this stage is idle or down.
-fn is_resting(stage: Stage) -> bool
-    ensures { result ≡ rests stage }
-{
-    matches!(stage, Stage::Idle | Stage::Down)
 }
 
 /// Writes the line of a process that is idle or down and has made `calls` calls.
