@@ -1,10 +1,10 @@
 -- The state of a bit after one more entry.
 use Rattle.std.proofs.Common.{◌≡◌, ℕ, Bool, true, false, cond, List, [], ◌∷◌, ◌++◌, Option, None, Some, is_some, refl, sym, ap, ◌∙◌}
 use Rattle.plain_store.specs.{Setup}
-use Rattle.model.specs.safe_bit.{Move, is_write_open, last_begun, last_written}
+use Rattle.model.specs.safe_bit.{Move, gives_value, is_write_open, last_begun, last_written}
 use Rattle.model.specs.safe_bit.declared.Move.TheVariants.{BeginWrite, EndWrite, BeginRead, EndRead, Settle}
 use Rattle.model.specs.{Access, Mark, Past, move_on, moves_of, opening_bit, same_bit}
-use Rattle.record_accesses.specs.{BitState, bit_after, bit_of, entry_with, new_bit, writer_of, writer_with, writes}
+use Rattle.record_accesses.specs.{BitState, bit_after, bit_of, entry_with, new_bit, writer_of, writer_with}
 use Rattle.record_accesses.proofs.SameBits.{bare, same-bare, same-refl}
 
 -- A bit that has one more move, or none.
@@ -42,7 +42,7 @@ pub bit-made : (s : Setup) (past : Past) (p : ℕ) (marks : List Mark) (a : Acce
 bit-made s past p marks a = bit-step s past p marks a a ∙ ap (λ t. cond t (bit_after p a.how (bit_of s past a)) (bit_of s past a)) (same-refl a)
 
 -- A move that does not write leaves a bit that was not written as it is.
-pub unwritten : (p : ℕ) (how : Move) (opening : Bool) → writes how ≡ false → bit_after p how (new_bit opening) ≡ new_bit opening
+pub unwritten : (p : ℕ) (how : Move) (opening : Bool) → gives_value how ≡ false → bit_after p how (new_bit opening) ≡ new_bit opening
 unwritten p (BeginWrite v) opening h = absurd (cc)
 unwritten p EndWrite opening h = refl
 unwritten p BeginRead opening h = refl

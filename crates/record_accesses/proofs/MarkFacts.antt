@@ -7,10 +7,10 @@ use Rattle.picture_layout.specs.{GivenAccess, ShownAccess, UnendedAccess, given_
 use Rattle.picture_layout.specs.declared.accesses.AccessKind.TheVariants as kind
 use Rattle.plain_store.specs.{Setup}
 use Rattle.plain_store.proofs.GoodSetups.{few-processes}
-use Rattle.model.specs.safe_bit.{Move, is_overlapped, is_write_open}
+use Rattle.model.specs.safe_bit.{Move, is_begin, is_begin_of_read, is_overlapped, is_write_open}
 use Rattle.model.specs.safe_bit.declared.Move.TheVariants.{BeginWrite, EndWrite, BeginRead, EndRead, Settle}
 use Rattle.model.specs.{Access, Mark, Past, moves_of, same_bit}
-use Rattle.record_accesses.specs.{AreOwnReads, AreShown, IsOwnRead, IsPossible, MarksOverlappedReads, OpenBitAccess, WaveLimit, begins, begins_read, begun_by, box_of, dropped, dropped_as, drops, entry_with, first_overlaps, is_writer, kind_of, left_open, opened, overlaps_by, overlaps_with, possible_access, possible_past, shown_as, shown_made, step_by, monitored, monitored_by, write_of, writer_of, writer_with, writes_bit}
+use Rattle.record_accesses.specs.{AreOwnReads, AreShown, IsOwnRead, IsPossible, MarksOverlappedReads, OpenBitAccess, WaveLimit, begun_by, box_of, dropped, dropped_as, drops, entry_with, first_overlaps, is_writer, kind_of, left_open, opened, overlaps_by, overlaps_with, possible_access, possible_past, shown_as, shown_made, step_by, monitored, monitored_by, write_of, writer_of, writer_with, writes_bit}
 use Rattle.record_accesses.specs.declared.monitored.Monitored.TheVariants.{Made}
 use Rattle.record_accesses.proofs.BitFacts.{writer-open}
 use Rattle.record_accesses.proofs.OpenFacts.{opened-other, opened-own}
@@ -116,20 +116,20 @@ box-some p before (Some y) g h = let is : given_access y ≡ g = cc in ap (box_b
 
 -- An open read.
 
-not-read : (x : Option OpenBitAccess) (o : OpenBitAccess) → write_of x ≡ Some o → begins_read o.access.how ≡ true → ⊥
+not-read : (x : Option OpenBitAccess) (o : OpenBitAccess) → write_of x ≡ Some o → is_begin_of_read o.access.how ≡ true → ⊥
 not-read None o h read = absurd (cc)
-not-read (Some y) o h read = by (begins_read y.access.how) refl h
+not-read (Some y) o h read = by (is_begin_of_read y.access.how) refl h
   where
-    by : (t : Bool) → begins_read y.access.how ≡ t → cond t None (Some y) ≡ Some o → ⊥
+    by : (t : Bool) → is_begin_of_read y.access.how ≡ t → cond t None (Some y) ≡ Some o → ⊥
     by true is h = absurd (cc)
-    by false is h = let same : y ≡ o = cc in true≢false (sym read ∙ ap (λ (o : OpenBitAccess). begins_read o.access.how) (sym same) ∙ is)
+    by false is h = let same : y ≡ o = cc in true≢false (sym read ∙ ap (λ (o : OpenBitAccess). is_begin_of_read o.access.how) (sym same) ∙ is)
 
 -- it was not dropped
-kept-read : (d : Bool) (x : Option OpenBitAccess) (o : OpenBitAccess) → left_open d x ≡ Some o → begins_read o.access.how ≡ true → d ≡ false
+kept-read : (d : Bool) (x : Option OpenBitAccess) (o : OpenBitAccess) → left_open d x ≡ Some o → is_begin_of_read o.access.how ≡ true → d ≡ false
 kept-read true x o h read = absurd (not-read x o h read)
 kept-read false x o h read = refl
 
-is-read : (how : Move) → begins_read how ≡ true → how ≡ BeginRead
+is-read : (how : Move) → is_begin_of_read how ≡ true → how ≡ BeginRead
 is-read (BeginWrite v) h = absurd (cc)
 is-read EndWrite h = absurd (cc)
 is-read BeginRead h = refl
@@ -152,7 +152,7 @@ module _ (s : Setup) (limit : WaveLimit) (past : Past) (p : ℕ) (exists : p < s
 
   -- An entry of the process itself.
 
-  own-still : (marks : List Mark) (o : OpenBitAccess) → option_map given_access x ≡ option_map shown_as (monitored s limit P (entry_with p None marks)) → begins_read o.access.how ≡ true →
+  own-still : (marks : List Mark) (o : OpenBitAccess) → option_map given_access x ≡ option_map shown_as (monitored s limit P (entry_with p None marks)) → is_begin_of_read o.access.how ≡ true →
       left_open (drops marks) (opened p P) ≡ Some o → (opened p P ≡ Some o → before ≡ Some (marked (is_overlapped (moves_of o.access P)))) →
       open_with p before x ≡ Some (marked (is_overlapped (moves_of o.access P)))
   own-still marks o shown read h rest =
@@ -162,14 +162,14 @@ module _ (s : Setup) (limit : WaveLimit) (past : Past) (p : ℕ) (exists : p < s
       (λ i. option_map shown_as (cond (lt-ltb p s.processes exists i) (option_map (dropped_as (length P) p) (dropped (kept i) (opened p P))) None)) in
       box-none p before x (shown ∙ nothing) ∙ rest old
 
-  own-read : (marks : List Mark) (a : Access) (o : OpenBitAccess) → option_map given_access x ≡ option_map shown_as (monitored s limit P (entry_with p (Some a) marks)) → begins_read o.access.how ≡ true →
+  own-read : (marks : List Mark) (a : Access) (o : OpenBitAccess) → option_map given_access x ≡ option_map shown_as (monitored s limit P (entry_with p (Some a) marks)) → is_begin_of_read o.access.how ≡ true →
       left_open (drops marks) (begun_by (length P) (Some a) (opened p P)) ≡ Some o →
       open_with p before x ≡ Some (marked (is_overlapped (moves_of o.access (entry_with p (Some a) marks ∷ P))))
   own-read marks a o shown read h =
       let kept = kept-read (drops marks) (begun_by (length P) (Some a) (opened p P)) o h read in
       let mine : OpenBitAccess = record { entry = length P; access = a } in
-      let is : mine ≡ o = own-begun (begins a.how) mine o (ap (λ d. left_open d (begun_by (length P) (Some a) (opened p P))) (sym kept) ∙ h) in
-      let how : a.how ≡ BeginRead = is-read a.how (ap (λ (o : OpenBitAccess). begins_read o.access.how) is ∙ read) in
+      let is : mine ≡ o = own-begun (is_begin a.how) mine o (ap (λ d. left_open d (begun_by (length P) (Some a) (opened p P))) (sym kept) ∙ h) in
+      let how : a.how ≡ BeginRead = is-read a.how (ap (λ (o : OpenBitAccess). is_begin_of_read o.access.how) is ∙ read) in
       let w = monitored_by s limit P (entry_with p (Some a) marks) a in
       let some : option_map shown_as (monitored s limit P (entry_with p (Some a) marks)) ≡ Some (shown_made w) =
       ap (λ t. option_map shown_as (cond t (Some (Made w)) None)) (lt-ltb p s.processes exists) in
@@ -200,7 +200,7 @@ module _ (s : Setup) (limit : WaveLimit) (past : Past) (p : ℕ) (exists : p < s
           ∙ unflagged o q (get_or (replicate 16 false) p false) (get_or-replicate 16 p false false (omega (arith, exists, few))) is
       by false r h = box-none p before x h ∙ is
 
-  flag-move : (o : OpenBitAccess) (a : Access) (how : Move) (w : Option ℕ) (moves : List Move) (t : Bool) → is_writer w p ≡ false → begins_read o.access.how ≡ true → same_bit o.access a ≡ t → (how ≡ BeginRead → t ≡ true → ⊥) →
+  flag-move : (o : OpenBitAccess) (a : Access) (how : Move) (w : Option ℕ) (moves : List Move) (t : Bool) → is_writer w p ≡ false → is_begin_of_read o.access.how ≡ true → same_bit o.access a ≡ t → (how ≡ BeginRead → t ≡ true → ⊥) →
       (is_overlapped moves || overlaps_by how a w p (Some o)) ≡ is_overlapped (cond t (how ∷ []) [] ++ moves)
   flag-move o a (BeginWrite v) w moves true quiet read same other =
       (λ i. is_overlapped moves || (quiet i || (read i && same i))) ∙ or-true (is_overlapped moves)
@@ -220,7 +220,7 @@ module _ (s : Setup) (limit : WaveLimit) (past : Past) (p : ℕ) (exists : p < s
   quiet-writer (Some r) h = ne_eqb r p (λ e. h (ap Some e))
 
   other-made : (q : ℕ) (marks : List Mark) (a : Access) (o : OpenBitAccess) → option_map given_access x ≡ option_map shown_as (monitored s limit P (entry_with q (Some a) marks)) → p ≢ q → q < s.processes →
-      (a.how ≡ BeginRead → a.reader ≡ q) → opened p P ≡ Some o → begins_read o.access.how ≡ true → IsOwnRead P p o.access → before ≡ Some (marked (is_overlapped (moves_of o.access P))) →
+      (a.how ≡ BeginRead → a.reader ≡ q) → opened p P ≡ Some o → is_begin_of_read o.access.how ≡ true → IsOwnRead P p o.access → before ≡ Some (marked (is_overlapped (moves_of o.access P))) →
       open_with p before x ≡ Some (marked (is_overlapped (moves_of o.access (entry_with q (Some a) marks ∷ P))))
   other-made q marks a o shown apart there reader old read mine is =
       let w = monitored_by s limit P (entry_with q (Some a) marks) a in
@@ -236,10 +236,10 @@ module _ (s : Setup) (limit : WaveLimit) (past : Past) (p : ℕ) (exists : p < s
 
   -- An entry of any process.
 
-  module _ (rest : (o : OpenBitAccess) → opened p P ≡ Some o → begins_read o.access.how ≡ true → Both p P before o) where
+  module _ (rest : (o : OpenBitAccess) → opened p P ≡ Some o → is_begin_of_read o.access.how ≡ true → Both p P before o) where
     abbrev Step : ℕ → Option Access → List Mark → OpenBitAccess → Type 0
     Step q access marks o = option_map given_access x ≡ option_map shown_as (monitored s limit P (entry_with q access marks)) → ((a : Access) → access ≡ Some a → IsPossible s q a) → ((a : Access) → access ≡ Some a → a.how ≡ BeginRead → IsOwnRead P q a) →
-        opened p (entry_with q access marks ∷ P) ≡ Some o → begins_read o.access.how ≡ true → Both p (entry_with q access marks ∷ P) (open_with p before x) o
+        opened p (entry_with q access marks ∷ P) ≡ Some o → is_begin_of_read o.access.how ≡ true → Both p (entry_with q access marks ∷ P) (open_with p before x) o
 
     still-own : (q : ℕ) (marks : List Mark) (o : OpenBitAccess) → Both p P before o → IsOwnRead (entry_with q None marks ∷ P) p o.access
     still-own q marks o both = record { own = both.own.own; calm = λ b. both.own.calm b }
@@ -254,8 +254,8 @@ module _ (s : Setup) (limit : WaveLimit) (past : Past) (p : ℕ) (exists : p < s
         let left : left_open (drops marks) (begun_by (length P) (Some a) (opened p P)) ≡ Some o = sym (opened-own p (Some a) marks P) ∙ h in
         let mine : OpenBitAccess = record { entry = length P; access = a } in
         let kept = kept-read (drops marks) (begun_by (length P) (Some a) (opened p P)) o left read in
-        let is : mine ≡ o = own-begun (begins a.how) mine o (ap (λ d. left_open d (begun_by (length P) (Some a) (opened p P))) (sym kept) ∙ left) in
-        let how : a.how ≡ BeginRead = is-read a.how (ap (λ (o : OpenBitAccess). begins_read o.access.how) is ∙ read) in
+        let is : mine ≡ o = own-begun (is_begin a.how) mine o (ap (λ d. left_open d (begun_by (length P) (Some a) (opened p P))) (sym kept) ∙ left) in
+        let how : a.how ≡ BeginRead = is-read a.how (ap (λ (o : OpenBitAccess). is_begin_of_read o.access.how) is ∙ read) in
         let owned : IsOwnRead P p a = owns a refl how in
         let now : IsOwnRead (entry_with p (Some a) marks ∷ P) p a = record { own = owned.own; calm = λ b h. owned.calm b (begin-quiet b (same_bit b a) ∙ ap (λ how. writer_with p (cond (same_bit b a) (how ∷ []) []) (writer_of b P)) (sym how) ∙ h) } in
         record {
@@ -291,7 +291,7 @@ module _ (s : Setup) (limit : WaveLimit) (past : Past) (p : ℕ) (exists : p < s
 -- All entries.
 
 boxes : (s : Setup) (limit : WaveLimit) (past : Past) (shown : List (Option ShownAccess)) (p : ℕ) → p < s.processes → s.processes < 17 → AreShown s limit past shown → AreOwnReads (possible_past s past) →
-    (o : OpenBitAccess) → opened p (possible_past s past) ≡ Some o → begins_read o.access.how ≡ true → Both p (possible_past s past) (box_of p shown) o
+    (o : OpenBitAccess) → opened p (possible_past s past) ≡ Some o → is_begin_of_read o.access.how ≡ true → Both p (possible_past s past) (box_of p shown) o
 boxes s limit [] shown p exists few are owns o h read = absurd (cc)
 boxes s limit (e ∷ past) [] p exists few are owns o h read = absurd are
 boxes s limit (e ∷ past) (x ∷ shown) p exists few are owns o h read =

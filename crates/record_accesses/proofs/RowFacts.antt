@@ -11,10 +11,10 @@ use Rattle.std.proofs.lemmas.List.{get_or_append_left}
 use Rattle.std.proofs.lemmas.List.Quantifiers.{position-Some}
 use Rattle.laws.specs.{IsThere}
 use Rattle.plain_store.specs.{Setup}
-use Rattle.model.specs.safe_bit.{Move}
+use Rattle.model.specs.safe_bit.{Move, gives_value, is_of_write}
 use Rattle.model.specs.safe_bit.declared.Move.TheVariants.{BeginWrite, EndWrite, BeginRead, EndRead, Settle}
 use Rattle.model.specs.{Access, Mark, Past, opening_bit, same_bit}
-use Rattle.record_accesses.specs.{BitChange, BitState, BitsState, HasBits, WaveCount, alters, bit_after, bit_of, bits_taken, change_in_row, change_of, entry_with, new_bit, row_in, rows_after, rows_with, state_at, waves_after, waves_since, with_last, writes, written_bits}
+use Rattle.record_accesses.specs.{BitChange, BitState, BitsState, HasBits, WaveCount, bit_after, bit_of, bits_taken, change_in_row, change_of, entry_with, new_bit, row_in, rows_after, rows_with, state_at, waves_after, waves_since, with_last, written_bits}
 use Rattle.record_accesses.proofs.BitFacts.{bit-cong, bit-made, bit-step, unwritten}
 use Rattle.record_accesses.proofs.SameBits.{bare-same, other-sym, same-bare, same-refl}
 
@@ -65,7 +65,7 @@ nothing-counts true true = refl
 nothing-counts true false = refl
 nothing-counts false t = refl
 
-writes-alter : (how : Move) → writes how ≡ true → alters how ≡ true
+writes-alter : (how : Move) → gives_value how ≡ true → is_of_write how ≡ true
 writes-alter (BeginWrite v) h = refl
 writes-alter EndWrite h = absurd (cc)
 writes-alter BeginRead h = absurd (cc)
@@ -94,7 +94,7 @@ waves-written (e ∷ past) = by e.access (waves-written past)
     by None same = same
     by (Some a) same =
         ap (λ (rows : List Access). waves_after 0 (length past) (rows_with a (written_bits past)) (Some a) rows) same
-        ∙ waves-by (written_bits past) a (row_in (written_bits past) a) refl (writes a.how) (alters a.how) (nat_le 0 (length past)) (writes-alter a.how) (from-zero (length past))
+        ∙ waves-by (written_bits past) a (row_in (written_bits past) a) refl (gives_value a.how) (is_of_write a.how) (nat_le 0 (length past)) (writes-alter a.how) (from-zero (length past))
 
 -- A move that does not alter its bit changes no wave, whatever its row.
 change-either : (b : Bool) (f : ℕ → Option BitChange) (row : Option ℕ) → cond b (option_and_then f (cond b row None)) None ≡ cond b (option_and_then f row) None
@@ -102,8 +102,8 @@ change-either true f row = refl
 change-either false f row = refl
 
 pub change-row : (count : WaveCount) (row : Option ℕ) (how : Move) (old value was_open is_open : Bool) →
-    change_of count (cond (alters how) row None) how old value was_open is_open ≡ change_of count row how old value was_open is_open
-change-row count row how old value was_open is_open = change-either (alters how) (change_in_row count old value was_open is_open) row
+    change_of count (cond (is_of_write how) row None) how old value was_open is_open ≡ change_of count row how old value was_open is_open
+change-row count row how old value was_open is_open = change-either (is_of_write how) (change_in_row count old value was_open is_open) row
 
 -- An entry without an access.
 pub bits-still : (s : Setup) (b : BitsState) (past : Past) (p : ℕ) (marks : List Mark) → HasBits s b past → HasBits s b (entry_with p None marks ∷ past)
@@ -168,7 +168,7 @@ module _ (s : Setup) (b : BitsState) (past : Past) (p : ℕ) (marks : List Mark)
   ]
 
   -- where it gets none
-  states-none : row_in b.names a ≡ None → writes a.how ≡ false → (d : Access) → IsThere s d → state_at b (row_in b.names d) (opening_bit s d) ≡ bit_of s (entry_with p (Some a) marks ∷ past) d
+  states-none : row_in b.names a ≡ None → gives_value a.how ≡ false → (d : Access) → IsThere s d → state_at b (row_in b.names d) (opening_bit s d) ≡ bit_of s (entry_with p (Some a) marks ∷ past) d
   states-none none unwritten_it d exists = elim (cases_Bool (same_bit a d)) [
     | inl same ↦
         let open_at : state_at b (row_in b.names a) (opening_bit s a) ≡ new_bit (opening_bit s a) = ap (λ o. state_at b o (opening_bit s a)) none in
@@ -178,7 +178,7 @@ module _ (s : Setup) (b : BitsState) (past : Past) (p : ℕ) (marks : List Mark)
     | inr other ↦ other-bit d exists other
   ]
 
-  taken-by : (o : Option ℕ) → row_in b.names a ≡ o → (w : Bool) → writes a.how ≡ w → HasBits s (bits_taken o a after b) (entry_with p (Some a) marks ∷ past)
+  taken-by : (o : Option ℕ) → row_in b.names a ≡ o → (w : Bool) → gives_value a.how ≡ w → HasBits s (bits_taken o a after b) (entry_with p (Some a) marks ∷ past)
   taken-by (Some row) is true w = record {
     names = has.names ∙ sym (ap (λ w. cond w (with_last (row_in (written_bits past) a) a (written_bits past)) (written_bits past)) w ∙ ap (λ (rows : List Access). with_last (row_in rows a) a rows) (sym has.names) ∙ ap (λ o. with_last o a b.names) is ∙ has.names);
     states = states-set row is;
@@ -197,4 +197,4 @@ module _ (s : Setup) (b : BitsState) (past : Past) (p : ℕ) (marks : List Mark)
   })
 
   pub bits-taken : HasBits s (bits_taken (row_in b.names a) a after b) (entry_with p (Some a) marks ∷ past)
-  bits-taken = taken-by (row_in b.names a) refl (writes a.how) refl
+  bits-taken = taken-by (row_in b.names a) refl (gives_value a.how) refl

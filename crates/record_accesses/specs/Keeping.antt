@@ -2,13 +2,13 @@
 use Rattle.std.specs.Prelude.{◌≡◌, ℕ, ◌<◌, Bool, List, [], ◌∷◌, ◌++◌, cond, get_or, length, slice_set, Option, None, Some}
 use Rattle.laws.specs.{IsThere}
 use Rattle.plain_store.specs.{Setup}
+use Rattle.model.specs.safe_bit.{gives_value}
 use Rattle.model.specs.{Access, Entry, Mark, Past, opening_bit}
 use Rattle.record_accesses.specs.declared.bits.BitState.{BitState}
 use Rattle.picture_layout.specs.declared.limits.WaveLimit.{WaveLimit}
 use Rattle.record_accesses.specs.declared.opened.OpenBitAccess.{OpenBitAccess}
 use Rattle.record_accesses.specs.Accesses.{possible_past}
 use Rattle.record_accesses.specs.Bits.{bit_of, new_bit}
-use Rattle.record_accesses.specs.Moves.{writes}
 use Rattle.record_accesses.specs.Opened.{begun_by, drops, left_open, opened}
 use Rattle.record_accesses.specs.Rows.{row_in, waves_since, written_bits}
 
@@ -31,7 +31,7 @@ state_at b (Some row) opening = get_or b.states row (new_bit opening)
 -- The bits after an access, whose bit had this row and has this state now. A bit without a row gets one if the access writes.
 abbrev pub bits_taken : Option ℕ → Access → BitState → BitsState → BitsState
 bits_taken (Some row) a state b = record { names = b.names; states = slice_set b.states row state }
-bits_taken None a state b = cond (writes a.how) (record { names = b.names ++ a ∷ []; states = b.states ++ state ∷ [] }) b
+bits_taken None a state b = cond (gives_value a.how) (record { names = b.names ++ a ∷ []; states = b.states ++ state ∷ [] }) b
 
 -- These are the rows of a past, and each bit that exists has its state there.
 pub record HasBits (s : Setup) (b : BitsState) (past : Past) : Type 0 where

@@ -13,8 +13,8 @@ pub use Accesses.{begin_of, change_by, dropped_as, dropped_by, is_there, possibl
 pub use Bits.{bit_after, bit_of, new_bit, writer_after, writer_of, writer_with}
 pub use Keeping.{BitsState, HasBits, HasOpened, HasTaken, HasMonitored, IsPossible, OfTaken, MonitorState, bits_taken, entry_with, no_bits, opened_taken, state_at}
 pub use Marks.{AreOwnReads, AreShown, IsOwnRead, MarksOverlappedReads, MarksOverlappedReadsOfRuns, box_of}
-pub use Moves.{alters, begins, kind_of, writes}
-pub use Opened.{begins_read, begun_by, dropped, drops, drops_read, left_open, opened, read_of, reads_bit, write_of, writes_bit}
+pub use Moves.{kind_of}
+pub use Opened.{begun_by, dropped, drops, drops_read, left_open, opened, read_of, reads_bit, write_of, writes_bit}
 pub use Overlaps.{first_overlaps, is_writer, overlaps_by, overlaps_with}
 pub use Rows.{counts_from, row_in, rows_after, rows_with, waves_after, waves_since, waves_with, with_last, written_bits}
 pub use Waves.{change_in_row, change_of, is_within}

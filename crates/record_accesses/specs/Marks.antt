@@ -3,14 +3,14 @@ use Rattle.std.specs.Prelude.{◌≡◌, ◌<◌, ℕ, true, List, [], ◌∷◌
 use Rattle.picture_layout.specs.{ShownAccess, UnendedAccess, given_access, open_with}
 use Rattle.picture_layout.specs.declared.accesses.AccessKind.TheVariants as kind
 use Rattle.plain_store.specs.{Setup, checked}
-use Rattle.model.specs.safe_bit.{is_overlapped}
+use Rattle.model.specs.safe_bit.{is_begin_of_read, is_overlapped}
 use Rattle.model.specs.safe_bit.declared.Move.TheVariants.{BeginRead}
 use Rattle.model.specs.{Access, Event, Past, moves_of, past_of}
 use Rattle.picture_layout.specs.declared.limits.WaveLimit.{WaveLimit}
 use Rattle.record_accesses.specs.declared.opened.OpenBitAccess.{OpenBitAccess}
 use Rattle.record_accesses.specs.Accesses.{possible_past, shown_access}
 use Rattle.record_accesses.specs.Bits.{writer_of}
-use Rattle.record_accesses.specs.Opened.{begins_read, opened}
+use Rattle.record_accesses.specs.Opened.{opened}
 
 -- These are shown of the entries of a past, the newest first.
 abbrev pub AreShown : Setup → WaveLimit → Past → List (Option ShownAccess) → Type 0
@@ -40,12 +40,12 @@ AreOwnReads (e ∷ past) = ((a : Access) → e.access ≡ Some a → a.how ≡ B
 abbrev pub MarksOverlappedReads : Type 0
 MarksOverlappedReads =
     (s : Setup) → checked s ≡ Ok tt → (limit : WaveLimit) (past : Past) (shown : List (Option ShownAccess)) → AreShown s limit past shown → AreOwnReads (possible_past s past) →
-    (p : ℕ) → p < s.processes → (o : OpenBitAccess) → opened p (possible_past s past) ≡ Some o → begins_read o.access.how ≡ true →
+    (p : ℕ) → p < s.processes → (o : OpenBitAccess) → opened p (possible_past s past) ≡ Some o → is_begin_of_read o.access.how ≡ true →
     box_of p shown ≡ Some (record { kind = kind.Read; is_overlapped = is_overlapped (moves_of o.access (possible_past s past)) })
 
 -- So it is in the record of each list of events.
 abbrev pub MarksOverlappedReadsOfRuns : Type 0
 MarksOverlappedReadsOfRuns =
     (s : Setup) → checked s ≡ Ok tt → (events : List Event) (limit : WaveLimit) (shown : List (Option ShownAccess)) → AreShown s limit (past_of s events) shown →
-    (p : ℕ) → p < s.processes → (o : OpenBitAccess) → opened p (past_of s events) ≡ Some o → begins_read o.access.how ≡ true →
+    (p : ℕ) → p < s.processes → (o : OpenBitAccess) → opened p (past_of s events) ≡ Some o → is_begin_of_read o.access.how ≡ true →
     box_of p shown ≡ Some (record { kind = kind.Read; is_overlapped = is_overlapped (moves_of o.access (past_of s events)) })

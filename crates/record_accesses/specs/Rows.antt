@@ -1,8 +1,8 @@
 -- The bits that were written, and the rows of waves: the bits that entries from one number on give a wave.
 use Rattle.std.specs.Prelude.{ℕ, nat_le, Bool, ◌&&◌, List, [], ◌∷◌, ◌++◌, cond, length, Option, None, Some, is_some}
 use Rattle.std.specs.List.{position}
+use Rattle.model.specs.safe_bit.{gives_value, is_of_write}
 use Rattle.model.specs.{Access, Past, same_bit}
-use Rattle.record_accesses.specs.Moves.{alters, writes}
 
 -- The row of the bit of an access, where each row is an access to its own bit.
 abbrev pub row_in : List Access → Access → Option ℕ
@@ -15,7 +15,7 @@ with_last None a rows = rows ++ a ∷ []
 
 -- Rows after an access: its bit has one if the access writes.
 abbrev pub rows_with : Access → List Access → List Access
-rows_with a rows = cond (writes a.how) (with_last (row_in rows a) a rows) rows
+rows_with a rows = cond (gives_value a.how) (with_last (row_in rows a) a rows) rows
 
 -- Rows after an entry, which may have no access.
 abbrev pub rows_after : Option Access → List Access → List Access
@@ -33,7 +33,7 @@ waves_with counts a waves = cond counts (with_last (row_in waves a) a waves) wav
 
 -- The access of an entry with this number counts from this number on: it begins, ends or settles a write, and its bit was written.
 abbrev pub counts_from : ℕ → ℕ → Access → List Access → Bool
-counts_from from number a written = alters a.how && (nat_le from number && is_some (row_in written a))
+counts_from from number a written = is_of_write a.how && (nat_le from number && is_some (row_in written a))
 
 -- Rows of waves after an entry with this number, which may have no access, where these bits were written.
 abbrev pub waves_after : ℕ → ℕ → List Access → Option Access → List Access → List Access

@@ -1,10 +1,9 @@
 -- The changes of waves, in numbers.
 use Rattle.std.specs.Prelude.{ℕ, nat_lt, Bool, cond, Option, None, Some, option_and_then}
-use Rattle.model.specs.safe_bit.{Move}
+use Rattle.model.specs.safe_bit.{Move, is_of_write}
 use Rattle.picture_layout.specs.declared.limits.WaveCount.{WaveCount}
 use Rattle.picture_layout.specs.declared.limits.WaveCount.TheVariants.{Sixteen, All}
 use Rattle.record_accesses.specs.declared.monitored.BitChange.{BitChange}
-use Rattle.record_accesses.specs.Moves.{alters}
 
 -- A row is shown.
 abbrev pub is_within : WaveCount → ℕ → Bool
@@ -20,4 +19,4 @@ change_in_row count old value was_open is_open row = cond (is_within count row)
 -- The change of a wave by a move, whose bit may have a row.
 abbrev pub change_of : WaveCount → Option ℕ → Move → Bool → Bool → Bool → Bool → Option BitChange
 change_of count row how old value was_open is_open =
-    cond (alters how) (option_and_then (change_in_row count old value was_open is_open) row) None
+    cond (is_of_write how) (option_and_then (change_in_row count old value was_open is_open) row) None

@@ -31,7 +31,7 @@
 //! | `bits` | the state of a bit |
 //! | `boxes` | what the boxes of reads show |
 //! | `limits` | how many waves are shown |
-//! | `moves` | the kind and the step of a move, and whether it writes |
+//! | `moves` | the kind of a move |
 //! | `opened` | the access that each process has open |
 //! | `openings` | which bits exist, and their opening values |
 //! | `overlaps` | which open accesses an access overlaps |

@@ -5,7 +5,6 @@ ghost use Rattle.record_accesses.specs.Waves.{change_in_row, change_of};
 
 use crate::bits::BitState;
 use crate::limits::has_row;
-use crate::moves::alters;
 use crate::opened::{OpenBitAccess, is_write_of};
 use model::{Access, Move};
 use picture_layout::{AccessStep, WaveCount};
@@ -111,7 +110,7 @@ pub(crate) fn change(
     ensures { result ≡ change_of count row how before.now.written after.now.written
         (is_some before.now.writer) (is_some after.now.writer) }
 {
-    if !alters(how) {
+    if !how.is_of_write() {
         return None;
     }
     match row {

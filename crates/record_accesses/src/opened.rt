@@ -1,10 +1,9 @@
 //! The access that each process has open.
 ghost use Rattle.std.specs.Prelude.{◌≡◌, ◌<◌, None, get_or, replicate};
 ghost use Rattle.record_accesses.specs.Keeping.{opened_taken};
-ghost use Rattle.record_accesses.specs.Opened.{begins_read as is_begin_of_read, begun_by, dropped, drops as is_dropping, drops_read as is_drop, left_open, read_of, reads_bit, write_of, writes_bit};
+ghost use Rattle.record_accesses.specs.Opened.{begun_by, dropped, drops as is_dropping, drops_read as is_drop, left_open, read_of, reads_bit, write_of, writes_bit};
 
-use crate::moves::begins;
-use model::{Access, Mark, Move};
+use model::{Access, Mark};
 use std::marker::Model;
 
 /// An access that is open, and the number of the entry with which it began.
@@ -68,7 +67,7 @@ fn begun(
     ensures { result ≡ begun_by number access.now before }
 {
     match access {
-        Some(access) if begins(access.how) => Some(OpenBitAccess {
+        Some(access) if access.how.is_begin() => Some(OpenBitAccess {
             entry: number,
             access: *access,
         }),
@@ -93,7 +92,7 @@ fn write_in(current: Option<OpenBitAccess>) -> Option<OpenBitAccess>
     ensures { result ≡ write_of current }
 {
     match current {
-        Some(kept) if begins_read(kept.access.how) => None,
+        Some(kept) if kept.access.how.is_begin_of_read() => None,
         other => other,
     }
 }
@@ -103,7 +102,7 @@ fn read_in(current: Option<OpenBitAccess>) -> Option<OpenBitAccess>
     ensures { result ≡ read_of current }
 {
     match current {
-        Some(kept) if begins_read(kept.access.how) => current,
+        Some(kept) if kept.access.how.is_begin_of_read() => current,
         _ => None,
     }
 }
@@ -123,7 +122,7 @@ pub(crate) fn is_read_of(current: &Option<OpenBitAccess>, access: &Access) -> bo
     ensures { result ≡ reads_bit current.now access.now }
 {
     match current {
-        Some(kept) => begins_read(kept.access.how) && kept.access.same_bit(access),
+        Some(kept) => kept.access.how.is_begin_of_read() && kept.access.same_bit(access),
         None => false,
     }
 }
@@ -133,16 +132,9 @@ pub(crate) fn is_write_of(current: &Option<OpenBitAccess>, access: &Access) -> b
     ensures { result ≡ writes_bit current.now access.now }
 {
     match current {
-        Some(kept) => !begins_read(kept.access.how) && kept.access.same_bit(access),
+        Some(kept) => !kept.access.how.is_begin_of_read() && kept.access.same_bit(access),
         None => false,
     }
-}
-
-/// Returns whether a move begins a read.
-fn begins_read(how: Move) -> bool
-    ensures { result ≡ is_begin_of_read how }
-{
-    matches!(how, Move::BeginRead)
 }
 
 /// Returns whether a process with one of these marks drops the read that it has open: it fails or withdraws.

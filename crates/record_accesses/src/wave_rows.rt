@@ -1,10 +1,9 @@
 //! The rows of waves: the bits that entries from one number on give a wave.
 ghost use Rattle.std.specs.Prelude.{◌≡◌, ◌≤◌, ◌&&◌, [], IfOk, None, OnOk, cond, nat_le, true};
 ghost use Rattle.model.specs.{Past};
-ghost use Rattle.record_accesses.specs.Moves.{alters as is_altering};
+ghost use Rattle.model.specs.safe_bit.{is_of_write};
 ghost use Rattle.record_accesses.specs.Rows.{row_in, waves_since, waves_with, written_bits};
 
-use crate::moves::alters;
 use model::Access;
 use std::alloc::{AllocError, Global};
 use std::marker::Model;
@@ -49,12 +48,12 @@ impl BitWaves {
         is_written: bool,
     ) -> Result<Option<usize>, AllocError>
         ensures taken { OnOk result (self.new ≡ waves_with
-            (is_altering access.now.how && (nat_le from number && is_written))
+            (is_of_write access.now.how && (nat_le from number && is_written))
             access.now self.old) }
         ensures row { IfOk result (λ row.
-            row ≡ cond (is_altering access.now.how) (row_in self.new access.now) None) }
+            row ≡ cond (is_of_write access.now.how) (row_in self.new access.now) None) }
     {
-        if !alters(access.how) {
+        if !access.how.is_of_write() {
             return Ok(None);
         }
         let row = self.row(access);

@@ -4,7 +4,6 @@ ghost use Rattle.record_accesses.specs.Keeping.{bits_taken, no_bits, state_at};
 ghost use Rattle.record_accesses.specs.Rows.{row_in};
 
 use crate::bits::BitState;
-use crate::moves::writes;
 use model::Access;
 use std::alloc::{AllocError, Global};
 use std::marker::Model;
@@ -90,7 +89,7 @@ impl WrittenBits {
         ensures taken { OnOk result (self.new ≡ bits_taken None access state self.old) }
         ensures row { IfOk result (λ row. row ≡ row_in self.new.names access) }
     {
-        if !writes(access.how) {
+        if !access.how.gives_value() {
             return Ok(None);
         }
         let row = self.names.as_slice().len();

@@ -1,8 +1,8 @@
 use Rattle.std.proofs.Common.{◌≡◌, ◌&&◌, ◌∷◌, List, None, Option, Some, ap, cond, is_some, length, nat_le, sym, subst, ◌∙◌}
 use Rattle.laws.specs.{IsThere}
-use Rattle.model.specs.safe_bit.{is_write_open}
+use Rattle.model.specs.safe_bit.{is_of_write, is_write_open}
 use Rattle.model.specs.{Access, Entry, moves_of}
-use Rattle.record_accesses.specs.{BitState, BitsState, HasBits, HasOpened, HasTaken, OpenBitAccess, MonitorState, alters, begin_of, bit_after, bit_of, bits_taken, change_of, entry_with, row_in, state_at, step_of, monitored_by, waves_after, waves_since, waves_with}
+use Rattle.record_accesses.specs.{BitState, BitsState, HasBits, HasOpened, HasTaken, OpenBitAccess, MonitorState, begin_of, bit_after, bit_of, bits_taken, change_of, entry_with, row_in, state_at, step_of, monitored_by, waves_after, waves_since, waves_with}
 use Rattle.record_accesses.proofs.BitFacts.{writer-open}
 use Rattle.record_accesses.proofs.RowFacts.{after-is, before-is, bits-taken, change-row}
 use Rattle.record_accesses.proofs.monitor.RecordAccessMonitor.make.Goals as goal
@@ -30,7 +30,7 @@ returns-clause-waves c =
     let a = c.args.access.now in
     let written = c.is_some.ensures ∙ ap is_some c.in_ok-row.ensures.row in
     c.in_ok-wave.ensures.taken
-    ∙ (λ j. waves_with (alters a.how && (nat_le i.limit.from c.args.number && written j)) a i.waves)
+    ∙ (λ j. waves_with (is_of_write a.how && (nat_le i.limit.from c.args.number && written j)) a i.waves)
     ∙ (λ j. waves_after (c.self.view_is j).limit.from c.args.number c.take.new.self.names (Some a) (c.self.view_is j).waves)
 
 pub returns-clause-monitored : goal.returns-clause-monitored
@@ -57,9 +57,9 @@ returns-clause-monitored c = λ past marks taken is.
     let written = c.is_some.ensures ∙ ap is_some c.in_ok-row.ensures.row in
     let waves : c.take-2.new.self ≡ waves_since w.limit.from (e ∷ past) =
     c.in_ok-wave.ensures.taken
-    ∙ (λ j. waves_with (alters a.how && (nat_le w.limit.from (is j) && written j)) a (before_it.waves j))
+    ∙ (λ j. waves_with (is_of_write a.how && (nat_le w.limit.from (is j) && written j)) a (before_it.waves j))
     ∙ (λ j. waves_after w.limit.from (length past) (new.names j) (Some a) (waves_since w.limit.from past)) in
-    let place = c.in_ok-wave.ensures.row ∙ ap (λ (rows : List Access). cond (alters a.how) (row_in rows a) None) waves in
+    let place = c.in_ok-wave.ensures.row ∙ ap (λ (rows : List Access). cond (is_of_write a.how) (row_in rows a) None) waves in
     let was_open = ap (λ (b : BitState). is_some b.writer) before ∙ writer-open a past in
     let open_now = ap (λ (b : BitState). is_some b.writer) after ∙ writer-open a (e ∷ past) in
     let change = c.change.ensures
