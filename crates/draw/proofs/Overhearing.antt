@@ -3,7 +3,7 @@ use Rattle.std.proofs.Common.{◌≡◌, ℕ, ◌<◌, ◌==◌, ◌&&◌, Bool,
 use Rattle.std.proofs.lemmas.Bool.{cases_lt}
 use Rattle.std.proofs.lemmas.Bool.Decides.{nat_tests}
 use Rattle.model.specs.{Access, Entry, Past, begins_read, moves_of, same_bit}
-use Rattle.model.specs.safe_bit.{Move}
+use Rattle.model.specs.safe_bit.{Move, is_begin_of_read}
 use Rattle.model.specs.safe_bit.declared.Move.TheVariants.{BeginRead}
 use Rattle.model.specs.plain_store.declared.setups.Setup.{Setup as Given}
 use Rattle.model.specs.plain_store.{checked}
@@ -14,7 +14,7 @@ use Rattle.judge.proofs.safe_monitor.Observes.{observed_none}
 use Rattle.picture.specs.picture_layout.{OverlappedRead}
 use Rattle.picture.specs.declared.reads.Reads.{Reads as Mode}
 use Rattle.picture.specs.declared.reads.Reads.TheVariants.{All, Hidden, Shown}
-use Rattle.draw.specs.{BegunRead, Observes, ObservesAll, OverlapsObserved, ReportsEnd, ReportsOver, Monitors, begun_with, ended_of, first_three, is_begin, is_there, overlapped_by, overlapped_with, read_begun, read_ended}
+use Rattle.draw.specs.{BegunRead, Observes, ObservesAll, OverlapsObserved, ReportsEnd, ReportsOver, Monitors, begun_with, ended_of, first_three, is_there, overlapped_by, overlapped_with, read_begun, read_ended}
 
 -- what has heard entries has heard one more
 pub observes_on : (s : Given) (past : Past) (reads : List OverlappedRead) (e : Entry) (old new : OverlapsObserved) → new.setup ≡ old.setup →
@@ -41,10 +41,10 @@ observes_none s past reads e o none h = record {
 -- The reads that have begun.
 
 -- an access that begins no read
-begun_still : (p n : ℕ) (a : Access) (before : Option BegunRead) → is_begin a.how ≡ false → begun_with p n (Some a) before ≡ before
+begun_still : (p n : ℕ) (a : Access) (before : Option BegunRead) → is_begin_of_read a.how ≡ false → begun_with p n (Some a) before ≡ before
 begun_still p n a before none = by (a.reader == p)
   where
-    by : (b : Bool) → cond (b && is_begin a.how) (Some (record { entry = n; access = a })) before ≡ before
+    by : (b : Bool) → cond (b && is_begin_of_read a.how) (Some (record { entry = n; access = a })) before ≡ before
     by true = ap (λ i. cond i (Some (record { entry = n; access = a })) before) none
     by false = refl
 
@@ -53,7 +53,7 @@ begins_on : (m : Move) (moves : List Move) → begins_read moves ≡ true → be
 begins_on BeginRead moves is = refl
 begins_on m moves is = is
 
-begins_here : (m : Move) (moves : List Move) → is_begin m ≡ true → begins_read (m ∷ moves) ≡ true
+begins_here : (m : Move) (moves : List Move) → is_begin_of_read m ≡ true → begins_read (m ∷ moves) ≡ true
 begins_here BeginRead moves is = refl
 begins_here m moves is = absurd (true≢false (sym is))
 
@@ -62,10 +62,10 @@ begun_onwards : (x : Access) (c : Bool) (moves : List Move) → begins_read move
 begun_onwards x true moves more = begins_on x.how moves more
 begun_onwards x false moves more = more
 
-begun_here : (a x : Access) (moves : List Move) → is_begin x.how ≡ true → same_bit a x ≡ true → begins_read (cond (same_bit a x) (x.how ∷ []) [] ++ moves) ≡ true
+begun_here : (a x : Access) (moves : List Move) → is_begin_of_read x.how ≡ true → same_bit a x ≡ true → begins_read (cond (same_bit a x) (x.how ∷ []) [] ++ moves) ≡ true
 begun_here a x moves begins is_same = ap (λ c. begins_read (cond c (x.how ∷ []) [] ++ moves)) is_same ∙ begins_here x.how moves begins
 
-begun_cases : (a x : Access) (n : ℕ) (before : Option BegunRead) (moves : List Move) (b : BegunRead) (r i : Bool) → same_bit a b.access ≡ true → (before ≡ Some b → begins_read moves ≡ true) → is_begin x.how ≡ i → cond (r && i) (Some (record { entry = n; access = x })) before ≡ Some b → begins_read (cond (same_bit a x) (x.how ∷ []) [] ++ moves) ≡ true
+begun_cases : (a x : Access) (n : ℕ) (before : Option BegunRead) (moves : List Move) (b : BegunRead) (r i : Bool) → same_bit a b.access ≡ true → (before ≡ Some b → begins_read moves ≡ true) → is_begin_of_read x.how ≡ i → cond (r && i) (Some (record { entry = n; access = x })) before ≡ Some b → begins_read (cond (same_bit a x) (x.how ∷ []) [] ++ moves) ≡ true
 begun_cases a x n before moves b true true same more begins at =
     let is_it : (let c : BegunRead = record { entry = n; access = x } in c) ≡ b = cc in
     begun_here a x moves begins (ap (λ (c : BegunRead). same_bit a c.access) is_it ∙ same)
@@ -75,7 +75,7 @@ begun_cases a x n before moves b false i same more begins at = begun_onwards x (
 begun_by_access : (a : Access) (n : ℕ) (before : Option BegunRead) (moves : List Move) (b : BegunRead) (o : Option Access) → same_bit a b.access ≡ true → (before ≡ Some b → begins_read moves ≡ true) → begun_with a.reader n o before ≡ Some b →
     begins_read (elim o as (λ _. List Move) [ None ↦ [] | Some x ↦ cond (same_bit a x) (x.how ∷ []) [] ] ++ moves) ≡ true
 begun_by_access a n before moves b None same more at = more at
-begun_by_access a n before moves b (Some x) same more at = begun_cases a x n before moves b (x.reader == a.reader) (is_begin x.how) same more refl at
+begun_by_access a n before moves b (Some x) same more at = begun_cases a x n before moves b (x.reader == a.reader) (is_begin_of_read x.how) same more refl at
 
 begun_reads : (a : Access) (past : Past) (b : BegunRead) → read_begun a.reader past ≡ Some b → same_bit a b.access ≡ true → begins_read (moves_of a past) ≡ true
 begun_reads a [] b is same = absurd (cc)
@@ -131,11 +131,11 @@ ends_no_read s past a none = by (is_there s a)
 
 -- a move that neither begins a read nor ends one
 abbrev pub IsQuiet : Move → Type 0
-IsQuiet m = (is_begin m ≡ false) × ((moves : List Move) → ends_overlapped moves m ≡ false)
+IsQuiet m = (is_begin_of_read m ≡ false) × ((moves : List Move) → ends_overlapped moves m ≡ false)
 
 -- an access that begins no read, or ends none, leaves what is kept
 module _ (s : Given) (past : Past) (reads : List OverlappedRead) (e : Entry) (a : Access) (o : OverlapsObserved) (is : e.access ≡ Some a) (h : Observes s past reads o) where
-  pub still_begun : is_begin a.how ≡ false → (p : ℕ) → p < 16 → get_or o.begun p None ≡ read_begun p (e ∷ past)
+  pub still_begun : is_begin_of_read a.how ≡ false → (p : ℕ) → p < 16 → get_or o.begun p None ≡ read_begun p (e ∷ past)
   still_begun none p below = h.begun p below ∙ sym (begun_still p (length past) a (read_begun p past) none) ∙ sym (ap (λ (access : Option Access). begun_with p (length past) access (read_begun p past)) is)
 
   pub still_ended : overlapped_with s past (Some a) ≡ [] → o.ended.items ≡ first_three (reads ++ overlapped_by s past e)

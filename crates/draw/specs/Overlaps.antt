@@ -1,7 +1,7 @@
 -- The reads of a run or of a record that writes overlap.
 use Rattle.std.specs.Prelude.{◌≡◌, ◌<◌, ℕ, ◌==◌, Bool, true, false, ◌&&◌, nat_lt, cond, get_or, List, [], ◌∷◌, length, Option, None, Some, IfSome, Ok}
-use Rattle.model.specs.safe_bit.{Move}
-use Rattle.model.specs.safe_bit.declared.Move.TheVariants.{BeginRead, EndRead}
+use Rattle.model.specs.safe_bit.{Move, is_begin_of_read}
+use Rattle.model.specs.safe_bit.declared.Move.TheVariants.{EndRead}
 use Rattle.model.specs.{Access, Entry, Past, begins_read, moves_of, same_bit, width}
 use Rattle.model.specs.plain_store.{Setup, checked}
 use Rattle.judge.specs.safe_monitor.{HasObserved, MonitorState, ends_overlapped}
@@ -13,15 +13,10 @@ use Rattle.picture.specs.declared.reads.Reads.TheVariants.{All, Hidden, Shown}
 use Rattle.draw.specs.declared.overlaps.BegunRead.{BegunRead}
 use Rattle.draw.specs.declared.overlaps.OverlapsObserved.{OverlapsObserved}
 
--- a read begins
-abbrev pub is_begin : Move → Bool
-is_begin BeginRead = true
-is_begin _ = false
-
 -- the read of a process that has begun last, after an access by an entry with this number
 abbrev pub begun_with : ℕ → ℕ → Option Access → Option BegunRead → Option BegunRead
 begun_with p entry None before = before
-begun_with p entry (Some a) before = cond ((a.reader == p) && is_begin a.how) (Some (record { entry = entry; access = a })) before
+begun_with p entry (Some a) before = cond ((a.reader == p) && is_begin_of_read a.how) (Some (record { entry = entry; access = a })) before
 
 -- the read of a process that has begun last
 abbrev pub read_begun : ℕ → Past → Option BegunRead

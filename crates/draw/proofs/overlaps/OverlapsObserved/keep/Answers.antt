@@ -2,10 +2,11 @@ use Rattle.std.proofs.Common.{◌≡◌, ◌++◌, [], ◌∷◌, List, Option, 
 use Rattle.std.specs.Option.{option_to_list}
 use Rattle.picture.specs.picture_layout.{OverlappedRead}
 use Rattle.judge.specs.safe_monitor.{ends_overlapped}
-use Rattle.draw.specs.{BegunRead, OverlapsObserved, first_three, is_begin, overlapped_with}
+use Rattle.draw.specs.{BegunRead, OverlapsObserved, first_three, overlapped_with}
 use Rattle.std.proofs.lemmas.Result.{on_ok_weaker}
 use Rattle.draw.proofs.Overhearing.{IsQuiet, ends_no_read, still_begun, still_ended, reported_ended}
 use Rattle.draw.proofs.overlaps.OverlapsObserved.keep.Goals as goal
+use Rattle.model.specs.safe_bit.{is_begin_of_read}
 
 pub returns-in-BeginWrite : goal.returns-in-BeginWrite
 returns-in-BeginWrite c =
@@ -25,7 +26,7 @@ returns-in-BeginWrite c =
 
 pub returns-in-None : goal.returns-in-None
 returns-in-None c =
-    let none : is_begin c.args.access.how ≡ false = ap is_begin c.in-EndRead.is in
+    let none : is_begin_of_read c.args.access.how ≡ false = ap is_begin_of_read c.in-EndRead.is in
     record {
       setup = refl;
       room = λ room. room;
@@ -42,7 +43,7 @@ returns-in-Some c =
       setup = kept.setup;
       room = on_ok_weaker c.add.result (λ added room. ap (λ (l : List (Option BegunRead)). length l) kept.begun ∙ room) kept.ended;
       begun = on_ok_weaker c.add.result (λ added s past reads e p is number h below.
-          ap (λ (l : List (Option BegunRead)). get_or l p None) kept.begun ∙ still_begun s past reads e c.args.access c.args.self.now is h (ap is_begin c.in-EndRead.is) p below) kept.ended;
+          ap (λ (l : List (Option BegunRead)). get_or l p None) kept.begun ∙ still_begun s past reads e c.args.access c.args.self.now is h (ap is_begin_of_read c.in-EndRead.is) p below) kept.ended;
       ended = on_ok_weaker c.add.result
           (λ added s past reads e is number h reports.
           let over : read ∷ [] ≡ overlapped_with s past (Some c.args.access) = ap option_to_list (sym c.in-Some.is)
