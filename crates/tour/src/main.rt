@@ -15,7 +15,6 @@ use anyhow::{Result, bail};
 use board::{Board, Driven, Image, Port};
 use model::Field;
 use plain_store::{Command, Name, Setup, Value, show_line};
-use safe_bit::Move;
 use std::sync::Wait;
 use std::thread::{self, Threads};
 use world::{Act, Event, Flicks, Stage, World};
@@ -100,7 +99,7 @@ fn begin_commit<T: Print>(rt: &T, world: &mut World, process: u8) -> Result<()> 
     for _ in 0..u16::MAX {
         let act = make(rt, world, Event::Step(process, false))?;
         if let Some(access) = act.access {
-            if access.field == Field::Commit && matches!(access.how, Move::BeginWrite(_)) {
+            if access.field == Field::Commit && access.how.is_begin_of_write() {
                 return Ok(());
             }
         }
