@@ -23,4 +23,4 @@ pub use judging::{changed_entries_keep_all_laws, good_says_the_main_theorem, jud
 pub use process_views::{BegunAccess, ProcessView};
 pub use reasons::{Reasons, Refused, Remedy};
 pub use refusals::{AccessRefusal, MarkRefusal};
-pub use safe_monitor::{Audited, NamedLaw, Verdict, parts};
+pub use safe_monitor::{Audited, NamedLaw};

@@ -23,5 +23,5 @@ pub use laws_of_verdicts::{
 };
 pub use matching::{event_in, reports_event};
 pub use model::{Entry, Record};
-pub use safe_monitor::{Audited, Law, NamedLaw, SafeMonitor, Verdict, parts};
+pub use safe_monitor::{Law, SafeMonitor, Verdict, parts};
 pub use world::{Core, Flicks, World};

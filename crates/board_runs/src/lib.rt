@@ -7,10 +7,9 @@ mod drives;
 mod lines;
 mod running;
 
-pub use board::{Board, Closing, Driven, NotQuiet, Port};
+pub use board::{Board, Closing, Driven, Port};
 pub use board_result::BoardResult;
 pub use drives::DriveResult;
 pub use lines::begin;
-pub use model::Placed;
 pub use running::{Work, played, run, take_turns};
 pub use scenario::{Line, Scenario, read_scenario};

@@ -10,9 +10,10 @@ use crate::called::Called;
 use crate::overlaps::OverlapMonitor;
 use crate::printed::{HEADER, print_call};
 use crate::table::CallTable;
-use judge::{DONE, EntryObserver, Reporting};
+use judge::{EntryObserver, Reporting};
 use model::{Access, Mark};
 use plain_store::Setup;
+use scenario::DONE;
 use std::alloc::{AllocError, Global};
 
 /// The table of the calls of a record, up to the newest entry.

@@ -16,7 +16,5 @@ mod registers;
 mod traces;
 
 pub use explaining::explanation;
-pub use files::{progress, read_any_line, source_lines};
 pub use kept::{StoredFile, TeeInput};
 pub use kinds::FileKind;
-pub use record_file::RecordReader;

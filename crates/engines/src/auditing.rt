@@ -12,10 +12,10 @@ ghost use Rattle.scenario_run.specs.Writing.{IsWriteFault, failed_write};
 
 use crate::writing::write_line;
 use judge::{Audited, status_of, verdict_line};
+use scenario::progress::ProgressObserver;
 use scenario::{Fault, Scenario, Sink, Source, read_input, read_scenario};
 use scenario_run::{PlayLimit, RunAudit, ScenarioRun, Summary, WithAudit};
 use std::alloc::{AllocError, Global};
-use sweeper::progress::ProgressObserver;
 
 /// Reads a whole file, makes its run, while an auditor observes each entry, and then writes the verdict on its
 /// record, on one line. Returns the exit status. However it ends, it takes at most `INPUT_LIMIT` bytes from the

@@ -20,17 +20,11 @@ mod writing;
 
 pub use auditing::run_audit;
 pub use bits::run_bits;
-pub use judge::{
-    Audited, Law, Verdict, good_records_are_of_events, judge_any_lock, records_have_one_verdict,
-    records_of_events_are_good, run_judge, status_of,
-};
+pub use judge::{judge_any_lock, run_judge, status_of};
 pub use listing::{events_of, record_of};
 pub use plain::run_plain;
 pub use recording::run_record;
 pub use replaying::replay;
 pub use scenario_run::Summary;
-pub use sweeper::{
-    BadRun, Swept, fails_are_of_unfailed, progress, steps_are_of_enabled, sweep,
-    swept_runs_are_good,
-};
+pub use sweeper::{Swept, sweep};
 pub use sweeping::{run_sweep, status_of_sweep};

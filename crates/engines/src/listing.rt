@@ -10,13 +10,13 @@ ghost use Rattle.engines.specs.RecordedRuns.{IsReadAgain};
 ghost use Rattle.scenario_run.specs.{accepted_events, listed};
 
 use plain_store::{NestedTypes, Setup};
+use scenario::progress::NoObserver;
 use scenario::{Fault, Scenario};
 use scenario_run::{
     Entry, Event, Move, PlayLimit, Record, Refusal, RunObserver, ScenarioRun, TurnReport,
     UnmarkedStep, World,
 };
 use std::alloc::{AllocError, Global};
-use sweeper::progress::NoObserver;
 
 /// Returns the accepted events of a scenario's run, in their order.
 ///

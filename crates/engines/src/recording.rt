@@ -12,10 +12,10 @@ ghost use Rattle.engines.specs.Recordings.{entries_longer, entries_text, entry_r
 ghost use Rattle.scenario_run.specs.{IsWriteFault, Took, TookPart, ended, failed_write, part_before, part_on, part_unobserved, took_none, took_on};
 
 use judge::{StepLine, print_entry, print_setup};
+use scenario::progress::ProgressObserver;
 use scenario::{Fault, Scenario, Sink, Source, read_input, read_scenario, write_all};
 use scenario_run::{Entry, Move, PlayLimit, RunObserver, ScenarioRun, TurnReport, UnmarkedStep};
 use std::alloc::{AllocError, Global};
-use sweeper::progress::ProgressObserver;
 
 /// Reads a whole scenario file, and then writes the record of its run, as it is made: the setup, and a line for each
 /// entry. However it ends, it takes at most `INPUT_LIMIT` bytes from the start of the input. If `judge` reads the text

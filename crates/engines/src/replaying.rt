@@ -10,12 +10,12 @@ ghost use Rattle.scenario_run.specs.{CanCount, InputKeepsMainTheorem, IsSummaryO
 ghost use Rattle.scenario_run.specs.Writing.{Counts, IsWriteFault, failed_write};
 
 use crate::writing::{write_end, write_turn};
+use scenario::progress::ProgressObserver;
 use scenario::{Fault, Scenario, Sink, Source, read_input, read_scenario};
 use scenario_run::{
     Move, PlayLimit, RunObserver, ScenarioRun, Summary, Taken, TurnReport, UnmarkedStep,
 };
 use std::alloc::Global;
-use sweeper::progress::ProgressObserver;
 
 /// Reads a whole file, and then writes the marks of its run, as they are made, and its three numbers. However it
 /// ends, it takes at most `INPUT_LIMIT` bytes from the start of the input.

@@ -14,10 +14,10 @@ ghost use Rattle.engines.specs.Sweepings.{InputReportsSweep, IsRunSwept, SweepsR
 use crate::writing::write_line;
 use judge::{Verdict, status_of};
 use plain_store::{Command, NestedTypes};
+use scenario::progress::{NoObserver, ProgressObserver, ProgressPoint};
 use scenario::{Fault, Scenario, Sink, Source, read_input, read_scenario};
 use scenario_run::{Event, Move, PlayLimit, RunObserver, ScenarioRun, TurnReport, UnmarkedStep};
 use std::alloc::{AllocError, Global};
-use sweeper::progress::{NoObserver, ProgressObserver, ProgressPoint};
 use sweeper::{Sweeper, Swept};
 
 /// A number of calls that exceeds any memory. A sweep has room for this number of them.

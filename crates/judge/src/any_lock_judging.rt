@@ -5,8 +5,7 @@ ghost use Rattle.judge.specs.AnyReasons.{AreAnyLockReasons};
 
 use crate::any_reasons::push_reasons;
 use crate::record_judge::RecordJudge;
-use any_lock::{AnyLockJudge, AnyLockLaw};
-use auditor::Audited;
+use any_lock::{AnyLockJudge, AnyLockLaw, Audited};
 use model::{Access, Entry, Mark};
 use plain_store::{NestedTypes, Setup};
 use std::alloc::{AllocError, Global};

@@ -23,16 +23,13 @@ mod this_lock_judge;
 mod trial;
 mod verdicts;
 
-pub use any_lock::{AnyLockJudge, AnyLockLaw};
-pub use auditor::{
-    Audited, Auditor, Law, SafeMonitor, Verdict, audit, good_records_are_of_events, parts,
-    records_have_one_verdict, records_of_events_are_good,
-};
+pub use any_lock::{AnyLockJudge, Audited};
+pub use auditor::{Law, SafeMonitor, Verdict, parts};
 pub use common_laws::good_records_keep_laws_of_any_lock;
 pub use engine::run_trial;
 pub use entry_observers::{EntryObserver, Judging, Reporting};
 pub use explaining::ExplainingJudge;
-pub use files::{DONE, Fault, Sink, Source, read_any_line, source_lines};
+pub use files::{Fault, Sink, Source, read_any_line, source_lines};
 pub use judging::{judge_any_lock, run_judge};
 pub use laws_of_reasons::only_steps_keep_all_laws;
 pub use reason_lines::entry_of_parts;

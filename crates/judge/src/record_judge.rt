@@ -5,7 +5,7 @@ ghost use Rattle.auditor.specs.safe_monitor.declared.verdicts.Verdict.TheVariant
 ghost use Rattle.auditor.specs.safe_monitor.{entry_by, is_good};
 ghost use Rattle.judge.specs.Explanations.{GivesReasons};
 
-use auditor::{Audited, NamedLaw};
+use any_lock::{Audited, NamedLaw};
 use model::{Access, Entry, Mark};
 use plain_store::Setup;
 use std::alloc::{AllocError, Global};

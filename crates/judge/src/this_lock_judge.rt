@@ -11,7 +11,8 @@ ghost use Rattle.judge.specs.ThisLockVerdicts.{newest_is_bad, none_is_bad, stays
 
 use crate::reasons::push_reasons;
 use crate::record_judge::RecordJudge;
-use auditor::{Audited, Auditor, Core, Law, SafeMonitor, Verdict};
+use any_lock::Audited;
+use auditor::{Auditor, Core, Law, SafeMonitor, Verdict};
 use model::{Access, Entry, Mark};
 use plain_store::{NestedTypes, Setup};
 use std::alloc::{AllocError, Global};

@@ -3,7 +3,8 @@ ghost use Rattle.std.specs.Prelude.{◌≡◌};
 ghost use Rattle.files.specs.{GivesText};
 ghost use Rattle.judge.specs.Judgements.{status_of_verdict, verdict_line as line_of_verdict};
 
-use auditor::{Audited, NamedLaw, Verdict};
+use any_lock::{Audited, NamedLaw};
+use auditor::Verdict;
 use files::DONE;
 use std::alloc::{AllocError, Global};
 

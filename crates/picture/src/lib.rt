@@ -31,14 +31,11 @@ pub use laws::bars_are_stages;
 pub use markup::Markup;
 pub use page::Form;
 pub use picture_layout::{
-    AccessKind, AccessStep, LineContent, OverlappedRead, RunLine, ShownAccess, TakenChange,
-    WaveChange, stages_are_the_records,
+    LineContent, OverlappedRead, RunLine, ShownAccess, TakenChange, stages_are_the_records,
 };
 pub use reads::{PictureOptions, Reads};
 pub use sheets::{FIRST_BAND, page_end, page_head, picture_end, picture_head};
-pub use shown_verdict::{
-    FirstBadEntry, Pointer, PointerKind, ShownVerdict, VerdictLine, verdict_of,
-};
+pub use shown_verdict::{ShownVerdict, verdict_of};
 pub use subjects::Subject;
 pub use trace_sheets::{trace_page_end, trace_page_head, trace_picture_end, trace_picture_head};
 pub use windowed_page::WindowedPage;

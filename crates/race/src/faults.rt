@@ -4,7 +4,7 @@ ghost use Rattle.race.specs.Faults.{rank as rank_of};
 ghost use Rattle.race.specs.Statuses.{status_of_race, status_of_run_fault};
 
 use call_check::Weighed;
-use scenario::{DONE, Fault, LineFault, fault_status};
+use files::{DONE, Fault, LineFault, fault_status};
 use std::alloc::AllocError;
 use thiserror::Error;
 

@@ -1,5 +1,6 @@
 //! Boards that can't be closed.
-use board_runs::{Board, Driven, NotQuiet, read_scenario, take_turns};
+use board::NotQuiet;
+use board_runs::{Board, Driven, read_scenario, take_turns};
 use plain_store::{Answer, NestedTypes, Reply, Setup, Store};
 use std::test::Fail;
 

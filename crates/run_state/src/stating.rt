@@ -9,9 +9,9 @@ ghost use Rattle.run_state.specs.States.{HasSeen, events_said as said_by, state_
 
 use crate::observer::StateObserver;
 use calls::scenario::operands::number;
+use calls::scenario::progress::ProgressObserver;
 use calls::scenario::{Fault, Scenario, Sink, Source, read_input, read_scenario, write_all};
 use calls::scenario_run::{LineMade, PlayLimit, ScenarioRun};
-use diagnostics::progress::ProgressObserver;
 use plain_store::NestedTypes;
 use std::alloc::{AllocError, Global};
 

@@ -25,8 +25,8 @@ pub mod statements;
 pub use bit_files::{BitLine, read_bits};
 pub use choices::Flick;
 pub use files::{
-    DONE, Ending, Failed, Fault, FaultKind, FromRead, INPUT_LIMIT, IntoWrite, LineFault, Sink,
-    Source, exit_status, fault_status, progress, read_input, write_all,
+    DONE, Ending, Failed, Fault, FaultKind, FromRead, IntoWrite, LineFault, Sink, Source, progress,
+    read_input, write_all,
 };
 pub use laws::{cut_texts_have_the_fault_of_the_whole, lines_have_their_numbers};
 pub use lines::{Line, Target};

@@ -14,7 +14,6 @@ mod run_observers;
 mod summaries;
 mod turns;
 
-pub use auditor::SafeMonitor;
 pub use audits::{RunAudit, WithAudit};
 pub use model::{Access, Entry, Event, Mark, Move, Record, Refusal, Taken, refusal_line};
 pub use newest::newest_words;

@@ -5,9 +5,9 @@ ghost use Rattle.model.specs.{process_of};
 ghost use Rattle.scenario_tests.specs.Uses.{AreAlone, InputPrintsTrueReplies};
 
 use auditor::World;
-use engines::progress::NoObserver;
 use engines::{Summary, replay};
 use model::{Act, Event, Refusal};
+use scenario::progress::NoObserver;
 use scenario::{Fault, Sink, Source};
 use std::alloc::Global;
 

@@ -5,8 +5,8 @@ ghost use Rattle.plain_store.specs.{checked};
 
 use crate::scenarios::LONE_WRITE;
 use crate::worlds::a;
-use auditor::{Auditor, Record, audit, parts};
-use engines::{Law, Swept, Verdict, events_of, record_of, sweep};
+use auditor::{Auditor, Law, Record, Verdict, audit, parts};
+use engines::{Swept, events_of, record_of, sweep};
 use model::{Entry, Event, Mark};
 use plain_store::{Command, Setup, Value};
 use scenario::read_scenario;

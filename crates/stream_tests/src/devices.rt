@@ -1,7 +1,7 @@
 //! A source and a sink of which one call fails. Later calls succeed, so that a test notices an engine that makes them.
 ghost use Rattle.std.specs.Prelude.{◌≡◌, IfOk};
 
-use scenario::{Failed, Sink, Source};
+use files::{Failed, Sink, Source};
 use std::alloc::{AllocError, Global};
 
 /// The bytes of a file, of which one read fails.

@@ -1,7 +1,7 @@
 //! Each read and each write of an engine fails in turn.
 use crate::devices::{FailingSink, FailingSource, Taking};
 use crate::runs::{FAULTY, FaultyFile, FileEngine, GOOD, GoodFile, run};
-use scenario::Fault;
+use files::Fault;
 use std::alloc::AllocError;
 use std::process::Abort;
 use std::test::Fail;

@@ -1,8 +1,8 @@
 //! A sink that fails during a record.
 use crate::devices::{FailingSink, FailingSource, Taking};
-use engines::progress::NoObserver;
 use engines::run_record;
-use scenario::Fault;
+use files::Fault;
+use files::progress::NoObserver;
 use std::alloc::{AllocError, Global};
 use std::test::Fail;
 

@@ -2,9 +2,9 @@
 ghost use Rattle.std.specs.Prelude.{◌≡◌};
 
 use crate::devices::{FailingSink, FailingSource};
-use engines::progress::NoObserver;
 use engines::{replay, run_audit, run_bits, run_plain, run_sweep};
-use scenario::{DONE, Fault, FaultKind};
+use files::progress::NoObserver;
+use files::{DONE, Fault, FaultKind};
 use std::alloc::Global;
 
 /// An engine that reads one file.

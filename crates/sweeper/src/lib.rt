@@ -30,7 +30,6 @@ mod shown;
 mod sweeping;
 mod swept;
 
-pub use files::progress;
 pub use laws_of_sweeps::{
     fails_are_of_unfailed, steps_are_of_enabled, swept_runs_are_good, units_are_down_in_time,
 };

@@ -36,7 +36,7 @@ mod rows;
 mod words;
 
 pub use monitor::AccessMonitor;
-pub use picture_layout::{WaveCount, WaveLimit};
+pub use picture_layout::WaveLimit;
 pub use rows::written_cells_have_waves;
 
 #[cfg(test)]

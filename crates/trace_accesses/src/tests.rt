@@ -2,8 +2,8 @@
 ghost use Rattle.std.specs.Prelude.{◌≡◌, ◌<◌, ◌≤◌, true, IfOk};
 ghost use Rattle.trace.specs.{is_trace_setup};
 
-use crate::{AccessMonitor, WaveCount, WaveLimit};
-use picture_layout::{AccessKind, AccessStep, ShownAccess, WaveChange};
+use crate::{AccessMonitor, WaveLimit};
+use picture_layout::{AccessKind, AccessStep, ShownAccess, WaveChange, WaveCount};
 use smallvec::SmallVec;
 use std::alloc::{AllocError, Global};
 use std::test::Fail;

@@ -31,7 +31,7 @@ pub use laws;
 pub use marks::{event_marks, step_marks};
 pub use model::{Act, Event, Mark, Refusal, Stage, Taken};
 pub use process::{
-    AccessMade, AccessProgress, AccessesMade, BitCopy, CopyState, EventMade, EventOutcome, Image,
-    KnownTicket, Process, RegisterName, Settling, StepOutcome,
+    AccessMade, AccessProgress, AccessesMade, BitCopy, CopyState, EventOutcome, Image, KnownTicket,
+    Process, RegisterName, Settling, StepOutcome,
 };
 pub use world::World;
