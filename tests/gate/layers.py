@@ -15,7 +15,7 @@ import sys
 sys.path.insert(0, str(pathlib.Path(__file__).resolve().parents[1]))
 
 from lib.counting import Counter
-from lib.crates import PROGRAM, crates, groups
+from lib.crates import MOST_BELOW, PROGRAM, crates, groups
 from lib.places import TOP
 
 MADE = re.compile(r"(?P<begin><!-- made by tests/gate/layers.py: (?P<what>\w+) -->\n).*?(?P<end><!-- end -->)", re.S)
@@ -25,8 +25,6 @@ MOST_LAYERS = 10
 FOLDERS = ["src", "specs", "proofs"]
 # the signs of a bar, one for each folder
 SIGNS = "=:."
-# the most crates of the repository that one of them names on its line
-MOST_BELOW = 6
 
 
 def groups_of_program():

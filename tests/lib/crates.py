@@ -7,6 +7,8 @@ from typing import NamedTuple
 from lib.places import TOP
 
 PROGRAM = "bakerystore"
+# the most crates of the repository that one of them names on its line
+MOST_BELOW = 6
 
 
 class Crate(NamedTuple):

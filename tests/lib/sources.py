@@ -12,6 +12,9 @@ ITEM = re.compile(r"^ *pub (?:(?:const|unsafe|ghost) (?=fn))?(?P<kind>struct|enu
 FUNCTION = re.compile(r"^(?P<indent> *)(?:pub(?:\(\w+\))? )?(?:(?:const|unsafe) )?fn (?P<name>\w+)")
 BLOCK = re.compile(r"^(?:pub(?:\(\w+\))? )?(?P<kind>impl|trait)\b(?:<.*?>)? ?(?P<head>.*)")
 CLAUSE = re.compile(r"^(?P<indent> +)(?P<kind>requires|ensures|ghost) +(?P<name>\w*)")
+USE = re.compile(r"^ *(?P<public>pub )?(?:pub\(\w+\) )?use (?P<path>[\w:]+?)(?:::\{(?P<names>[^;]*)\})?;", re.M)
+TYPE = re.compile(r"^pub (?P<kind>struct|enum|trait) (?P<name>\w+)(?:.*[;}]$|.*(?:\n(?!\}).*)*)", re.M)
+IMPL = re.compile(r"^impl\b.* for .*\{$", re.M)
 TESTS = re.compile(r"^#\[cfg\(test\)\]\nmod (\w+);", re.M)
 
 
@@ -209,3 +212,39 @@ def words_in(crate):
     """The words of a crate's sources, definitions and proofs, and the names of their files."""
     paths = [path for path in (FOLDER / crate).glob("*/**/*") if path.suffix in (".rt", ".antt") and "out" not in path.parts]
     return {word for path in paths for word in [path.stem, path.name, *re.findall(r"[\w'-]+", path.read_text())]}
+
+
+def uses_of(path):
+    """The `use` declarations of a file: whether each is public, and a path that it names, as a list of names."""
+    for found in USE.finditer(path.read_text()):
+        inner = re.findall(r"[\w:]+", found["names"]) if found["names"] else [""]
+        for name in inner:
+            yield bool(found["public"]), f"{found['path']}::{name}".strip(":").split("::")
+
+
+def re_exports_of(crate):
+    """What a root file makes public of other crates: the name of each item, or of a whole crate, and the crate it comes from."""
+    folder = root_of(crate).parent
+    for public, (first, *rest) in uses_of(root_of(crate)):
+        if public and first in crates() and not (folder / f"{first}.rt").exists():
+            yield (rest or [first])[-1], first
+
+
+@functools.cache
+def names_in_api(crate):
+    """The words of the signatures, clauses, fields, variants, traits and implemented traits that a crate makes public."""
+    root = root_of(crate)
+    modules = set(re.findall(r"^pub mod (\w+);", root.read_text(), re.M))
+    given = {path[-1] for public, path in uses_of(root) if public}
+    texts = []
+    for function in functions_of(crate):
+        public = function.path.stem in modules or (function.owner or function.name) in given
+        if public and function.head.startswith("pub "):
+            texts += [function.head, *(clause.text for clause in function.clauses)]
+    for path in files_of(crate):
+        texts += [head for head in IMPL.findall(path.read_text()) if owner_of(head) in given]
+        for found in TYPE.finditer(path.read_text()):
+            if path.stem in modules or found["name"] in given:
+                head, *lines = re.sub(r"//.*", "", found[0]).split("\n")
+                texts += [head, *(line for line in lines if found["kind"] != "struct" or line.startswith("    pub "))]
+    return set(re.findall(r"\w+", "\n".join(texts)))
