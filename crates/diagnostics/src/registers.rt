@@ -7,7 +7,7 @@ ghost use Rattle.diagnostics.specs.Registers.{refused_part as refused_part_of};
 use crate::forms::word_at;
 use scenario::operands::{number, process};
 use trace::{CellName, TraceMemory, TraceRegister, TraceSetup};
-use trace_file::keywords::TraceLine;
+use trace_file::keywords::TraceLineKind;
 use trace_file::most_bits;
 
 /// The most registers of a trace.
@@ -63,9 +63,9 @@ fn has_name(registers: &[TraceRegister], name: &CellName) -> bool
 
 /// Returns the register that the words of a line declare, if they have the form of one.
 pub(crate) fn register_of(words: &[&[u8]]) -> Option<TraceRegister> {
-    let is_shared = match TraceLine::of(word_at(words, 0))? {
-        TraceLine::Register => false,
-        TraceLine::Shared => true,
+    let is_shared = match TraceLineKind::of(word_at(words, 0))? {
+        TraceLineKind::Register => false,
+        TraceLineKind::Shared => true,
         _ => return None,
     };
     let opens = if words.len() < 5 {

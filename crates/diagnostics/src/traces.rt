@@ -13,7 +13,7 @@ use files::FaultKind;
 use std::alloc::AllocError;
 use trace_file::TraceReader;
 use trace_file::forms::TraceOperand;
-use trace_file::keywords::{TraceLine, lock_mark};
+use trace_file::keywords::{TraceLineKind, lock_mark};
 
 /// A trace that has a fault, and what the lines before the fault have declared.
 #[derive(Clone, Copy)]
@@ -36,7 +36,7 @@ impl<'r> FaultyTrace<'r> {
     /// Looks for the fault in the words of a line.
     fn in_line(&self, line: &SplitLine<'_>, what: &mut String) -> FoundPosition {
         let words = line.words.as_slice();
-        if let Some(TraceLine::Entry) = TraceLine::of(word_at(words, 0)) {
+        if let Some(TraceLineKind::Entry) = TraceLineKind::of(word_at(words, 0)) {
             let place = self.in_entry(line, what)?;
             add_hints(words, what)?;
             return Ok(place);
@@ -212,11 +212,11 @@ fn is_first(refused: Option<(usize, TraceOperand)>) -> bool {
 
 /// Returns the position of a line that comes too late.
 fn too_late(line: &SplitLine<'_>, what: &mut String) -> FoundPosition {
-    let expected = match TraceLine::of(word_at(line.words.as_slice(), 0)) {
-        Some(TraceLine::Processes) => "processes once, and before registers and entries",
-        Some(TraceLine::Memory) => "memory once, and before registers and entries",
-        Some(TraceLine::Register) => "register before entries",
-        Some(TraceLine::Shared) => "shared before entries",
+    let expected = match TraceLineKind::of(word_at(line.words.as_slice(), 0)) {
+        Some(TraceLineKind::Processes) => "processes once, and before registers and entries",
+        Some(TraceLineKind::Memory) => "memory once, and before registers and entries",
+        Some(TraceLineKind::Register) => "register before entries",
+        Some(TraceLineKind::Shared) => "shared before entries",
         _ => "trace 1 in the first line alone",
     };
     found(line.word(0), expected, what)

@@ -27,7 +27,7 @@ pub use Items.{Gives, GivesAccess, GivesLine, GivesRead, GivesVerdict, Part, Par
 pub use Overlaps.{Observes, ObservesAll, ReportsEnd, ReportsOver, Monitors, begun_with, ended_of, first_three, is_there, overlapped_by, overlapped_with, read_begun, read_ended, shown_of}
 pub use StoreChanges.{Changed, change_by, changed, store_words, words_by}
 pub use TakenStores.{IsAfterMarks, after_call, call_after, called_by, change_by_call, change_of, change_with, next_number, no_call, store_by, store_with, taken_by}
-pub use Views.{IsDecided, full_view, is_short, long_view, most_asked, most_stored, record_view, short_view, waves_asked, waves_from, waves_of_few}
+pub use Views.{IsDecided, full_view, is_short, long_view, most_asked, most_stored, record_view, short_view, waves_asked, waves_from, waves_for_few_entries}
 pub use Writing.{IsWriteFault, failed_write}
 pub use declared.canvas.Canvas.{Canvas}
 pub use declared.taken_store.LastCall.{LastCall}

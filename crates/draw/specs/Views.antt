@@ -22,12 +22,12 @@ waves_asked modes.All = counts.All
 waves_asked _ = counts.Sixteen
 
 -- the waves in the picture of few entries
-abbrev pub waves_of_few : PictureOptions → WaveLimit
-waves_of_few options = waves_from options.window (waves_asked options.reads)
+abbrev pub waves_for_few_entries : PictureOptions → WaveLimit
+waves_for_few_entries options = waves_from options.window (waves_asked options.reads)
 
 -- What the picture of few entries shows: all accesses.
 abbrev pub short_view : PictureOptions → AccessView
-short_view options = record { reads = modes.All; limit = waves_of_few options; window = options.window }
+short_view options = record { reads = modes.All; limit = waves_for_few_entries options; window = options.window }
 
 -- Whether a window shows at most 400 entries, whatever it is a window of.
 abbrev pub is_short : Window → Bool

@@ -41,5 +41,5 @@ pub use records::engines::{
 pub use records::held::{StoredBands, held_fault};
 pub use runs::engines::{draw, draw_svg};
 pub use scenario::progress;
-pub use views::{is_short, waves_of_few};
+pub use views::{is_short, waves_for_few_entries};
 pub use writing::write_markup;

@@ -1,6 +1,6 @@
 //! What the picture of a run or of a record shows of accesses, and the window that it shows.
 ghost use Rattle.std.specs.Prelude.{◌≡◌};
-ghost use Rattle.draw.specs.Views.{full_view, is_short as shows_few, long_view, short_view, waves_asked, waves_from, waves_of_few as waves_shown};
+ghost use Rattle.draw.specs.Views.{full_view, is_short as shows_few, long_view, short_view, waves_asked, waves_from, waves_for_few_entries as waves_shown};
 
 use picture::{PictureOptions, Reads, Window};
 use record_accesses::{WaveCount, WaveLimit};
@@ -35,7 +35,7 @@ impl AccessView {
     {
         AccessView {
             reads: Reads::All,
-            limit: waves_of_few(options),
+            limit: waves_for_few_entries(options),
             window: options.window,
         }
     }
@@ -65,7 +65,7 @@ pub fn is_short(window: Window) -> bool
 
 /// Returns the waves that the picture of few entries shows: those of the cells that are written in the window, at most sixteen
 /// unless all accesses are asked for.
-pub fn waves_of_few(options: PictureOptions) -> WaveLimit
+pub fn waves_for_few_entries(options: PictureOptions) -> WaveLimit
     ensures { result ≡ waves_shown options }
 {
     from(options.window, waves(options.reads))

@@ -15,7 +15,7 @@ pub mod NewestWith
 pub mod NextAt
 pub mod OfRegister
 pub mod OthersFrom
-pub mod Outcomes
+pub mod EventOutcomes
 pub mod PartOver
 pub mod ProgressMade
 pub mod Rests

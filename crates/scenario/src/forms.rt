@@ -80,7 +80,7 @@ pub const HEADS: [(&str, Pattern); 5] = [
 pub const STATEMENTS: [(&str, Pattern); 9] = [
     ("call", (&[PROCESS], &[&COMMANDS])),
     ("step", (&[PROCESS, COUNT], &[])),
-    ("go", (&[PROCESS], &[&STAGES])),
+    ("go", (&[PROCESS], &[&TARGET_STAGES])),
     ("fail", (&[PROCESS], &[])),
     ("withdraw", (&[PROCESS], &[])),
     ("restart", (&[PROCESS], &[])),
@@ -99,7 +99,12 @@ pub const COMMANDS: [Phrase; 5] = [
 ];
 
 /// The stages that a process can go up to.
-pub const STAGES: [Phrase; 4] = [("wait", &[]), ("inside", &[]), ("idle", &[]), ("down", &[])];
+pub const TARGET_STAGES: [Phrase; 4] = [
+    ("wait", &[]),
+    ("inside", &[]),
+    ("idle", &[]),
+    ("down", &[]),
+];
 
 /// The sources of flicks.
 pub const FLICKS: [Phrase; 3] = [("0", &[]), ("1", &[]), ("pcg", &[SEED])];

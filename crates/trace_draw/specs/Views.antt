@@ -1,6 +1,6 @@
 -- Which accesses a picture shows.
 use Rattle.std.specs.Prelude.{◌≡◌, ◌||◌, ◌+◌, ℕ, Bool, true, false, cond, nat_le}
-use Rattle.draw.specs.{is_short, waves_of_few}
+use Rattle.draw.specs.{is_short, waves_for_few_entries}
 use Rattle.picture.specs.declared.reads.PictureOptions.{PictureOptions}
 use Rattle.picture.specs.declared.reads.Reads.{Reads}
 use Rattle.picture.specs.declared.reads.Reads.TheVariants as reads
@@ -24,7 +24,7 @@ view_of options n = cond (shows_all options || nat_le n 400) reads.All reads.Hid
 -- the waves that it shows with them: those of the cells that are written in the window, all if
 -- all accesses are asked for, and otherwise at most sixteen
 abbrev pub limit_of : PictureOptions → WaveLimit
-limit_of = waves_of_few
+limit_of = waves_for_few_entries
 
 -- After n entries it is decided which accesses are shown, however many entries come later.
 abbrev pub IsDecided : PictureOptions → Reads → ℕ → Type 0

@@ -2,7 +2,7 @@
 ghost use Rattle.std.specs.Prelude.{◌≡◌};
 ghost use Rattle.trace_draw.specs.Views.{asks_all, limit_of, shows_all};
 
-use draw::{is_short, waves_of_few};
+use draw::{is_short, waves_for_few_entries};
 use picture::{Form, PictureOptions, Reads};
 use std::alloc::Global;
 use trace_accesses::WaveLimit;
@@ -29,7 +29,7 @@ impl TraceView {
     pub fn limit(self) -> WaveLimit
         ensures { result ≡ limit_of self.options }
     {
-        waves_of_few(self.options)
+        waves_for_few_entries(self.options)
     }
 }
 

@@ -13,8 +13,8 @@ use Rattle.trace.specs.{TraceEntry, TraceMemory, TraceRegister}
 use Rattle.trace_file.specs.Keywords.{memory_of}
 use Rattle.trace_file.specs.Reading.{entry_of, key_at}
 use Rattle.trace_file.specs.TraceFiles.{TraceProgress, cell_name_of, cleared, declared_read, entry_in, entry_read, first_read, is_declared, kind_of, later_read, line_read, line_said, may_declare, memory_read, number_in, opening_of, processes_read, register_read, trace_begun, trace_grammar}
-use Rattle.trace_file.specs.declared.keywords.TraceLine.{TraceLine}
-use Rattle.trace_file.specs.declared.keywords.TraceLine.TheVariants as line
+use Rattle.trace_file.specs.declared.keywords.TraceLineKind.{TraceLineKind}
+use Rattle.trace_file.specs.declared.keywords.TraceLineKind.TheVariants as line
 
 -- the line is not an entry, and what has ended stays ended
 pub record LeftQuiet (p now : TraceProgress) : Type 0 where
@@ -121,7 +121,7 @@ entry_left first words p now is =
     })
 
 -- a line after the first, by the meaning of its first word
-said_left : (kind : TraceLine) (first : List ℕ) (words : List (List ℕ)) (p now : TraceProgress) → line_said kind first words p ≡ Ok now → Left p now
+said_left : (kind : TraceLineKind) (first : List ℕ) (words : List (List ℕ)) (p now : TraceProgress) → line_said kind first words p ≡ Ok now → Left p now
 said_left line.Trace first words p now is = absurd (cc)
 said_left line.Processes first words p now is = processes_left words p now is
 said_left line.Memory first words p now is = memory_left words p now is

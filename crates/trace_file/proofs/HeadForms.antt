@@ -14,12 +14,12 @@ use Rattle.scenario.proofs.Fitting.{by_rows}
 use Rattle.scenario.proofs.LineSpelled.{none_of, one_of}
 use Rattle.trace.specs.{TraceMemory, TraceRegister, begins_with_digit, is_cell_name}
 use Rattle.trace.specs.declared.setups.TraceMemory.TheVariants as memory
-use Rattle.trace_file.specs.{TraceLine, key_at, kind_of, line_kinds, line_said, memories, memory_read, processes_read, register_read, trace_begun, value_of}
+use Rattle.trace_file.specs.{TraceLineKind, key_at, kind_of, line_kinds, line_said, memories, memory_read, processes_read, register_read, trace_begun, value_of}
 use Rattle.trace_file.specs.Forms.{are_operands, fault_at, fits_form, has_form, heads, is_formed, is_phrase, memory_phrases, openings}
 use Rattle.trace_file.specs.TraceFiles.{TraceProgress, cell_name_of, declared_read, is_declared, may_declare, opening_of}
 use Rattle.trace_file.specs.declared.forms.TraceOperand.{TraceOperand}
 use Rattle.trace_file.specs.declared.forms.TraceOperand.TheVariants as operand
-use Rattle.trace_file.specs.declared.keywords.TraceLine.TheVariants as line
+use Rattle.trace_file.specs.declared.keywords.TraceLineKind.TheVariants as line
 use Rattle.trace_file.proofs.MoveForms.{other_count}
 
 -- a number, and the reading of the words after it
@@ -166,7 +166,7 @@ register_formed is_shared (a ∷ b ∷ k ∷ v ∷ w ∷ ws) =
     ∙ sym (ap (λ t. name_of a && (width_of b && t)) (no_end (bytes_eq k (codes "opens")) v w ws) ∙ nothing (name_of a) (width_of b))
 
 -- any line that does not begin with a digit
-abbrev is_read : List ℕ → List (List ℕ) → Option TraceLine → Bool
+abbrev is_read : List ℕ → List (List ℕ) → Option TraceLineKind → Bool
 is_read first ws o = is_formed (known o >>= λ kind. line_said kind first ws trace_begun)
 
 pub head_has_form : (first : List ℕ) (ws : List (List ℕ)) → begins_with_digit first ≡ false → is_formed (known (kind_of first) >>= λ kind. line_said kind first ws trace_begun) ≡ has_form heads first ws

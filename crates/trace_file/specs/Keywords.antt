@@ -7,11 +7,11 @@ use Rattle.trace.specs.declared.marks.LockMark.TheVariants as mark
 use Rattle.trace.specs.declared.setups.TraceMemory.TheVariants as memory
 use Rattle.trace_file.specs.declared.keywords.MoveWord.{MoveWord}
 use Rattle.trace_file.specs.declared.keywords.MoveWord.TheVariants as word
-use Rattle.trace_file.specs.declared.keywords.TraceLine.{TraceLine}
-use Rattle.trace_file.specs.declared.keywords.TraceLine.TheVariants as line
+use Rattle.trace_file.specs.declared.keywords.TraceLineKind.{TraceLineKind}
+use Rattle.trace_file.specs.declared.keywords.TraceLineKind.TheVariants as line
 
 -- the first words of lines that are not entries
-abbrev pub line_kinds : List (List ℕ × TraceLine)
+abbrev pub line_kinds : List (List ℕ × TraceLineKind)
 line_kinds =
     (codes "processes", line.Processes)
     ∷ (codes "memory", line.Memory)

@@ -13,4 +13,4 @@ pub use Reading.{access_of, cell_from, entry_by, entry_of, entry_with, index_in,
 unfoldable pub use TraceFiles.{first_read, memory_read, processes_read, register_read}
 pub use TraceFiles.{TraceProgress, TraceRead, TraceSaid, cleared, entry_in, kind_of, later_read, line_read, line_said, lines_read, number_in, rest_read, said_by, trace_begun, trace_grammar, trace_said}
 pub use declared.keywords.MoveWord.{MoveWord}
-pub use declared.keywords.TraceLine.{TraceLine}
+pub use declared.keywords.TraceLineKind.{TraceLineKind}

@@ -15,8 +15,8 @@ use Rattle.trace.specs.{TraceEntry, TraceRegister, TraceSetup, begins_with_digit
 use Rattle.trace.specs.declared.setups.TraceMemory.TheVariants.{Safe}
 use Rattle.trace_file.specs.Keywords.{line_kinds, memory_of}
 use Rattle.trace_file.specs.Reading.{entry_of, key_at, value_of}
-use Rattle.trace_file.specs.declared.keywords.TraceLine.{TraceLine}
-use Rattle.trace_file.specs.declared.keywords.TraceLine.TheVariants as line
+use Rattle.trace_file.specs.declared.keywords.TraceLineKind.{TraceLineKind}
+use Rattle.trace_file.specs.declared.keywords.TraceLineKind.TheVariants as line
 
 -- the part of a file that was read: the setup so far, the headings that were given, whether an entry has ended the registers, and
 -- the entry of the last line, if it is one
@@ -28,7 +28,7 @@ pub record TraceProgress : Type 0 where
   pub entry : Option TraceEntry
 
 -- the kind of a line by its first word: an entry begins with a digit
-abbrev pub kind_of : List ℕ → Option TraceLine
+abbrev pub kind_of : List ℕ → Option TraceLineKind
 kind_of first = if begins_with_digit first then Some line.Entry else lookup (bytes_eq first) line_kinds
 
 -- a trace of which only the first line was read
@@ -97,7 +97,7 @@ abbrev pub entry_read : List ℕ → List (List ℕ) → TraceProgress → Resul
 entry_read first words p = entry_of p.setup.registers first words >>= λ entry. Ok (record p { ended = true; entry = Some entry })
 
 -- a line after the first, by its kind
-abbrev pub line_said : TraceLine → List ℕ → List (List ℕ) → TraceProgress → Result TraceProgress FaultKind
+abbrev pub line_said : TraceLineKind → List ℕ → List (List ℕ) → TraceProgress → Result TraceProgress FaultKind
 line_said line.Trace first words p = Err NotFirst
 line_said line.Processes first words p = processes_read words p
 line_said line.Memory first words p = memory_read words p

@@ -9,7 +9,7 @@ use trace::{LockMark, TraceMemory};
 
 /// The kind of a line, by its first word.
 #[derive(Clone, Copy)]
-pub enum TraceLine {
+pub enum TraceLineKind {
     /// The first line of a file.
     Trace,
     /// The number of processes.
@@ -39,12 +39,12 @@ pub enum MoveWord {
 }
 
 /// The first words of lines that are not entries, with the kinds of these lines.
-pub const LINE_KINDS: [(&str, TraceLine); 5] = [
-    ("processes", TraceLine::Processes),
-    ("memory", TraceLine::Memory),
-    ("register", TraceLine::Register),
-    ("shared", TraceLine::Shared),
-    ("trace", TraceLine::Trace),
+pub const LINE_KINDS: [(&str, TraceLineKind); 5] = [
+    ("processes", TraceLineKind::Processes),
+    ("memory", TraceLineKind::Memory),
+    ("register", TraceLineKind::Register),
+    ("shared", TraceLineKind::Shared),
+    ("trace", TraceLineKind::Trace),
 ];
 
 /// The words of the memories.
@@ -76,13 +76,13 @@ pub const LOCK_MARKS: [(&str, LockMark); 5] = [
     ("answer", LockMark::Answer),
 ];
 
-impl TraceLine {
+impl TraceLineKind {
     /// Returns the kind of a line by its first word.
-    pub fn of(word: &[u8]) -> Option<TraceLine>
+    pub fn of(word: &[u8]) -> Option<TraceLineKind>
         ensures { result ≡ kind_of word.now }
     {
         if begins_with_digit(word) {
-            return Some(TraceLine::Entry);
+            return Some(TraceLineKind::Entry);
         }
         meaning_of(&LINE_KINDS, word)
     }

@@ -8,7 +8,7 @@ ghost use Rattle.trace_file.specs.TraceFiles.{declared_read, entry_read, first_r
 use crate::cells::cell;
 use crate::entries::read_entry;
 use crate::forms::TRACE;
-use crate::keywords::{TraceLine, memory};
+use crate::keywords::{TraceLineKind, memory};
 use crate::lines::entry_in;
 use crate::moves::check_key;
 use crate::numbers::process;
@@ -60,7 +60,7 @@ impl FromLines for TraceReader {
     }
 
     fn later(&mut self, word: &[u8], words: &[&[u8]]) -> Result<(), FaultKind> {
-        match TraceLine::of(word) {
+        match TraceLineKind::of(word) {
             None => Err(FaultKind::Unknown),
             Some(kind) => self.line(kind, word, words),
         }
@@ -132,16 +132,16 @@ impl TraceReader {
     }
 
     /// Reads a later line, by what its first word means.
-    fn line(&mut self, kind: TraceLine, word: &[u8], words: &[&[u8]]) -> Result<(), FaultKind>
+    fn line(&mut self, kind: TraceLineKind, word: &[u8], words: &[&[u8]]) -> Result<(), FaultKind>
         ensures { Takes result (line_said kind word.now (texts words.now) self.old) self.new }
     {
         match kind {
-            TraceLine::Trace => Err(FaultKind::NotFirst),
-            TraceLine::Processes => self.processes(words),
-            TraceLine::Memory => self.memory(words),
-            TraceLine::Register => self.register(false, words),
-            TraceLine::Shared => self.register(true, words),
-            TraceLine::Entry => self.entry(word, words),
+            TraceLineKind::Trace => Err(FaultKind::NotFirst),
+            TraceLineKind::Processes => self.processes(words),
+            TraceLineKind::Memory => self.memory(words),
+            TraceLineKind::Register => self.register(false, words),
+            TraceLineKind::Shared => self.register(true, words),
+            TraceLineKind::Entry => self.entry(word, words),
         }
     }
 

@@ -1,5 +1,5 @@
 use Rattle.std.proofs.Common.{◌≡◌, ℕ, Bool, sym, ap, ◌∙◌}
-use Rattle.process.proofs.Outcomes.{width-stamp}
+use Rattle.process.proofs.EventOutcomes.{width-stamp}
 use Rattle.model.specs.{Field, stamp_field}
 use Rattle.board.specs.Closings.{number_shown}
 use Rattle.board.proofs.ShownBits.{version_is}

@@ -3,7 +3,7 @@ use Rattle.model.specs.{max_of}
 use Rattle.process.specs.{IsOutcome, call_of, part_at}
 use Rattle.process.specs.declared.part.ProgramPoint.TheVariants as at
 use Rattle.process.proofs.AfterParts.{keeps-then, part-then}
-use Rattle.process.proofs.Outcomes.{outcome-fits, width-stamp}
+use Rattle.process.proofs.EventOutcomes.{outcome-fits, width-stamp}
 use Rattle.process.proofs.after.part_after.Goals as goal
 
 pub after_ticket-requires-clause-fits : goal.after_ticket-requires-clause-fits
