@@ -11,6 +11,7 @@ pub mod Sheets
 pub mod Signs
 pub mod BarsAndStages
 pub mod Subjects
+pub mod Titles
 pub mod Verdicts
 pub mod WaveShapes
 pub mod Windows

@@ -7,6 +7,7 @@ use Rattle.markup.specs.{Said, entering_by, lowering, said_text, empty_element_b
 use Rattle.markup.specs.declared.names.Key.TheVariants as key
 use Rattle.markup.specs.declared.names.Tag.TheVariants as tag
 use Rattle.picture.specs.Subjects.{format_word, legend_of, list_begun, script_of, shown_by, subject_word}
+use Rattle.picture.specs.Titles.{title_of}
 use Rattle.picture.specs.declared.constants.TheConstants.{PAGE_STYLE, PATTERNS, STYLE}
 use Rattle.picture.specs.declared.reads.Reads.{Reads}
 use Rattle.picture.specs.declared.reads.Reads.TheVariants.{All, Hidden, Shown}
@@ -75,9 +76,9 @@ styles_of processes = STYLE.now ++ codes "\n" ++ PAGE_STYLE.now ++ paper_of proc
 
 -- how a page begins, up to its body, which is open then
 abbrev pub page_begun : ℕ → List ℕ → List ℕ
-page_begun processes heading =
+page_begun processes title =
     codes "<!doctype html>\n<html lang=\"en\"><head><meta charset=\"utf-8\">\n<meta name=\"viewport\" content=\"width=device-width\">\n"
-    ++ text_element_by tag.Title [] heading
+    ++ text_element_by tag.Title [] title
     ++ codes "\n<style>\n"
     ++ styles_of processes
     ++ codes "</style></head><body>\n"
@@ -93,7 +94,7 @@ body_front subject heading printed reads =
 
 -- what a page has before its bands: that of a run or of a record, and that of a trace under a heading
 abbrev pub page_front_by : Subject → ℕ → List ℕ → List ℕ → Reads → List ℕ
-page_front_by subject processes heading printed reads = page_begun processes heading ++ body_front subject heading printed reads
+page_front_by subject processes heading printed reads = page_begun processes (title_of heading printed) ++ body_front subject heading printed reads
 
 abbrev pub page_front : Subject → Setup → List ℕ → Reads → List ℕ
 page_front subject s = page_front_by subject s.processes (heading_of subject s)

@@ -90,7 +90,8 @@ by(marks[k]).classList.remove('on');by(marks[k]).removeAttribute('aria-current')
 k=n;now=events[n];at.value=n;var m=marks[n],svg=m.ownerSVGElement,item=by(m);\n\
 m.classList.add('on');item.classList.add('on');item.setAttribute('aria-current','true');cursor(svg,place(m));\n\
 list.scrollTop=item.offsetTop-list.offsetTop-40;\n\
-said.textContent='';line('line',text(m));line('made by',spelled(item));line('store',stores[n]);\n\
+said.textContent='';line('line',text(m));if(item.textContent!=='(entries)')line('made by',spelled(item));\n\
+line('store',stores[n]);\n\
 line('in line',queues[n]||'none');at.setAttribute('aria-valuetext',text(m));\n\
 if(look)show(svg,place(m));}\n\
 function show(svg,x){var r=svg.getBoundingClientRect(),to=x*r.width/1200;\n\
@@ -166,7 +167,8 @@ by(marks[k]).classList.remove('on');by(marks[k]).removeAttribute('aria-current')
 k=n;now=events[n];at.value=n;var m=marks[n],svg=m.ownerSVGElement,item=by(m);\n\
 m.classList.add('on');item.classList.add('on');item.setAttribute('aria-current','true');cursor(svg,place(m));\n\
 list.scrollTop=item.offsetTop-list.offsetTop-40;\n\
-said.textContent='';line('line',text(m));line('made by',spelled(item));at.setAttribute('aria-valuetext',text(m));\n\
+said.textContent='';line('line',text(m));if(item.textContent!=='(entries)')line('made by',spelled(item));\n\
+at.setAttribute('aria-valuetext',text(m));\n\
 if(look)show(svg,place(m));}\n\
 function show(svg,x){var r=svg.getBoundingClientRect(),to=x*r.width/1200;\n\
 if(r.top<list.getBoundingClientRect().bottom||r.bottom>innerHeight-150)svg.scrollIntoView({block:'center'});\n\

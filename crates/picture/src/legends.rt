@@ -245,6 +245,9 @@ pub(crate) const ACCESS_LEGEND: &str = "<text class=\"name\" x=\"8\" y=\"19\">st
 <text class=\"cell\" x=\"378\" y=\"168\">1</text>\n\
 <text class=\"key\" x=\"422\" y=\"156\">the values of 0.ticket over time: 0, then 1;</text>\n\
 <text class=\"key\" x=\"422\" y=\"168\">blue while a write is open</text>\n\
+<text class=\"cell\" x=\"740\" y=\"156\">0.ticket.1.2</text>\n\
+<text class=\"key\" x=\"828\" y=\"156\">bit 1 of the ticket of process 0,</text>\n\
+<text class=\"key\" x=\"828\" y=\"168\">on the copy that process 2 reads</text>\n\
 <rect class=\"write\" x=\"770\" y=\"144\" width=\"92\" height=\"28\"/>\n\
 <text class=\"move\" x=\"774\" y=\"156\">write 1</text>\n\
 <text class=\"cell\" x=\"774\" y=\"168\">0.ticket.1.2</text>\n\

@@ -20,6 +20,7 @@ mod sheets;
 mod signs;
 mod subjects;
 mod ties;
+mod titles;
 mod trace_sheets;
 mod verdict_box;
 mod waves;

@@ -11,6 +11,7 @@ use crate::constants::{PAGE_STYLE, PATTERNS, STYLE};
 use crate::headings::heading;
 use crate::reads::{Reads, legend_height};
 use crate::subjects::Subject;
+use crate::titles::page_title;
 use bstr::ByteSlice;
 use markup::{Key, Markup, Tag, class, number, words};
 use model::Setup;
@@ -61,21 +62,21 @@ pub(crate) fn add_page_front(
     ensures lines { OnOk result (lines_in markup.new ≡ []) }
     ensures elements { OnOk result (opens_in markup.new (Some []) ≡ Some page_names) }
 {
-    begin_page(processes, heading, markup)?;
+    begin_page(processes, page_title(heading, printed), markup)?;
     begin_body(subject, heading, printed, reads, markup)
 }
 
-/// Adds the head of a page to empty markup, and begins the body.
-fn begin_page(processes: u8, heading: &[u8], markup: &mut Markup) -> Result<(), AllocError>
+/// Adds the head of a page with this title to empty markup, and begins the body.
+fn begin_page(processes: u8, title: &[u8], markup: &mut Markup) -> Result<(), AllocError>
     requires fresh { markup.old ≡ [] }
-    ensures draws { OnOk result (markup.new ≡ page_begun processes heading.now) }
+    ensures draws { OnOk result (markup.new ≡ page_begun processes title.now) }
     ensures lines { OnOk result (lines_in markup.new ≡ []) }
     ensures elements { OnOk result (opens_in markup.new (Some []) ≡ Some page_names) }
 {
     markup.frame(
         "<!doctype html>\n<html lang=\"en\"><head><meta charset=\"utf-8\">\n<meta name=\"viewport\" content=\"width=device-width\">\n",
     )?;
-    markup.add_text_element(Tag::Title, &[], heading)?;
+    markup.add_text_element(Tag::Title, &[], title)?;
     markup.frame("\n<style>\n")?;
     add_styles(processes, markup)?;
     markup.frame("</style></head><body>\n")
