@@ -1,7 +1,7 @@
 use Rattle.std.proofs.Common.{[], ◌∷◌, ap, is_some, ◌∙◌}
 use Rattle.std.proofs.lemmas.List.{map-append}
 use Rattle.picture_layout.specs.{rows_of_lines, seen, text_of, texts}
-use Rattle.picture_layout.proofs.picture_layout.Column.join.Goals as goal
+use Rattle.picture_layout.proofs.columns.Column.join.Goals as goal
 
 pub returns-clause-reported : goal.returns-clause-reported
 returns-clause-reported c = ap texts c.in_ok-push.ensures.items ∙ map-append text_of c.args.self.now.lines.items (c.args.line ∷ [])
