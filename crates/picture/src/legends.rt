@@ -230,6 +230,8 @@ pub(crate) const ACCESS_LEGEND: &str = "<text class=\"name\" x=\"8\" y=\"19\">st
 <path class=\"dot\" d=\"M797 131a3 3 0 1 0 6 0a3 3 0 1 0 -6 0\"/>\n\
 <text class=\"key\" x=\"812\" y=\"118\">joins overlapping accesses,</text>\n\
 <text class=\"key\" x=\"812\" y=\"130\">one of which writes</text>\n\
+<text class=\"key\" x=\"1020\" y=\"118\">0.ticket.1.2: process 0's</text>\n\
+<text class=\"key\" x=\"1020\" y=\"130\">ticket, bit 1, for reader 2</text>\n\
 <rect class=\"write unended\" x=\"52\" y=\"144\" width=\"92\" height=\"28\"/>\n\
 <text class=\"move\" x=\"56\" y=\"156\">write 1</text>\n\
 <text class=\"cell\" x=\"56\" y=\"168\">0.ticket.1.2</text>\n\
@@ -245,9 +247,6 @@ pub(crate) const ACCESS_LEGEND: &str = "<text class=\"name\" x=\"8\" y=\"19\">st
 <text class=\"cell\" x=\"378\" y=\"168\">1</text>\n\
 <text class=\"key\" x=\"422\" y=\"156\">the values of 0.ticket over time: 0, then 1;</text>\n\
 <text class=\"key\" x=\"422\" y=\"168\">blue while a write is open</text>\n\
-<text class=\"cell\" x=\"740\" y=\"156\">0.ticket.1.2</text>\n\
-<text class=\"key\" x=\"828\" y=\"156\">bit 1 of the ticket of process 0,</text>\n\
-<text class=\"key\" x=\"828\" y=\"168\">on the copy that process 2 reads</text>\n\
 <rect class=\"write\" x=\"770\" y=\"144\" width=\"92\" height=\"28\"/>\n\
 <text class=\"move\" x=\"774\" y=\"156\">write 1</text>\n\
 <text class=\"cell\" x=\"774\" y=\"168\">0.ticket.1.2</text>\n\
