@@ -81,7 +81,7 @@ with_other_value s past e c breaks may = by e.access refl breaks may
 pub same_as_itself : (r : Reply) → same_reply r r ≡ true
 same_as_itself (reply.Value x) = (same_value-Decides x x).1 refl
 same_as_itself (reply.Sum n) = (Decides-int_eq n n).1 refl
-same_as_itself (reply.LockRun x) = (same_value-Decides x x).1 refl
+same_as_itself (reply.Kept x) = (same_value-Decides x x).1 refl
 same_as_itself (reply.Last n) = grind (arith, nat_tests)
 same_as_itself _ = refl
 

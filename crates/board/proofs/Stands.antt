@@ -4,7 +4,7 @@ use Rattle.std.proofs.lemmas.List.{length-append, take-append-le}
 use Rattle.std.proofs.lemmas.Option.{slice_get_within}
 use Rattle.plain_store.specs.{Caller, Contents, Setup, changes, reply_to}
 use Rattle.model.specs.{Placed, Taken, store_after}
-use Rattle.model.proofs.Singles.{get-left}
+use Rattle.model.proofs.Singles.{get-remaining}
 use Rattle.board.specs.{IsPrefix, PlacedAsAnswered, StandsAt, StandsIn, and_then, caller_of, place_after, store_at}
 
 -- In a longer list.
@@ -18,7 +18,7 @@ at_longer s list more caller call place h = record {
   reply = λ r is. h.reply r is ∙ sym (ap (λ (x : Contents). reply_to x call.command caller) same);
   change = λ c.
       let here = h.change (sym (ap (λ (x : Contents). changes x call.command) same) ∙ c) in
-      get-left list more place (slice_get_within list place _ here)
+      get-remaining list more place (slice_get_within list place _ here)
       ∙ here
       ∙ sym (ap (λ (x : Contents). Some (record { process = caller.process; command = call.command; reply = reply_to x call.command caller; number = caller.number })) same);
 }
@@ -40,7 +40,7 @@ stands_in_longer s p calls first all more h = subst (StandsIn s p calls) (sym mo
 -- The first of the calls.
 
 front : {X : Type 0} (xs ys : List X) (k : ℕ) (x : X) → slice_get xs k ≡ Some x → slice_get (xs ++ ys) k ≡ Some x
-front xs ys k x at = get-left xs ys k (slice_get_within xs k x at) ∙ at
+front xs ys k x at = get-remaining xs ys k (slice_get_within xs k x at) ∙ at
 
 pub stands_front : (s : Setup) (p : ℕ) (calls more : List Placed) (list : List Taken) → StandsIn s p (calls ++ more) list → StandsIn s p calls list
 stands_front s p calls more list h = record {

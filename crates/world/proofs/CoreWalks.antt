@@ -13,7 +13,7 @@ use Rattle.choices.specs.{FlickState, flick_of}
 use Rattle.process.specs.declared.outcomes.EventOutcome.TheVariants.{Steps}
 use Rattle.process.specs.declared.outcomes.StepOutcome.TheVariants.{Nothing}
 use Rattle.process.specs.{ProcessState, answered_at, answered_next, remaining_at, newest_of, overlapped_steps, is_reported, overlaps_step, process_after, step_by, steps_of}
-use Rattle.world.specs.{CoreGoes, CoreState, CoreReportsOverlapped, CoreWalks, KeepOthers, KeepsCore, Seat, StepsQuietly, core_after, is_at_door, is_waiting, remaining_in, pending_in, seat_after, seat_of, seat_stepped, seat_with, reported, with_history}
+use Rattle.world.specs.{CoreGoes, CoreState, CoreReportsOverlapped, CoreWalks, KeepOthers, KeepsCore, Seat, StepsQuietly, core_after, is_waiting, remaining_in, pending_in, seat_after, seat_at_door, seat_of, seat_stepped, seat_with, reported, with_history}
 use Rattle.world.proofs.CoreKeeps.{IsNext, next-goes, next-keeps}
 use Rattle.world.proofs.CoreOverlaps.{reports-overlapped}
 use Rattle.world.proofs.CoreRefused.{step-within}
@@ -149,7 +149,7 @@ module _ (c : CoreState) (p : ℕ) (seat : Seat) (f : FlickState) (there : slice
       omega (arith, before, fewer)
 
   seat-more : (n : ℕ) → seat_stepped (ran (suc n)).0 (seat_ran n) ≡ seat_ran (suc n)
-  seat-more n = λ i. let x : Seat = record seat { process = (ran (suc n)).0; begun = (ap (λ b. b || is_at_door (seat_ran n)) begun ∙ sym begun) i } in x
+  seat-more n = λ i. let x : Seat = record seat { process = (ran (suc n)).0; begun = (ap (λ b. b || seat_at_door (seat_ran n)) begun ∙ sym begun) i } in x
 
   -- one more step
   core-more : (n : ℕ) → suc n ≤ remaining_at seat.process → core_after (core_ran n) (seat_ran n) (Step p (flick_of (ran n).2)) ≡ core_ran (suc n)

@@ -10,7 +10,7 @@ use Rattle.laws.proofs.Doings.{stage_of}
 use Rattle.laws.proofs.FrameInside.{stage-is}
 use Rattle.laws.proofs.FrameSteps.{doing-above}
 use Rattle.process.specs.{stage_doing}
-use Rattle.world.specs.{CoreState, InEachCorePast, Seat, is_at_door, listed, stage_in, with_history}
+use Rattle.world.specs.{CoreState, InEachCorePast, Seat, listed, seat_at_door, stage_in, with_history}
 use Rattle.world.proofs.CoreRefused.{below-is, is-above, stage-reported}
 use Rattle.world.proofs.QueueListed.{ahead-listed}
 use Rattle.world.proofs.WorldOpen.{seat-shown, seatless}
@@ -27,7 +27,7 @@ stage-beyond c p none taken events shows =
     sym (ap (λ b. cond b (Some (stage p (past_of c.setup events))) None) (is-above p c.setup.processes (seatless (with_history c taken) events p shows none)))
 
 -- the processes ahead of one that exists
-pub ahead-there : (c : CoreState) (p : ℕ) (seat : Seat) (queued : Bool) → slice_get c.seats p ≡ Some seat → is_at_door seat ≡ queued →
+pub ahead-there : (c : CoreState) (p : ℕ) (seat : Seat) (queued : Bool) → slice_get c.seats p ≡ Some seat → seat_at_door seat ≡ queued →
     InEachCorePast c (λ s past. elim queued as (λ _. List ℕ) [ true ↦ listed seat.before | false ↦ [] ] ≡ ahead s p past)
 ahead-there c p seat queued there h taken events shows =
     let stands : is_at_door (stage p (past_of c.setup events)) ≡ queued = ap is_at_door (sym (stage-reported c taken events (event.Fail p) seat shows there)) ∙ h in

@@ -12,8 +12,8 @@ abbrev pub is_waiting : Seat → Bool
 is_waiting seat = is_waiting_stage (stage_doing seat.process.doing)
 
 -- the process of the seat is in its doorway or waits
-abbrev pub is_at_door : Seat → Bool
-is_at_door seat = is_at_door (stage_doing seat.process.doing)
+abbrev pub seat_at_door : Seat → Bool
+seat_at_door seat = is_at_door (stage_doing seat.process.doing)
 
 -- the seat with this new state of its process
 abbrev pub seat_with : ProcessState → Seat → Seat
@@ -21,7 +21,7 @@ seat_with process seat = record seat { process = process }
 
 -- the seat after a step of its process; if the process was in its doorway or waited, the doorway has begun
 abbrev pub seat_stepped : ProcessState → Seat → Seat
-seat_stepped process seat = record seat { process = process; begun = seat.begun || is_at_door seat }
+seat_stepped process seat = record seat { process = process; begun = seat.begun || seat_at_door seat }
 
 -- the seat after a call has begun, ahead of which these processes wait
 abbrev pub seat_called : Seat → Command → ℕ → List Bool → Seat

@@ -9,4 +9,4 @@ returns c =
     let most : 2 ^ w ≤ 4294967296 = pow_mono {j = 32} c.requires in
     let shifted : 1 * 2 ^ w % 18446744073709551616 ≡ 2 ^ w = omega (arith, most) in
     ap (λ n. c.number_of.result % n) shifted ∙ ap (λ n. n % 2 ^ w) c.number_of.ensures
-    ∙ number-read c.args.bytes.now w (omega (arith, c.requires)) (omega (arith, c.reported-bytes)) c.fits-bytes
+    ∙ number-read c.args.bytes.now w (omega (arith, c.requires)) (omega (arith, c.told-bytes)) c.fits-bytes

@@ -25,7 +25,7 @@ returns-in-Image0 c =
     let room : c.from-length.result ≡ n = c.from-length.ensures ∙ c.image_bytes.ensures.bytes in
     IfOk-weaker c.image_text.result _ _ (λ text is bits wide begin.
     let made : bits_in bytes (width s c.args.field) ≡ bits = bits-begun bytes bits (width s c.args.field) wide begin in
-    let whole : take n bytes ≡ bytes_of_bits n (bits_in bytes (8 * n)) = bytes-back bytes n (omega (arith, c.reported-bytes, c.image_bytes.ensures.most, c.image_bytes.ensures.bytes)) c.fits-bytes in
+    let whole : take n bytes ≡ bytes_of_bits n (bits_in bytes (8 * n)) = bytes-back bytes n (omega (arith, c.told-bytes, c.image_bytes.ensures.most, c.image_bytes.ensures.bytes)) c.fits-bytes in
     is ∙ ap (λ k. image_text s (take k bytes)) room ∙ ap (image_text s) whole ∙ elim c.in-Image0.is [
       | inl first ↦ (λ i. shown s (sym first i) (bits_in bytes (width s (sym first i)))) ∙ ap (shown s c.args.field) made
       | inr second ↦ (λ i. shown s (sym second i) (bits_in bytes (width s (sym second i)))) ∙ ap (shown s c.args.field) made

@@ -6,5 +6,5 @@ use Rattle.world.proofs.queue.listed.Goals as goal
 pub returns : goal.returns
 returns c =
     let l = c.loop-process in
-    let all = at_drop_all (listed_from l.process) c.args.before.now l.process (omega (arith, c.reported-before, c.loop-process-test.false)) in
+    let all = at_drop_all (listed_from l.process) c.args.before.now l.process (omega (arith, c.told-before, c.loop-process-test.false)) in
     sym (append-nil l.all.items) ∙ sym (ap (λ rest. l.all.items ++ rest) all) ∙ l.invariant.0
