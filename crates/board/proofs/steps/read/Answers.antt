@@ -12,7 +12,7 @@ load-found-requires-clause-keeps c = let t = c.requires.tied in let n = c.requir
 
 pub advance-requires : goal.advance-requires
 advance-requires c = let t = c.requires.tied in let n = c.requires.next in
-    record { goes = (begins c.args.words.now.key c.args.pending c.args.process.now c.advance-begun.new.self t.0 c.args.flick c.args.word c.load-found.result n.0 c.args.seat.now.me.0 c.load-found.new.seat.me.0 t.1 n.1 n.2 c.load-found.ensures.reported c.advance-begun.ensures.process).goes }
+    record { enabled = (begins c.args.words.now.key c.args.pending c.args.process.now c.advance-begun.new.self t.0 c.args.flick c.args.word c.load-found.result n.0 c.args.seat.now.me.0 c.load-found.new.seat.me.0 t.1 n.1 n.2 c.load-found.ensures.reported c.advance-begun.ensures.process).goes }
 
 pub returns-clause-tied : goal.returns-clause-tied
 returns-clause-tied c = λ value t. let n = c.requires.next in

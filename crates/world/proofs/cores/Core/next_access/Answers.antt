@@ -36,7 +36,7 @@ some : (c : After-index-seat) → 0 < remaining_at c.index-seat.result.now.proce
 some c = let within = (remaining c).within in omega (arith, within)
 
 pub next-next-requires : goal.next-next-requires
-next-next-requires c = let a = (goal.at.next-next-requires c).After-index-seat in record { goes = remaining-may a.index-seat.result.now.process (some a) }
+next-next-requires c = let a = (goal.at.next-next-requires c).After-index-seat in record { enabled = remaining-may a.index-seat.result.now.process (some a) }
 
 pub next_access-requires-clause-enabled : goal.next_access-requires-clause-enabled
 next_access-requires-clause-enabled c = let a = (goal.at.next_access-requires-clause-enabled c).After-index-seat in remaining-may a.index-seat.result.now.process (some a)
