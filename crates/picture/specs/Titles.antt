@@ -1,9 +1,7 @@
 -- The title of a page.
-use Rattle.std.specs.Prelude.{List, [], ◌∷◌, codes, cond, drop, take, Option, None, Some}
-use Rattle.std.specs.Cmp.{nat_eq}
+use Rattle.std.specs.Prelude.{ℕ, List, [], ◌∷◌, codes, cond, drop, map, nat_eq, take, Option, None, Some}
 use Rattle.std.specs.Cmp.Lexicographic.{pointwise}
 use Rattle.bstr.specs.Text.{lines_of, without_terminator}
-use Rattle.std.specs.Prelude.{map}
 
 -- the text of a comment, which begins with `# `
 abbrev pub comment_of : List ℕ → Option (List ℕ)
