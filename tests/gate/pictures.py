@@ -183,6 +183,10 @@ def page_faults(page, run):
         yield "other lines than replay's"
     if parser.listed != [*run.file, "(end)"]:
         yield "other lines than the file's"
+    title, heading = (html.unescape(re.search(f"<{tag}>(.*?)</{tag}>", page, re.S)[1]) for tag in ("title", "h1"))
+    comment = next((line.removeprefix("# ") for line in run.file if line.startswith("# ")), heading)
+    if title != comment:
+        yield f"the title is {title}, not {comment}"
     yield from read_faults(parser.groups, run.reads)
     if "<script src" in page or "http" in page.replace("http://www.w3.org/2000/svg", ""):
         yield "something that is not in the file"
