@@ -1,20 +1,21 @@
 -- The rows of bits, and their states, after one more entry.
-use Rattle.std.proofs.Common.{◌≡◌, ◌≢◌, ℕ, ◌+◌, ◌<◌, ◌≤◌, nat_le, Bool, not, ◌&&◌, true, false, cond, List, [], ◌∷◌, ◌++◌, Option, None, Some, is_some, option_and_then, get_or, length, position, slice_set, refl, sym, ap, ◌∙◌, subst, inl, inr, eqb, eq-eqb, true≢false, arith, length-append, get_or-set_other, get_or-set_same}
+use Rattle.std.proofs.Common.{◌≡◌, ◌≢◌, ℕ, ◌+◌, ◌<◌, ◌≤◌, nat_le, Bool, not, ◌&&◌, ◌||◌, true, false, cond, List, [], ◌∷◌, ◌++◌, Option, None, Some, is_some, option_and_then, get_or, length, position, slice_set, if◌then◌else◌, refl, sym, ap, ◌∙◌, subst, inl, inr, eqb, eq-eqb, true≢false, arith, length-append, get_or-set_other, get_or-set_same}
 use Rattle.std.proofs.Math.Seq.{get_or-append_seam}
 use Rattle.std.proofs.lemmas.Bool.{cases_Bool}
 use Rattle.std.proofs.lemmas.Bool.Decides.{nat_tests}
 use Rattle.std.proofs.lemmas.Grind.{common_steps}
 use Rattle.std.proofs.lemmas.List.Folds.{position_or_len_push}
 use Rattle.std.proofs.lemmas.List.Sums.{prefix_len-le-length}
-use Rattle.std.specs.List.{position_or_len}
+use Rattle.std.specs.List.{list_any, position_or_len}
 use Rattle.std.proofs.lemmas.List.{get_or_append_left}
 use Rattle.std.proofs.lemmas.List.Quantifiers.{position-Some}
+use Rattle.indexmap.specs.IndexSet.{insert_key}
 use Rattle.laws.specs.{IsThere}
 use Rattle.plain_store.specs.{Setup}
 use Rattle.model.specs.safe_bit.{Move, gives_value, is_of_write}
 use Rattle.model.specs.safe_bit.declared.Move.TheVariants.{BeginWrite, EndWrite, BeginRead, EndRead, Settle}
 use Rattle.model.specs.{Access, Mark, Past, opening_bit, same_bit}
-use Rattle.record_accesses.specs.{BitChange, BitState, BitsState, HasBits, WaveCount, bit_after, bit_of, bits_taken, change_in_row, change_of, entry_with, new_bit, row_in, rows_after, rows_with, state_at, waves_after, waves_since, with_last, written_bits}
+use Rattle.record_accesses.specs.{BitChange, BitState, BitsState, HasBits, WaveCount, bit_after, bit_of, bits_taken, change_in_row, change_of, entry_with, is_one_bit, new_bit, row_in, rows_after, rows_with, state_at, waves_after, waves_since, with_last, written_bits}
 use Rattle.record_accesses.proofs.BitFacts.{bit-cong, bit-made, bit-step, unwritten}
 use Rattle.record_accesses.proofs.SameBits.{bare-same, other-sym, same-bare, same-refl}
 
@@ -52,6 +53,36 @@ last-same rows a none = last-where (λ b. same_bit b a) rows a none (same-refl a
 
 last-other : (rows : List Access) (a d : Access) → same_bit a d ≡ false → row_in (rows ++ a ∷ []) d ≡ row_in rows d
 last-other rows a d other = last-others (λ b. same_bit b d) rows a other
+
+-- A set of bits takes in a new one after the others.
+
+none-any : (p : Access → Bool) (rows : List Access) → position p rows ≡ None → list_any p rows ≡ false
+none-any p [] h = refl
+none-any p (x ∷ rows) h = by (p x) refl (none-any p rows)
+  where
+    by : (t : Bool) → p x ≡ t → (position p rows ≡ None → list_any p rows ≡ false) → (p x || list_any p rows) ≡ false
+    by true is rest = grind (arith, common_steps, is, h)
+    by false is rest = ap (λ t. t || list_any p rows) is ∙ rest (grind (arith, common_steps, is, h))
+
+pub new-last : (rows : List Access) (a : Access) → row_in rows a ≡ None → insert_key is_one_bit rows a ≡ rows ++ a ∷ []
+new-last rows a none = ap (λ (t : Bool). if t then rows else rows ++ a ∷ []) (none-any (λ b. same_bit b a) rows none)
+
+pub added-keys : (bits mid rows : List Access) (a k : Access) → mid ≡ bits → k ≡ a → rows ≡ insert_key is_one_bit mid k → row_in bits a ≡ None → rows ≡ bits ++ a ∷ []
+added-keys bits mid rows a k still same is none = is ∙ (λ i. insert_key is_one_bit (still i) (same i)) ∙ new-last bits a none
+
+abbrev pub bits_by : List Access → List BitState → BitsState
+bits_by names states = record { names = names; states = states }
+
+pub bits-added : (old now : BitsState) (names : List Access) (states : List BitState) (a : Access) (state : BitState) → old ≡ now → gives_value a.how ≡ true →
+    names ≡ old.names ++ a ∷ [] → states ≡ old.states ++ state ∷ [] → bits_by names states ≡ bits_taken None a state now
+bits-added old now names states a state same writing more next =
+    (λ i. bits_by (more i) (next i))
+    ∙ ap (λ (b : BitsState). bits_by (b.names ++ a ∷ []) (b.states ++ state ∷ [])) same
+    ∙ ap (λ t. cond t (bits_by (now.names ++ a ∷ []) (now.states ++ state ∷ [])) now) (sym writing)
+
+pub long-added : (names more : List Access) (states next : List BitState) (a : Access) (state : BitState) → length states ≡ length names → more ≡ names ++ a ∷ [] → next ≡ states ++ state ∷ [] → length next ≡ length more
+long-added names more states next a state long is are =
+    ap length are ∙ length-append states (state ∷ []) ∙ ap (λ n. n + 1) long ∙ sym (length-append names (a ∷ [])) ∙ sym (ap length is)
 
 -- Rows of waves.
 

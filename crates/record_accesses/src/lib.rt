@@ -28,6 +28,7 @@
 //!
 //! | Module | Contents |
 //! |---|---|
+//! | `bit_names` | the bit of an access, by which its row is found |
 //! | `bits` | the state of a bit |
 //! | `boxes` | what the boxes of reads show |
 //! | `limits` | how many waves are shown |
@@ -42,6 +43,7 @@
 //! | `written_bits` | the state of each bit that was written |
 #![tactic(auto)]
 
+mod bit_names;
 mod bits;
 mod boxes;
 mod limits;

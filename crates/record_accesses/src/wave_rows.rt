@@ -4,6 +4,8 @@ ghost use Rattle.model.specs.{Past};
 ghost use Rattle.model.specs.safe_bit.{is_of_write};
 ghost use Rattle.record_accesses.specs.Rows.{row_in, waves_since, waves_with, written_bits};
 
+use crate::bit_names::BitName;
+use indexmap::IndexSet;
 use model::Access;
 use std::alloc::{AllocError, Global};
 use std::marker::Model;
@@ -11,8 +13,7 @@ use std::marker::Model;
 /// The bits that have waves, in the order of their rows. Contracts see the list.
 #[derive(Drop)]
 pub(crate) struct BitWaves {
-    /// An access to each bit.
-    bits: Vec<Access>,
+    bits: IndexSet<BitName>,
 }
 
 impl Model for BitWaves {
@@ -21,7 +22,7 @@ impl Model for BitWaves {
 
     ghost Value = { List BitAccess };
 
-    ghost view = { λ w. w.bits.items };
+    ghost view = { λ w. w.bits.keys };
 }
 
 impl BitWaves {
@@ -30,7 +31,7 @@ impl BitWaves {
         ensures { result ≡ [] }
     {
         BitWaves {
-            bits: Vec::new(alloc),
+            bits: IndexSet::new(alloc),
         }
     }
 
@@ -70,7 +71,7 @@ impl BitWaves {
     fn row(&self, access: &Access) -> Option<usize>
         ensures { result ≡ row_in self.now access.now }
     {
-        self.bits.iter().position(|bit| bit.same_bit(access))
+        self.bits.get_index_of(&BitName::of(access))
     }
 
     /// Adds the bit of an access that has no row, and returns its row.
@@ -79,8 +80,8 @@ impl BitWaves {
         ensures taken { OnOk result (self.new ≡ waves_with true access self.old) }
         ensures row { IfOk result (λ row. row ≡ row_in self.new access) }
     {
-        let row = self.bits.as_slice().len();
-        self.bits.push(access)?;
+        let row = self.bits.len();
+        self.bits.insert(BitName::of(&access))?;
         Ok(Some(row))
     }
 }

@@ -3,7 +3,9 @@ ghost use Rattle.std.specs.Prelude.{◌≡◌, ◌<◌, IfOk, IfSome, None, OnOk
 ghost use Rattle.record_accesses.specs.Keeping.{bits_taken, no_bits, state_at};
 ghost use Rattle.record_accesses.specs.Rows.{row_in};
 
+use crate::bit_names::BitName;
 use crate::bits::BitState;
+use indexmap::IndexSet;
 use model::Access;
 use std::alloc::{AllocError, Global};
 use std::marker::Model;
@@ -11,8 +13,7 @@ use std::marker::Model;
 /// The bits that were written, in the order of their first writes, and the state of each.
 #[derive(Drop)]
 pub(crate) struct WrittenBits {
-    /// An access to each bit.
-    names: Vec<Access>,
+    names: IndexSet<BitName>,
     states: Vec<BitState>,
 }
 
@@ -22,9 +23,9 @@ impl Model for WrittenBits {
 
     ghost Value = { BitsState };
 
-    ghost view = { λ b. record { names = b.names.items; states = b.states.items } };
+    ghost view = { λ b. record { names = b.names.keys; states = b.states.items } };
 
-    ghost invariant = { λ b. length b.states.items ≡ length b.names.items };
+    ghost invariant = { λ b. length b.states.items ≡ length b.names.keys };
 }
 
 impl WrittenBits {
@@ -33,7 +34,7 @@ impl WrittenBits {
         ensures { result ≡ no_bits }
     {
         WrittenBits {
-            names: Vec::new(alloc),
+            names: IndexSet::new(alloc),
             states: Vec::new(alloc),
         }
     }
@@ -44,7 +45,7 @@ impl WrittenBits {
         ensures within { IfSome result (λ row. row < length self.now.names) }
         ensures states { length self.now.states ≡ length self.now.names }
     {
-        self.names.iter().position(|name| name.same_bit(access))
+        self.names.get_index_of(&BitName::of(access))
     }
 
     /// Returns the state of a bit with this row. Without one it was not written, and is as it opens.
@@ -92,10 +93,10 @@ impl WrittenBits {
         if !access.how.gives_value() {
             return Ok(None);
         }
-        let row = self.names.as_slice().len();
+        let row = self.names.len();
         self.names.reserve(1)?;
         self.states.push(state)?;
-        self.names.push(access)?;
+        self.names.insert(BitName::of(&access))?;
         Ok(Some(row))
     }
 }
