@@ -137,6 +137,10 @@ abbrev pub shown_as : Monitored → GivenAccess
 shown_as (Made w) = shown_made w
 shown_as (Dropped d) = shown_dropped d
 
+-- An access without its words and its cell. The left edge of a picture needs no more of the accesses before it.
+abbrev pub without_words : GivenAccess → GivenAccess
+without_words access = record access { words = []; cell = [] }
+
 -- What a picture shows of the access of an entry, where these entries came before it. An access that is not possible is not shown, and
 -- counts for nothing later.
 abbrev pub shown_access : Setup → WaveLimit → Past → Entry → Option GivenAccess

@@ -3,7 +3,7 @@ ghost use Rattle.std.specs.Prelude.{◌≡◌, ◌++◌, codes, IfOk, OnOk, opti
 ghost use Rattle.picture_layout.specs.{given_access, given_change};
 ghost use Rattle.record_file.specs.scenario.{bit_word};
 ghost use Rattle.record_file.specs.{copy_word};
-ghost use Rattle.record_accesses.specs.Accesses.{shown_as, shown_change, shown_dropped, shown_made};
+ghost use Rattle.record_accesses.specs.Accesses.{shown_as, shown_change, shown_dropped, shown_made, without_words};
 ghost use Rattle.record_accesses.specs.Words.{unlike, words_of};
 
 use crate::monitored::{BitChange, DroppedRead, Monitored, MonitoredBitAccess};
@@ -26,24 +26,47 @@ impl Monitored {
             Monitored::Dropped(read) => read.shown(alloc),
         }
     }
+
+    /// Returns what is shown, without its words and its cell.
+    ///
+    /// # Errors
+    ///
+    /// Returns [`AllocError`] if memory runs out.
+    pub fn passed(&self, alloc: Global) -> Result<ShownAccess, AllocError>
+        ensures { IfOk result (λ access. given_access access ≡ without_words (shown_as self.now)) }
+    {
+        match self {
+            Monitored::Made(access) => access.passed(alloc),
+            Monitored::Dropped(read) => Ok(read.passed(alloc)),
+        }
+    }
 }
 
 impl DroppedRead {
-    /// Returns the end of the read, without words.
+    /// Returns the end of the read, which has no words.
     fn shown(&self, alloc: Global) -> Result<ShownAccess, AllocError>
         ensures { IfOk result (λ access. given_access access ≡ shown_dropped self.now) }
     {
-        Ok(ShownAccess {
+        let mut access = self.passed(alloc);
+        access.cell = cell_name(alloc, &self.read.access)?;
+        Ok(access)
+    }
+
+    /// Returns the end of the read, without its cell.
+    fn passed(&self, alloc: Global) -> ShownAccess
+        ensures { given_access result ≡ without_words (shown_dropped self.now) }
+    {
+        ShownAccess {
             event: self.event,
             process: self.process,
             kind: AccessKind::Read,
             step: AccessStep::End,
             begin: self.read.entry,
             words: Vec::new(alloc),
-            cell: cell_name(alloc, &self.read.access)?,
+            cell: Vec::new(alloc),
             overlaps: [false; 16],
             change: None,
-        })
+        }
     }
 }
 
@@ -52,14 +75,25 @@ impl MonitoredBitAccess {
     fn shown(&self, alloc: Global) -> Result<ShownAccess, AllocError>
         ensures { IfOk result (λ access. given_access access ≡ shown_made self.now) }
     {
+        let mut access = self.passed(alloc)?;
+        access.words = words(alloc, self.written, self.access.how)?;
+        access.cell = cell_name(alloc, &self.access)?;
+        Ok(access)
+    }
+
+    /// Returns the access without its words and its cell.
+    fn passed(&self, alloc: Global) -> Result<ShownAccess, AllocError>
+        ensures { IfOk result
+            (λ access. given_access access ≡ without_words (shown_made self.now)) }
+    {
         Ok(ShownAccess {
             event: self.event,
             process: self.process,
             kind: kind(self.access.how),
             step: self.step,
             begin: self.begin,
-            words: words(alloc, self.written, self.access.how)?,
-            cell: cell_name(alloc, &self.access)?,
+            words: Vec::new(alloc),
+            cell: Vec::new(alloc),
             overlaps: self.overlaps,
             change: self.shown_change(alloc)?,
         })
