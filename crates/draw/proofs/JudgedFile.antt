@@ -86,7 +86,7 @@ module _ {H : Type 0} (HasObserved : H → Setup → List Entry → List ℕ →
   judged_start to_come ahead taken reader j t first fresh open_yet none stands begun =
       subst (λ (l : List ℕ). Judged HasObserved Keeps finds_good to_come (prepend_known l (unless_ended ahead.ended to_come)) taken reader j true t first first) (sym fresh)
       (subst (λ (b : Bool). Judged HasObserved Keeps finds_good to_come (prepend_known [] (unless_ended b to_come)) taken reader j true t first first) (sym open_yet)
-      (record { onwards = record { before = None; entries = []; numbers = []; stands = stands; few = omega arith; goes_on = goes_on_at_first to_come taken none }; shown = (nobody j stands.observed, begun) }))
+      (record { onwards = record { before = None; entries = []; numbers = []; view_of = stands; few = omega arith; goes_on = goes_on_at_first to_come taken none }; shown = (nobody j stands.observed, begun) }))
     where
       nobody : (j : Option H) → ObservesAt HasObserved j None [] [] → good_in finds_good j ≡ true
       nobody None observed = refl
@@ -122,7 +122,7 @@ module _ {H : Type 0} (HasObserved : H → Setup → List Entry → List ℕ →
       ((before : Option Progress) (entries : List Entry) (numbers : List ℕ) → ObserverStands HasObserved reader j before entries numbers → ObservesOn HasObserved n line before reader' j' entries numbers) → Judged HasObserved Keeps finds_good to_come rest l'.taken reader' j' b t first now
   judged_observed to_come mid rest l l' n line reader reader' j j' t first now b stopped u takes number is observes =
       let v = u.onwards in
-      let on = observed_at n line l' v.before reader' j' v.entries v.numbers number is (observes v.before v.entries v.numbers v.stands) in
+      let on = observed_at n line l' v.before reader' j' v.entries v.numbers number is (observes v.before v.entries v.numbers v.view_of) in
       record {
         onwards = onwards_on HasObserved to_come mid rest l l' reader reader' j j' v takes on;
         shown = subst (λ b. IsShown Keeps finds_good b j' t (cleared on.now) (v.entries ++ entry_in on.now) first now) (sym stopped)
@@ -150,7 +150,7 @@ module _ {H : Type 0} (HasObserved : H → Setup → List Entry → List ℕ →
         entries = v.entries;
         numbers = v.numbers;
         says = subst (λ n. IfSome to_come (SaysAll v.before v.entries v.numbers n)) (sym same) (of_input to_come mid (GoesOnTo v.before v.entries v.numbers taken) (λ y. y ≡ []) (SaysAll v.before v.entries v.numbers taken) (says_all v.before v.entries v.numbers taken) v.goes_on (at_end mid end));
-        stands = v.stands;
+        stands = v.view_of;
         shows = b;
         shown = u.shown;
       }
@@ -214,7 +214,7 @@ module _ {H : Type 0} (HasObserved : H → Setup → List Entry → List ℕ →
   -- a line that was heard and drawn
   shown_on : (n : ℕ) (line : List ℕ) (j j' : Option H) (t t' : RecordPicture) (before reader : Option Progress) (entries : List Entry) (numbers : List ℕ) (first now after : Option (List ℕ)) → IsShown Keeps finds_good true j t before entries first now → ObservesAt HasObserved j before entries numbers →
       (on : ObservesOn HasObserved n line before reader j' entries numbers) → GoesOn (line_read line before) t' (reverse entries) first after → (b : Bool) → b ≡ good_in finds_good j' → IsShown Keeps finds_good b j' t' (cleared on.now) (entries ++ entry_in on.now) first after
-  shown_on n line j j' t t' before reader entries numbers first now after shown observed on drawn b is = by b j' on.stands.observed is
+  shown_on n line j j' t t' before reader entries numbers first now after shown observed on drawn b is = by b j' on.view_of.observed is
     where
       same : drawn.now ≡ on.now
       same = let both : (let r : Result (Option Progress) FaultKind = Ok drawn.now in r) ≡ Ok on.now = sym drawn.says ∙ on.says in cc
@@ -242,7 +242,7 @@ module _ {H : Type 0} (HasObserved : H → Setup → List Entry → List ℕ →
   judged_shown to_come mid rest l l' n line reader reader' j j' t t' first now after b b' shows u takes number is observes draws good =
       let v = u.onwards in
       let shown : IsShown Keeps finds_good true j t v.before v.entries first now = subst (λ b. IsShown Keeps finds_good b j t v.before v.entries first now) shows u.shown in
-      let on = observed_at HasObserved Keeps finds_good n line l' v.before reader' j' v.entries v.numbers number is (observes v.before v.entries v.numbers v.stands) in
+      let on = observed_at HasObserved Keeps finds_good n line l' v.before reader' j' v.entries v.numbers number is (observes v.before v.entries v.numbers v.view_of) in
       record {
         onwards = onwards_on HasObserved to_come mid rest l l' reader reader' j j' v takes on;
         shown = shown_on l'.taken l'.line j j' t t' v.before reader' v.entries v.numbers first now after shown v.stands.observed on (subst (λ (line : List ℕ). GoesOn (line_read line v.before) t' (reverse v.entries) first after) is (draws v.before (reverse v.entries) first shown.1)) b' good;

@@ -12,7 +12,6 @@ pub mod Giving
 pub mod Drawn
 -- What parts give, and how they are drawn
 pub mod AccessItems
-mod Passing
 pub mod PartsRead
 pub mod Drawings
 -- Runs

@@ -1,10 +1,9 @@
 -- What a picture is told, item by item, as values: its lines, the reads that writes overlapped, and accesses.
-use Rattle.std.specs.Prelude.{ℕ, zero, suc, Bool, true, false, List, [], ◌∷◌, ◌++◌, flat_map, length, map, string_bytes, Option, None, Some, option_map}
-use Rattle.std.specs.Vec.{with_items}
+use Rattle.std.specs.Prelude.{ℕ, zero, suc, Bool, List, [], ◌∷◌, ◌++◌, flat_map, length, map, string_bytes, Option, None, Some, option_map}
 use Rattle.model.specs.plain_store.{Setup}
 use Rattle.model.specs.{Entry, Mark, Past, Refusal}
 use Rattle.picture.specs.{Accesses, Item, Judges, Reads, SeenVerdict, Reports, Window, lines_if, seen_verdict, shows_after, shows_end, shows_entry, verdict_titles}
-use Rattle.picture.specs.picture_layout.{GivenAccess, OverlappedRead, LineContent, ShownAccess, given_access, like, lock_ended_text, lock_marked_text}
+use Rattle.picture.specs.picture_layout.{GivenAccess, OverlappedRead, LineContent, given_access, like, lock_ended_text, lock_marked_text}
 use Rattle.picture.specs.picture_layout.trace.{LockMark}
 use Rattle.picture.specs.shown_verdict.{report_lines, verdict_of}
 use Rattle.picture.specs.picture_layout.run_lines.{ended_text, marked_text, refused_text, shown_text, tired_text}
@@ -14,7 +13,7 @@ use Rattle.draw.specs.Overlaps.{overlapped_by, shown_of}
 use Rattle.draw.specs.StoreChanges.{Changed, changed}
 use Rattle.draw.specs.TakenStores.{change_of}
 use Rattle.draw.specs.declared.views.AccessView.{AccessView}
-use Rattle.record_accesses.specs.{WaveLimit, shown_access, without_words}
+use Rattle.record_accesses.specs.{WaveLimit, shown_access}
 use Rattle.picture.specs.declared.reads.Reads.TheVariants as modes
 
 -- what a line says
@@ -128,15 +127,6 @@ end_given mode source at reads (byte ∷ reported) last =
 abbrev pub gives_access : Option GivenAccess → List Gives
 gives_access None = []
 gives_access (Some access) = GivesAccess access ∷ []
-
--- what is passed on of an access: its words and its cell only if the window does not come after its entry
-abbrev pub passed_if_before : Bool → Option GivenAccess → Option GivenAccess
-passed_if_before true access = option_map without_words access
-passed_if_before false access = access
-
--- an access, with other words and another cell
-abbrev pub with_words : (words cell : List ℕ) → ShownAccess → ShownAccess
-with_words words cell access = record access { words = with_items access.words words; cell = with_items access.cell cell }
 
 -- the item of the access of an entry that comes after a past, if all accesses are shown
 abbrev pub given_access_of : Mode → WaveLimit → Setup → Past → Entry → List Gives

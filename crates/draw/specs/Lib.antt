@@ -23,7 +23,7 @@ pub mod Sheets
 pub use PictureForm.{EndsPage, IsAround}
 pub use Canvases.{Draws, DrawsBands, DrawsLast, DrawsLines, DrawsMarks, DrawsOn, DrawsRest, DrawsUpToVerdict, Fills, Kept, Writes, kept, kept_at_first, plan_of, trace_plan}
 pub use StoresBefore.{IsStoreBefore, KeepsStore, entries_before, store_before}
-pub use Items.{Gives, GivesAccess, GivesLine, GivesRead, GivesVerdict, Part, PartEntry, PartLine, Says, SaysEnd, SaysLockEnd, SaysLockMark, SaysMark, SaysRefusal, SaysStore, SaysTired, end_given, entries_among, given, given_access_of, given_all, given_last, given_of, gives_access, lines_given, mark_given, marks_after, marks_back, marks_given, marks_says, part_texts, parts_texts, passed_if_before, reads_since, says_marks, says_of, says_text, shows_says, text_given, text_shown, texts_given, texts_shown, waiting, with_words}
+pub use Items.{Gives, GivesAccess, GivesLine, GivesRead, GivesVerdict, Part, PartEntry, PartLine, Says, SaysEnd, SaysLockEnd, SaysLockMark, SaysMark, SaysRefusal, SaysStore, SaysTired, end_given, entries_among, given, given_access_of, given_all, given_last, given_of, gives_access, lines_given, mark_given, marks_after, marks_back, marks_given, marks_says, part_texts, parts_texts, reads_since, says_marks, says_of, says_text, shows_says, text_given, text_shown, texts_given, texts_shown, waiting}
 pub use Overlaps.{Observes, ObservesAll, ReportsEnd, ReportsOver, Monitors, begun_with, ended_of, first_three, is_there, overlapped_by, overlapped_with, read_begun, read_ended, shown_of}
 pub use StoreChanges.{Changed, change_by, changed, store_words, words_by}
 pub use TakenStores.{IsAfterMarks, after_call, call_after, called_by, change_by_call, change_of, change_with, next_number, no_call, store_by, store_with, taken_by}

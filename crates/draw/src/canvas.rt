@@ -1,6 +1,6 @@
 //! The canvas of a picture: a page that shows a window and writes each band as soon as the band is full, and the overlapped
 //! reads that it shows.
-ghost use Rattle.std.specs.Prelude.{◌≡◌, ◌+◌, ◌-◌, ◌^◌, ◌<◌, ℕ, List, [], ◌∷◌, ◌++◌, is_some, length, map, nat_lt, option_map, true, IfErr, IfOk, None, OnOk, Ok};
+ghost use Rattle.std.specs.Prelude.{◌≡◌, ◌+◌, ◌-◌, ◌^◌, ◌<◌, List, [], ◌∷◌, ◌++◌, is_some, length, map, IfErr, IfOk, None, OnOk, Ok};
 ghost use Rattle.model.specs.plain_store.{checked};
 ghost use Rattle.model.specs.plain_store.declared.setups.Setup.{Setup as Given};
 ghost use Rattle.model.specs.{Entry, Mark as Marked, Past};
@@ -9,7 +9,7 @@ ghost use Rattle.picture.specs.picture_layout.{given_access};
 ghost use Rattle.picture.specs.picture_layout.declared.reads.OverlappedRead.{OverlappedRead as Ended};
 ghost use Rattle.picture.specs.declared.reads.Reads.{Reads as Mode};
 ghost use Rattle.draw.specs.Canvases.{DrawsLast, DrawsLines, DrawsMarks, DrawsOn, DrawsUpToVerdict, kept, kept_at_first, plan_of, trace_plan};
-ghost use Rattle.draw.specs.Items.{GivesAccess, GivesRead, gives_access, passed_if_before, says_of, with_words};
+ghost use Rattle.draw.specs.Items.{GivesAccess, GivesRead, gives_access, says_of};
 ghost use Rattle.draw.specs.Overlaps.{ObservesAll, ReportsEnd, overlapped_by, shown_of};
 ghost use Rattle.draw.specs.TakenStores.{IsAfterMarks};
 ghost use Rattle.draw.specs.Writing.{IsWriteFault, failed_write};
@@ -239,8 +239,7 @@ impl Canvas {
     }
 
     /// Draws the part of an access that an entry makes, and writes the band before it if the band has no room for the
-    /// access. An access is not a line. The marks of its entry are drawn after it, and join its column. The words and the cell
-    /// of an access before the window change nothing.
+    /// access. An access is not a line. The marks of its entry are drawn after it, and join its column.
     ///
     /// # Errors
     ///
@@ -249,10 +248,6 @@ impl Canvas {
         requires { W.failures output.old < 2 ^ 64 - 1 }
         ensures drawn { OnOk result (DrawsOn (kept self.old) (kept self.new)
             (W.taken output.old) (W.taken output.new) (GivesAccess (given_access access) ∷ [])) }
-        ensures passed { OnOk result ((words cell : List ℕ) →
-            nat_lt access.event self.old.page.window.from ≡ true →
-            DrawsOn (kept self.old) (kept self.new) (W.taken output.old) (W.taken output.new)
-            (GivesAccess (given_access (with_words words cell access)) ∷ [])) }
         ensures overlaps { self.new.overlaps ≡ self.old.overlaps }
         ensures fault { IfErr result IsWriteFault }
         ensures failures { W.failures output.new ≡ W.failures output.old + failed_write result }
@@ -290,39 +285,10 @@ impl Canvas {
         ensures fault { IfErr result IsWriteFault }
         ensures failures { W.failures output.new ≡ W.failures output.old + failed_write result }
     {
-        match self.monitored(monitor, number, process, access, drops_read)? {
+        let alloc = self.alloc;
+        match monitor.observe_access(alloc, number, process, access, drops_read)? {
             None => Ok(()),
             Some(shown) => self.draw_access(shown, output),
-        }
-    }
-
-    /// Observes the access of the entry with this number, and returns what is shown of it: without words and cell if the window
-    /// comes after the entry.
-    fn monitored(
-        &self,
-        monitor: &mut RecordAccessMonitor,
-        number: u64,
-        process: u8,
-        access: &Option<Access>,
-        drops_read: bool,
-    ) -> Result<Option<ShownAccess>, AllocError>
-        ensures monitored { OnOk result
-            ((s : Given) (limit : Limit) (past : Past) (marks : List Marked) →
-            HasMonitored monitor.old s limit past → number ≡ length past →
-            drops marks ≡ drops_read →
-            HasMonitored monitor.new s limit (entry_with process access.now marks ∷ past)) }
-        ensures shown { IfOk result
-            (λ shown. (s : Given) (limit : Limit) (past : Past) (marks : List Marked) →
-            HasMonitored monitor.old s limit past → number ≡ length past →
-            drops marks ≡ drops_read →
-            option_map given_access shown
-            ≡ passed_if_before (nat_lt number self.now.page.window.from)
-            (shown_access s limit past (entry_with process access.now marks))) }
-    {
-        if self.page.is_after_entry(number) {
-            monitor.pass_access(self.alloc, number, process, access, drops_read)
-        } else {
-            monitor.observe_access(self.alloc, number, process, access, drops_read)
         }
     }
 

@@ -104,12 +104,12 @@ returns-in-Some g c =
     let t = c.lines.sheet in
     let d : DrawnEntry = c.in-Some.drawn in
     let ended = c.in_ok-end.ensures in
-    let read = read_some t.reader (subst (λ (o : Option DrawnEntry). IfSome o (λ _. IsSome t.reader)) c.in-Some.is ended.some) in
+    let read = read_some t.reader (subst (λ (o : Option DrawnEntry). IfSome o (λ _. IsSome t.reader)) c.in-Some.is ended.present) in
     let drawn = λ (m : PictureOptions) (f : Form). IfSome all (DrawsAllBands m f d first then) in
     record {
       drawn = subst (λ (m : PictureOptions). drawn m c.args.sheet.now.form) c.lines.invariant.options (subst (λ (f : Form). drawn t.options f) c.lines.invariant.form
           (onwards_drawn all mid c.lines.lines.taken t first now then c.lines.invariant.onwards read.0 d read.1 ends.before
-          (subst (λ (o : Option DrawnEntry). IfSome o (λ d. (p : Progress) (past : Past) (first : Option (List ℕ)) → t.reader ≡ Some p → Stands t (Some p) past first now → (d.setup ≡ p.head.setup) × EndsAsked t.options t.form p.head.setup past [] d.shows d.opening.items d.height first then)) c.in-Some.is ended.ok)));
+          (subst (λ (o : Option DrawnEntry). IfSome o (λ d. (p : Progress) (past : Past) (first : Option (List ℕ)) → t.reader ≡ Some p → Stands t (Some p) past first now → (d.setup ≡ p.head.setup) × EndsAsked t.options t.form p.head.setup past [] d.shows d.opening.items d.height first then)) c.in-Some.is ended.drawn)));
       good = subst (λ (o : Option DrawnEntry). IfSome o (λ d. checked d.setup ≡ Ok tt)) c.in-Some.is ended.good;
       end = c.in_ok-next.ensures.holds c.lines.invariant.holds (c.in_ok-next.ensures.ended c.if-branch.false);
       fault = tt;

@@ -108,7 +108,7 @@ returns-in-Err g c =
     let rest = coming c.next.new.self.ahead (g.R.Source.to_come c.next.new.input) in
     let v = c.lines.invariant.judged.onwards in
     let takes = subst (λ (b : Bool). GoesToNext (Ok b) c.lines.lines c.next.new.self mid rest) c.if-branch.true c.in_ok-next.ensures.next in
-    let why = subst (λ (line : List ℕ). UnlessMemory c.in-Err.kind (line_read line v.before ≡ Err c.in-Err.kind)) c.line-line.ensures (c.in-Err.ensures v.before v.entries v.numbers v.stands) in
+    let why = subst (λ (line : List ℕ). UnlessMemory c.in-Err.kind (line_read line v.before ≡ Err c.in-Err.kind)) c.line-line.ensures (c.in-Err.ensures v.before v.entries v.numbers v.view_of) in
     let kind = onwards_fault g.H.EntryObserver.HasObserved all mid rest c.lines.lines c.next.new.self _ _ c.in-Err.kind v takes why in
     record {
       read = tt;

@@ -9,7 +9,7 @@ returns g c =
     let view = full_view c.args.options in
     let drawn = c.draw_lines.ensures in
     record {
-      drawn = IfOk-weaker c.draw_lines.result _ _ (λ answer is. is plan view begun.first begun.recalls) drawn.ok;
+      drawn = IfOk-weaker c.draw_lines.result _ _ (λ answer is. is plan view begun.first begun.recalls) drawn.drawn;
       summary = IfOk-weaker c.draw_lines.result _ _ (λ answer is. is plan view begun.first begun.recalls) drawn.summary;
       opening = IfOk-weaker c.draw_lines.result _ _ (λ answer is. is plan view begun.first begun.recalls) drawn.opening;
       fault = drawn.fault;

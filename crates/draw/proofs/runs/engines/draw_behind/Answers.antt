@@ -12,6 +12,6 @@ returns-clause-drawn g c =
       drawn = mid;
       height = _;
       first = c.in_ok-write_markup.ensures.written;
-      bands = drawn.ok;
+      bands = drawn.drawn;
       last = subst (λ (words : List ℕ). EndsPage words mid last) (c.as_slice.ensures.value ∙ drawn.opening) c.in_ok-write_page_end.ensures.ends;
     }

@@ -10,7 +10,7 @@ returns g c =
     record {
       drawn = ok_then c.draw_behind.result
           (draws_page c.args.options c.args.file.now (script c.args.scenario.now) (g.W.Sink.taken c.args.output.now) (g.W.Sink.taken c.draw_behind.new.output) c.in_ok-head.head head.draws head.lines head.elements)
-          drew.ok;
+          drew.drawn;
       summary = drew.summary;
       fault = drew.fault;
       failures = drew.failures;

@@ -14,7 +14,7 @@ returns g c =
       drawn = ok_then c.draw_framed.result
           (λ framed. draws_framed c.args.options (form.Picture c.args.top) c.args.file.now said (g.W.Sink.taken c.args.output.now) (g.W.Sink.taken c.draw_framed.new.output) c.in_ok-head.head c.in_ok-head.end picture_names around.elements framed
           (is_picture c.args.top c.args.options c.args.file.now said c.in_ok-head.head c.in_ok-head.end _ _ _ _ _ _ c.in_ok-first.ensures.drawn framed.bands around.front around.back))
-          drew.ok;
+          drew.drawn;
       summary = drew.summary;
       fault = drew.fault;
       failures = drew.failures;
