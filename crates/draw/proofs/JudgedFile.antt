@@ -245,7 +245,7 @@ module _ {H : Type 0} (HasObserved : H → Setup → List Entry → List ℕ →
       let on = observed_at HasObserved Keeps finds_good n line l' v.before reader' j' v.entries v.numbers number is (observes v.before v.entries v.numbers v.view_of) in
       record {
         onwards = onwards_on HasObserved to_come mid rest l l' reader reader' j j' v takes on;
-        shown = shown_on l'.taken l'.line j j' t t' v.before reader' v.entries v.numbers first now after shown v.stands.observed on (subst (λ (line : List ℕ). GoesOn (line_read line v.before) t' (reverse v.entries) first after) is (draws v.before (reverse v.entries) first shown.1)) b' good;
+        shown = shown_on l'.taken l'.line j j' t t' v.before reader' v.entries v.numbers first now after shown v.view_of.observed on (subst (λ (line : List ℕ). GoesOn (line_read line v.before) t' (reverse v.entries) first after) is (draws v.before (reverse v.entries) first shown.1)) b' good;
       }
 
   -- The end.
