@@ -36,8 +36,8 @@ from second.record_files import read_record
 UNSAID = re.compile(r"- \d+ (refused|turns)|show ")
 # what each picture has of the file that it was drawn from: the list of its lines, and which of these made a mark
 LIST = re.compile(r"<details open>.*?</details>\n", re.DOTALL)
-# how the heading begins, which names the kind of the file
-HEADING = re.compile(r"(?:Run|Record) of \d+ process(?:es)? \((?:bakery|record) ")
+# the title of a page, which may be a comment of its file, and how the heading begins, which names the kind of the file
+HEADING = re.compile(r"<title>[^<]*</title>(?=\n<style>)|(?:Run|Record) of \d+ process(?:es)? \((?:bakery|record) ")
 BY_LINE = re.compile(r' data-l="\d+"')
 END = re.compile(r"(end events \d+ taken \d+ refused )\d+")
 # the most entries of a picture that shows accesses without being asked to, and of one that is drawn with all accesses here

@@ -45,7 +45,10 @@ REFUSED = (2, b"", b"--reads is for runs and records; a trace of up to 400 entri
 # the words for each picture next to an example
 KEPT = {"draw.html": ["draw"], "draw-svg.svg": ["draw-svg"], "draw-svg-judge.svg": ["draw-svg", "--judge"]}
 # what only a run or a record has
-OF_A_RUN = [">history<", "bakery", "line('store'", "scenario"]
+OF_A_RUN = [">history<", "line('store'", "scenario"]
+# what a reader of the page of a trace must not see; its script looks for such a line in each list
+UNSEEN = "bakery"
+SCRIPT = re.compile(r"<script>.*?</script>", re.DOTALL)
 
 
 def heard(page):
@@ -89,6 +92,8 @@ def page_faults(page, read, wanted):
     if re.findall("<title>([^<]*)</title>\n<style>", page) != [title_of(read)]:
         yield "the page has another title"
     yield from (f"the page has {words}" for words in OF_A_RUN if words in page)
+    if UNSEEN in SCRIPT.sub("", page):
+        yield f"the page shows {UNSEEN}"
 
 
 def drawn_faults(file, read, options, status, told):
