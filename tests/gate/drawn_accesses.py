@@ -127,12 +127,14 @@ def wave_faults(seen, shown, places, waves, end):
 def band_faults(seen, wanted, shown):
     """What is wrong with the boxes and the ties of a band."""
     tops = {}
-    for process, style, begin, end in wanted.boxes:
-        own = [box for box in seen.boxes if box[:3] == (style, begin, end) and tops.get(process, box.top) == box.top]
+    # (two processes may have the same box; the lane of the lower one is above)
+    for process, style, begin, end in sorted(wanted.boxes, key=lambda box: box[0]):
+        free = [tops[process]] if process in tops else {box.top for box in seen.boxes} - set(tops.values())
+        own = [box for box in seen.boxes if box[:3] == (style, begin, end) and box.top in free]
         if not own:
             yield f"process {process} has no box {style} from {begin} to {end}; {seen.boxes[:9]}"
             continue
-        tops[process] = own[0].top
+        tops[process] = min(box.top for box in own)
     if len(seen.boxes) != len(wanted.boxes):
         yield f"{len(seen.boxes)} boxes, not {len(wanted.boxes)}"
     if sorted(tops.values()) != [tops[process] for process in sorted(tops)]:

@@ -11,7 +11,7 @@ from typing import NamedTuple
 from lib.places import TOP
 
 SOURCES = TOP / "crates" / "command_line" / "src"
-ROW_TYPE = ["(", "&", "str", ",", "Engine", ",", "Intake", ",", "&", "[", "&", "str", "]", ",", "&", "str", ",", "&", "str", ")"]
+ROW_TYPE = ["(", "&", "str", ",", "Engine", ",", "InputMode", ",", "&", "[", "&", "str", "]", ",", "&", "str", ",", "&", "str", ")"]
 TOKEN = re.compile(r'\s*(?:(?P<comment>//[^\n]*)|(?P<token>"(?:[^"\\]|\\.)*"|\w+(?:::\w+)*|[^\s\w"]))', re.S)
 ESCAPES = {r"\"": '"', r"\\": "\\", r"\n": "\n", r"\t": "\t"}
 OPTION = re.compile(r"  --(?P<name>[a-z][a-z-]*)(?: (?P<value>[A-Z]+))?  +(?P<text>\S.*)")
