@@ -65,14 +65,6 @@ impl WindowedPage {
         self.page.height()
     }
 
-    /// Returns whether the window comes after an entry.
-    #[inline]
-    pub fn is_after_entry(&self, entry: u64) -> bool
-        ensures { result ≡ nat_lt entry self.now.window.from }
-    {
-        self.window.is_after_entry(entry)
-    }
-
     /// Adds the next line, and returns the band before it, if that is full. A line before the window changes the state at
     /// the left edge; one after it is not shown. The lines of the band, and then those that are held back, are the lines
     /// that were held back before, and this one, if it is shown. In the band each element that begins ends.

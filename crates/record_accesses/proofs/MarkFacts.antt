@@ -1,5 +1,5 @@
 -- The boxes of reads are marked by the safe rule.
-use Rattle.std.proofs.Common.{◌≡◌, ◌≢◌, ◌⊎◌, ℕ, zero, suc, ◌+◌, ◌<◌, ◌==◌, Bool, true, false, ◌||◌, ◌&&◌, nat_lt, cond, List, [], ◌∷◌, ◌++◌, Option, None, Some, get_or, is_some, length, option_map, replicate, refl, sym, ap, ◌∙◌, subst, inl, inr, true≢false, eq-eqb, arith, length-append}
+use Rattle.std.proofs.Common.{◌≡◌, ◌≢◌, ◌⊎◌, ℕ, zero, suc, ◌+◌, ◌<◌, ◌==◌, Bool, true, false, ◌||◌, ◌&&◌, nat_le, nat_lt, cond, List, [], ◌∷◌, ◌++◌, Option, None, Some, get_or, is_some, length, option_map, replicate, refl, sym, ap, ◌∙◌, subst, inl, inr, true≢false, eq-eqb, arith, length-append}
 use Rattle.std.proofs.Math.Seq.{get_or-append_seam}
 use Rattle.std.proofs.lemmas.Bool.{cases_eq, lt-ltb, ne_eqb}
 use Rattle.std.proofs.lemmas.List.{get_or-replicate, get_or_append_left}
@@ -10,7 +10,7 @@ use Rattle.plain_store.proofs.GoodSetups.{few-processes}
 use Rattle.model.specs.safe_bit.{Move, is_begin, is_begin_of_read, is_overlapped, is_write_open}
 use Rattle.model.specs.safe_bit.declared.Move.TheVariants.{BeginWrite, EndWrite, BeginRead, EndRead, Settle}
 use Rattle.model.specs.{Access, Mark, Past, moves_of, same_bit}
-use Rattle.record_accesses.specs.{AreOwnReads, AreShown, IsOwnRead, IsPossible, MarksOverlappedReads, OpenBitAccess, WaveLimit, begun_by, box_of, dropped, dropped_as, drops, entry_with, first_overlaps, is_writer, kind_of, left_open, opened, overlaps_by, overlaps_with, possible_access, possible_past, shown_as, shown_made, step_by, monitored, monitored_by, write_of, writer_of, writer_with, writes_bit}
+use Rattle.record_accesses.specs.{AreOwnReads, AreShown, IsOwnRead, IsPossible, MarksOverlappedReads, OpenBitAccess, WaveLimit, begun_by, box_of, dropped, dropped_as, drops, entry_with, first_overlaps, is_writer, kind_of, left_open, opened, overlaps_by, overlaps_with, possible_access, possible_past, shown_by, step_by, Monitored, monitored, monitored_by, write_of, writer_of, writer_with, writes_bit}
 use Rattle.record_accesses.specs.declared.monitored.Monitored.TheVariants.{Made}
 use Rattle.record_accesses.proofs.BitFacts.{writer-open}
 use Rattle.record_accesses.proofs.OpenFacts.{opened-other, opened-own}
@@ -150,19 +150,22 @@ module _ (s : Setup) (limit : WaveLimit) (past : Past) (p : ℕ) (exists : p < s
   abbrev P : Past
   P = possible_past s past
 
+  abbrev given_by : Monitored → GivenAccess
+  given_by = shown_by (nat_le limit.from (length past))
+
   -- An entry of the process itself.
 
-  own-still : (marks : List Mark) (o : OpenBitAccess) → option_map given_access x ≡ option_map shown_as (monitored s limit P (entry_with p None marks)) → is_begin_of_read o.access.how ≡ true →
+  own-still : (marks : List Mark) (o : OpenBitAccess) → option_map given_access x ≡ option_map given_by (monitored s limit P (entry_with p None marks)) → is_begin_of_read o.access.how ≡ true →
       left_open (drops marks) (opened p P) ≡ Some o → (opened p P ≡ Some o → before ≡ Some (marked (is_overlapped (moves_of o.access P)))) →
       open_with p before x ≡ Some (marked (is_overlapped (moves_of o.access P)))
   own-still marks o shown read h rest =
       let kept = kept-read (drops marks) (opened p P) o h read in
       let old : opened p P ≡ Some o = ap (λ d. left_open d (opened p P)) (sym kept) ∙ h in
-      let nothing : option_map shown_as (monitored s limit P (entry_with p None marks)) ≡ None =
-      (λ i. option_map shown_as (cond (lt-ltb p s.processes exists i) (option_map (dropped_as (length P) p) (dropped (kept i) (opened p P))) None)) in
+      let nothing : option_map given_by (monitored s limit P (entry_with p None marks)) ≡ None =
+      (λ i. option_map given_by (cond (lt-ltb p s.processes exists i) (option_map (dropped_as (length P) p) (dropped (kept i) (opened p P))) None)) in
       box-none p before x (shown ∙ nothing) ∙ rest old
 
-  own-read : (marks : List Mark) (a : Access) (o : OpenBitAccess) → option_map given_access x ≡ option_map shown_as (monitored s limit P (entry_with p (Some a) marks)) → is_begin_of_read o.access.how ≡ true →
+  own-read : (marks : List Mark) (a : Access) (o : OpenBitAccess) → option_map given_access x ≡ option_map given_by (monitored s limit P (entry_with p (Some a) marks)) → is_begin_of_read o.access.how ≡ true →
       left_open (drops marks) (begun_by (length P) (Some a) (opened p P)) ≡ Some o →
       open_with p before x ≡ Some (marked (is_overlapped (moves_of o.access (entry_with p (Some a) marks ∷ P))))
   own-read marks a o shown read h =
@@ -171,9 +174,9 @@ module _ (s : Setup) (limit : WaveLimit) (past : Past) (p : ℕ) (exists : p < s
       let is : mine ≡ o = own-begun (is_begin a.how) mine o (ap (λ d. left_open d (begun_by (length P) (Some a) (opened p P))) (sym kept) ∙ h) in
       let how : a.how ≡ BeginRead = is-read a.how (ap (λ (o : OpenBitAccess). is_begin_of_read o.access.how) is ∙ read) in
       let w = monitored_by s limit P (entry_with p (Some a) marks) a in
-      let some : option_map shown_as (monitored s limit P (entry_with p (Some a) marks)) ≡ Some (shown_made w) =
-      ap (λ t. option_map shown_as (cond t (Some (Made w)) None)) (lt-ltb p s.processes exists) in
-      box-some p before x (shown_made w) (shown ∙ some)
+      let some : option_map given_by (monitored s limit P (entry_with p (Some a) marks)) ≡ Some (given_by (Made w)) =
+      ap (λ t. option_map given_by (cond t (Some (Made w)) None)) (lt-ltb p s.processes exists) in
+      box-some p before x (given_by (Made w)) (shown ∙ some)
       ∙ ap (λ t. cond t (open_by w.step (kind_of a.how) (is_any w.overlaps)) (option_map (overlapped_if (get_or w.overlaps p false)) before)) (eq-eqb p p refl)
       ∙ (λ i. open_by (step_by (how i) (writes_bit (opened p P) a)) (kind_of (how i)) (begins-marked s past a few how i))
       ∙ ap (λ how. Some (marked (is_overlapped (how ∷ moves_of a P)))) (sym how)
@@ -188,14 +191,14 @@ module _ (s : Setup) (limit : WaveLimit) (past : Past) (p : ℕ) (exists : p < s
       (λ i. option_map (overlapped_if (none i)) (is i))
       ∙ ap (λ b. Some (marked b)) (or-false (is_overlapped (moves_of o.access P)))
 
-  other-still : (q : ℕ) (marks : List Mark) (o : OpenBitAccess) → option_map given_access x ≡ option_map shown_as (monitored s limit P (entry_with q None marks)) → p ≢ q →
+  other-still : (q : ℕ) (marks : List Mark) (o : OpenBitAccess) → option_map given_access x ≡ option_map given_by (monitored s limit P (entry_with q None marks)) → p ≢ q →
       before ≡ Some (marked (is_overlapped (moves_of o.access P))) → open_with p before x ≡ Some (marked (is_overlapped (moves_of o.access P)))
   other-still q marks o shown apart is = by (nat_lt q s.processes) (dropped (drops marks) (opened q P)) shown
     where
-      by : (t : Bool) (r : Option OpenBitAccess) → option_map given_access x ≡ option_map shown_as (cond t (option_map (dropped_as (length P) q) r) None) → open_with p before x ≡ Some (marked (is_overlapped (moves_of o.access P)))
+      by : (t : Bool) (r : Option OpenBitAccess) → option_map given_access x ≡ option_map given_by (cond t (option_map (dropped_as (length P) q) r) None) → open_with p before x ≡ Some (marked (is_overlapped (moves_of o.access P)))
       by true None h = box-none p before x h ∙ is
       by true (Some y) h =
-          box-some p before x (shown_as (dropped_as (length P) q y)) h
+          box-some p before x (given_by (dropped_as (length P) q y)) h
           ∙ ap (λ t. cond t None (option_map (overlapped_if (get_or (replicate 16 false) p false)) before)) (ne_eqb q p (λ e. apart (sym e)))
           ∙ unflagged o q (get_or (replicate 16 false) p false) (get_or-replicate 16 p false false (omega (arith, exists, few))) is
       by false r h = box-none p before x h ∙ is
@@ -219,17 +222,17 @@ module _ (s : Setup) (limit : WaveLimit) (past : Past) (p : ℕ) (exists : p < s
   quiet-writer None h = refl
   quiet-writer (Some r) h = ne_eqb r p (λ e. h (ap Some e))
 
-  other-made : (q : ℕ) (marks : List Mark) (a : Access) (o : OpenBitAccess) → option_map given_access x ≡ option_map shown_as (monitored s limit P (entry_with q (Some a) marks)) → p ≢ q → q < s.processes →
+  other-made : (q : ℕ) (marks : List Mark) (a : Access) (o : OpenBitAccess) → option_map given_access x ≡ option_map given_by (monitored s limit P (entry_with q (Some a) marks)) → p ≢ q → q < s.processes →
       (a.how ≡ BeginRead → a.reader ≡ q) → opened p P ≡ Some o → is_begin_of_read o.access.how ≡ true → IsOwnRead P p o.access → before ≡ Some (marked (is_overlapped (moves_of o.access P))) →
       open_with p before x ≡ Some (marked (is_overlapped (moves_of o.access (entry_with q (Some a) marks ∷ P))))
   other-made q marks a o shown apart there reader old read mine is =
       let w = monitored_by s limit P (entry_with q (Some a) marks) a in
-      let some : option_map shown_as (monitored s limit P (entry_with q (Some a) marks)) ≡ Some (shown_made w) =
-      ap (λ t. option_map shown_as (cond t (Some (Made w)) None)) (lt-ltb q s.processes there) in
+      let some : option_map given_by (monitored s limit P (entry_with q (Some a) marks)) ≡ Some (given_by (Made w)) =
+      ap (λ t. option_map given_by (cond t (Some (Made w)) None)) (lt-ltb q s.processes there) in
       let flag : get_or (first_overlaps P a 16) p false ≡ overlaps_by a.how a (writer_of a P) p (Some o) =
       flag-at P a 16 p (omega (arith, exists, few)) ∙ ap (overlaps_by a.how a (writer_of a P) p) old in
       let apart_reader : a.how ≡ BeginRead → same_bit o.access a ≡ true → ⊥ = λ how same. apart (sym mine.own ∙ ap (λ (b : Access). b.reader) (same-bare o.access a same) ∙ reader how) in
-      box-some p before x (shown_made w) (shown ∙ some)
+      box-some p before x (given_by (Made w)) (shown ∙ some)
       ∙ ap (λ t. cond t (open_by w.step (kind_of a.how) (is_any w.overlaps)) (option_map (overlapped_if (get_or w.overlaps p false)) before)) (ne_eqb q p (λ e. apart (sym e)))
       ∙ (λ i. option_map (overlapped_if (flag i)) (is i))
       ∙ ap (λ b. Some (marked b)) (flag-move o a a.how (writer_of a P) (moves_of o.access P) (same_bit o.access a) (quiet-writer (writer_of a P) (mine.calm a)) read refl apart_reader)
@@ -238,7 +241,7 @@ module _ (s : Setup) (limit : WaveLimit) (past : Past) (p : ℕ) (exists : p < s
 
   module _ (rest : (o : OpenBitAccess) → opened p P ≡ Some o → is_begin_of_read o.access.how ≡ true → Both p P before o) where
     abbrev Step : ℕ → Option Access → List Mark → OpenBitAccess → Type 0
-    Step q access marks o = option_map given_access x ≡ option_map shown_as (monitored s limit P (entry_with q access marks)) → ((a : Access) → access ≡ Some a → IsPossible s q a) → ((a : Access) → access ≡ Some a → a.how ≡ BeginRead → IsOwnRead P q a) →
+    Step q access marks o = option_map given_access x ≡ option_map given_by (monitored s limit P (entry_with q access marks)) → ((a : Access) → access ≡ Some a → IsPossible s q a) → ((a : Access) → access ≡ Some a → a.how ≡ BeginRead → IsOwnRead P q a) →
         opened p (entry_with q access marks ∷ P) ≡ Some o → is_begin_of_read o.access.how ≡ true → Both p (entry_with q access marks ∷ P) (open_with p before x) o
 
     still-own : (q : ℕ) (marks : List Mark) (o : OpenBitAccess) → Both p P before o → IsOwnRead (entry_with q None marks ∷ P) p o.access

@@ -1,11 +1,11 @@
 -- What the watch keeps after one more entry.
-use Rattle.std.proofs.Common.{◌≡◌, ℕ, ◌<◌, ◌≤◌, Bool, true, false, ◌&&◌, nat_lt, cond, List, ◌∷◌, Option, None, Some, length, option_map, Result, Ok, Err, IfOk, OnOk, is_ok, if◌then◌else◌, refl, sym, ap, ◌∙◌, subst, arith}
+use Rattle.std.proofs.Common.{◌≡◌, ℕ, ◌<◌, ◌≤◌, Bool, true, false, ◌&&◌, nat_le, nat_lt, cond, List, ◌∷◌, Option, None, Some, length, option_map, Result, Ok, Err, IfOk, OnOk, is_ok, if◌then◌else◌, refl, sym, ap, ◌∙◌, subst, arith}
 use Rattle.std.proofs.lemmas.Bool.{and_parts, ltb-true}
 use Rattle.std.proofs.lemmas.Bool.Decides.{nat_tests}
 use Rattle.laws.specs.{IsThere}
 use Rattle.plain_store.specs.{Setup}
 use Rattle.model.specs.{Access, Entry, Mark, Past, width}
-use Rattle.record_accesses.specs.{HasBits, HasOpened, HasTaken, HasMonitored, IsPossible, MonitorState, Monitored, OpenBitAccess, WaveLimit, drops, entry_with, is_there, opened_taken, possible_access, possible_past, shown_access, shown_as, monitored, monitored_of, waves_after, waves_since}
+use Rattle.record_accesses.specs.{HasBits, HasOpened, HasTaken, HasMonitored, IsPossible, MonitorState, Monitored, OpenBitAccess, WaveLimit, drops, entry_with, is_there, opened_taken, possible_access, possible_past, shown_access, shown_by, monitored, monitored_of, waves_after, waves_since}
 use Rattle.record_accesses.proofs.OpenFacts.{opened-step, opened-still}
 use Rattle.record_accesses.proofs.RowFacts.{bits-still}
 
@@ -74,12 +74,13 @@ monitored-on w new s limit past p access marks h setup same taken = record {
 }
 
 -- what is shown of it
-pub shown-on : (w : MonitorState) (s : Setup) (limit : WaveLimit) (past : Past) (p : ℕ) (access : Option Access) (marks : List Mark) (o : Option Monitored) → HasMonitored w s limit past →
+pub shown-on : (w : MonitorState) (from number : ℕ) (s : Setup) (limit : WaveLimit) (past : Past) (p : ℕ) (access : Option Access) (marks : List Mark) (o : Option Monitored) → HasMonitored w s limit past →
+    from ≡ w.limit.from → number ≡ length past →
     o ≡ monitored w.setup w.limit (possible_past s past) (entry_with p (possible_access w.setup p access) marks) →
-    option_map shown_as o ≡ shown_access s limit past (entry_with p access marks)
-shown-on w s limit past p access marks o h is =
-    ap (option_map shown_as) is
-    ∙ (λ i. option_map shown_as (monitored (h.setup i) (h.shows i) (possible_past s past) (entry_with p (possible_access (h.setup i) p access) marks)))
+    option_map (shown_by (nat_le from number)) o ≡ shown_access s limit past (entry_with p access marks)
+shown-on w from number s limit past p access marks o h begins is_next is =
+    (λ i. option_map (shown_by (nat_le (begins i) (is_next i))) (is i))
+    ∙ (λ i. option_map (shown_by (nat_le (h.shows i).from (length past))) (monitored (h.setup i) (h.shows i) (possible_past s past) (entry_with p (possible_access (h.setup i) p access) marks)))
 
 -- Lists and results.
 

@@ -1,5 +1,5 @@
 -- What a picture shows of the accesses of a record, good or bad, by look-backs over a past, whose newest entry comes first.
-use Rattle.std.specs.Prelude.{ℕ, nat_lt, Bool, false, ◌&&◌, List, [], ◌∷◌, cond, length, map, option_map, replicate, Option, None, Some}
+use Rattle.std.specs.Prelude.{ℕ, nat_le, nat_lt, Bool, false, ◌&&◌, List, [], ◌∷◌, cond, length, map, option_map, replicate, Option, None, Some}
 use Rattle.std.specs.Option.{option_map_or}
 use Rattle.picture_layout.specs.{AccessStep, GivenAccess, GivenChange}
 use Rattle.record_file.specs.scenario.{bit_word}
@@ -137,11 +137,15 @@ abbrev pub shown_as : Monitored → GivenAccess
 shown_as (Made w) = shown_made w
 shown_as (Dropped d) = shown_dropped d
 
--- An access without its words and its cell. The left edge of a picture needs no more of the accesses before it.
-abbrev pub without_words : GivenAccess → GivenAccess
-without_words access = record access { words = []; cell = [] }
+-- An access, with its words and its cell only if a picture shows its entry. The left edge of a picture needs neither.
+abbrev pub with_words_if : Bool → GivenAccess → GivenAccess
+with_words_if shows access = record access { words = cond shows access.words []; cell = cond shows access.cell [] }
+
+abbrev pub shown_by : Bool → Monitored → GivenAccess
+shown_by shows w = with_words_if shows (shown_as w)
 
 -- What a picture shows of the access of an entry, where these entries came before it. An access that is not possible is not shown, and
--- counts for nothing later.
+-- counts for nothing later. A picture shows the entries from that on from which it shows waves.
 abbrev pub shown_access : Setup → WaveLimit → Past → Entry → Option GivenAccess
-shown_access s limit past e = option_map shown_as (monitored s limit (possible_past s past) (possible s e))
+shown_access s limit past e =
+    option_map (shown_by (nat_le limit.from (length past))) (monitored s limit (possible_past s past) (possible s e))

@@ -10,7 +10,7 @@ pub mod Overlaps
 pub mod Rows
 pub mod Waves
 pub mod Words
-pub use Accesses.{begin_of, change_by, dropped_as, dropped_by, is_there, possible, possible_access, possible_past, shown_access, shown_as, shown_change, shown_dropped, shown_made, step_by, step_of, monitored, monitored_by, monitored_of, without_words}
+pub use Accesses.{begin_of, change_by, dropped_as, dropped_by, is_there, possible, possible_access, possible_past, shown_access, shown_as, shown_by, shown_change, shown_dropped, shown_made, step_by, step_of, monitored, monitored_by, monitored_of, with_words_if}
 pub use BitNames.{bit_fed, is_one_bit, one_bit_equiv, one_bit_fed}
 pub use Bits.{bit_after, bit_of, new_bit, writer_after, writer_of, writer_with}
 pub use Keeping.{BitsState, HasBits, HasOpened, HasTaken, HasMonitored, IsPossible, OfTaken, MonitorState, bits_taken, entry_with, no_bits, opened_taken, state_at}

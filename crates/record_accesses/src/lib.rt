@@ -20,7 +20,8 @@
 //!
 //! A picture may begin after the first entry, at the entry with the number `limit.from`. Only a bit for which this entry or a
 //! later one begins, ends or settles a write has a wave, and these entries give the waves their order. Earlier entries count
-//! only for the state of the bits. [`written_bits_have_waves`] states that, from the first entry on, exactly the bits that
+//! only for the state of the bits and for the accesses that are open, so what is shown of them has neither words nor a cell.
+//! [`written_bits_have_waves`] states that, from the first entry on, exactly the bits that
 //! were written have waves.
 //!
 //! [`boxes_show_overlapped_reads`] states that the box of an open read is marked exactly if the safe rule finds the read

@@ -5,7 +5,7 @@ ghost use Rattle.plain_store.specs.{checked};
 ghost use Rattle.plain_store.specs.declared.setups.Setup.{Setup as Given};
 ghost use Rattle.model.specs.{Entry as Noted, Mark as Marked, Past};
 ghost use Rattle.laws.specs.{IsThere};
-ghost use Rattle.record_accesses.specs.Accesses.{possible_access, shown_access, shown_as, monitored, monitored_by, without_words};
+ghost use Rattle.record_accesses.specs.Accesses.{possible_access, shown_access, shown_by, monitored, monitored_by};
 ghost use Rattle.record_accesses.specs.Keeping.{HasBits, HasOpened, HasTaken, HasMonitored, IsPossible, OfTaken, entry_with};
 ghost use Rattle.record_accesses.specs.Opened.{drops as is_dropping};
 ghost use Rattle.record_accesses.specs.Rows.{waves_after};
@@ -53,7 +53,8 @@ impl Model for RecordAccessMonitor {
 }
 
 impl RecordAccessMonitor {
-    /// Creates a watch of a record with this setup, before the first entry. It shows the changes of waves within the limit.
+    /// Creates a watch of a record with this setup, before the first entry. It shows the changes of waves within the limit. What
+    /// it shows of an entry before `limit.from` has neither words nor a cell.
     ///
     /// # Errors
     ///
@@ -125,38 +126,7 @@ impl RecordAccessMonitor {
             ≡ shown_access s limit past (entry_with process access.now marks)) }
     {
         let monitored = self.take(process, number, access, drops_read)?;
-        shown(alloc, &monitored)
-    }
-
-    /// Observes the next entry as [`observe_access`](RecordAccessMonitor::observe_access) does, and returns what is shown of it
-    /// without the words and the cell, which need memory. It suffices for an entry before the first one that a picture shows.
-    ///
-    /// # Errors
-    ///
-    /// Returns [`AllocError`] if memory runs out. What later entries show is then not known.
-    pub fn pass_access(
-        &mut self,
-        alloc: Global,
-        number: u64,
-        process: u8,
-        access: &Option<Access>,
-        drops_read: bool,
-    ) -> Result<Option<ShownAccess>, AllocError>
-        ensures monitored { OnOk result
-            ((s : Given) (limit : Limit) (past : Past) (marks : List Marked) →
-            HasMonitored self.old s limit past → number ≡ length past →
-            is_dropping marks ≡ drops_read →
-            HasMonitored self.new s limit (entry_with process access.now marks ∷ past)) }
-        ensures shown { IfOk result
-            (λ shown. (s : Given) (limit : Limit) (past : Past) (marks : List Marked) →
-            HasMonitored self.old s limit past → number ≡ length past →
-            is_dropping marks ≡ drops_read →
-            option_map given_access shown
-            ≡ option_map without_words
-            (shown_access s limit past (entry_with process access.now marks))) }
-    {
-        let monitored = self.take(process, number, access, drops_read)?;
-        passed(alloc, &monitored)
+        shown(alloc, self.limit.from <= number, &monitored)
     }
 
     /// Observes the next entry, which has this number, and returns what is shown of it, in numbers.
@@ -292,24 +262,17 @@ fn parts(entry: &Entry) -> (u8, &Option<Access>, &[Mark])
     (entry.process, &entry.act.access, &entry.act.marks)
 }
 
-/// Returns what is shown of an entry, with its words, if something is shown.
-fn shown(alloc: Global, monitored: &Option<Monitored>) -> Result<Option<ShownAccess>, AllocError>
+/// Returns what is shown of an entry, if something is shown, with its words if a picture shows the entry.
+fn shown(
+    alloc: Global,
+    shows: bool,
+    monitored: &Option<Monitored>,
+) -> Result<Option<ShownAccess>, AllocError>
     ensures { IfOk result (λ shown.
-        option_map given_access shown ≡ option_map shown_as monitored.now) }
+        option_map given_access shown ≡ option_map (shown_by shows) monitored.now) }
 {
     match monitored {
-        Some(monitored) => Ok(Some(monitored.shown(alloc)?)),
-        None => Ok(None),
-    }
-}
-
-/// Returns what is shown of an entry, without its words and its cell, if something is shown.
-fn passed(alloc: Global, monitored: &Option<Monitored>) -> Result<Option<ShownAccess>, AllocError>
-    ensures { IfOk result (λ shown. option_map given_access shown
-        ≡ option_map without_words (option_map shown_as monitored.now)) }
-{
-    match monitored {
-        Some(monitored) => Ok(Some(monitored.passed(alloc)?)),
+        Some(monitored) => Ok(Some(monitored.shown(alloc, shows)?)),
         None => Ok(None),
     }
 }

@@ -277,27 +277,22 @@ const B0: Bit = (0, Field::Choosing, 0, 0);
 
 const B1: Bit = (0, Field::Choosing, 0, 1);
 
-/// Waves begin with entry 3. One write is open then, and ends later. Another one ended before, so its bit has no wave. The last
-/// entry ends a write that never began.
+/// Waves and words begin with entry 3. One write is open then, and ends later. Another one ended before, so its bit has no wave.
+/// The last entry ends a write that never began.
 const LATER_WAVES: [RecordCase; 6] = [
     (
         1,
         Some((C0, Move::BeginWrite(true))),
         false,
-        "0 1 writes begin 0 [write 1] 1.choosing.0.0",
+        "0 1 writes begin 0 [] ",
     ),
     (
         0,
         Some((B1, Move::BeginWrite(true))),
         false,
-        "1 0 writes begin 1 [write 1] 0.choosing.0.1",
+        "1 0 writes begin 1 [] ",
     ),
-    (
-        0,
-        Some((B1, Move::EndWrite)),
-        false,
-        "2 0 writes end 1 [] 0.choosing.0.1",
-    ),
+    (0, Some((B1, Move::EndWrite)), false, "2 0 writes end 1 [] "),
     (
         0,
         Some((B0, Move::BeginWrite(true))),

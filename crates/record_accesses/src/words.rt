@@ -1,9 +1,9 @@
 //! What is shown of an entry, in words.
-ghost use Rattle.std.specs.Prelude.{◌≡◌, ◌++◌, codes, IfOk, OnOk, option_map};
+ghost use Rattle.std.specs.Prelude.{◌≡◌, ◌++◌, [], codes, cond, IfOk, OnOk, option_map};
 ghost use Rattle.picture_layout.specs.{given_access, given_change};
 ghost use Rattle.record_file.specs.scenario.{bit_word};
 ghost use Rattle.record_file.specs.{copy_word};
-ghost use Rattle.record_accesses.specs.Accesses.{shown_as, shown_change, shown_dropped, shown_made, without_words};
+ghost use Rattle.record_accesses.specs.Accesses.{shown_by, shown_change, shown_dropped, shown_made, with_words_if};
 ghost use Rattle.record_accesses.specs.Words.{unlike, words_of};
 
 use crate::monitored::{BitChange, DroppedRead, Monitored, MonitoredBitAccess};
@@ -13,78 +13,46 @@ use picture_layout::{AccessKind, AccessStep, ShownAccess, WaveChange};
 use std::alloc::{AllocError, Global};
 
 impl Monitored {
-    /// Returns what is shown, with its words.
+    /// Returns what is shown, with its words and its cell if a picture shows its entry.
     ///
     /// # Errors
     ///
     /// Returns [`AllocError`] if memory runs out.
-    pub fn shown(&self, alloc: Global) -> Result<ShownAccess, AllocError>
-        ensures { IfOk result (λ access. given_access access ≡ shown_as self.now) }
+    pub fn shown(&self, alloc: Global, shows: bool) -> Result<ShownAccess, AllocError>
+        ensures { IfOk result (λ access. given_access access ≡ shown_by shows self.now) }
     {
         match self {
-            Monitored::Made(access) => access.shown(alloc),
-            Monitored::Dropped(read) => read.shown(alloc),
-        }
-    }
-
-    /// Returns what is shown, without its words and its cell.
-    ///
-    /// # Errors
-    ///
-    /// Returns [`AllocError`] if memory runs out.
-    pub fn passed(&self, alloc: Global) -> Result<ShownAccess, AllocError>
-        ensures { IfOk result (λ access. given_access access ≡ without_words (shown_as self.now)) }
-    {
-        match self {
-            Monitored::Made(access) => access.passed(alloc),
-            Monitored::Dropped(read) => Ok(read.passed(alloc)),
+            Monitored::Made(access) => access.shown(alloc, shows),
+            Monitored::Dropped(read) => read.shown(alloc, shows),
         }
     }
 }
 
 impl DroppedRead {
     /// Returns the end of the read, which has no words.
-    fn shown(&self, alloc: Global) -> Result<ShownAccess, AllocError>
-        ensures { IfOk result (λ access. given_access access ≡ shown_dropped self.now) }
+    fn shown(&self, alloc: Global, shows: bool) -> Result<ShownAccess, AllocError>
+        ensures { IfOk result
+            (λ access. given_access access ≡ with_words_if shows (shown_dropped self.now)) }
     {
-        let mut access = self.passed(alloc);
-        access.cell = cell_name(alloc, &self.read.access)?;
-        Ok(access)
-    }
-
-    /// Returns the end of the read, without its cell.
-    fn passed(&self, alloc: Global) -> ShownAccess
-        ensures { given_access result ≡ without_words (shown_dropped self.now) }
-    {
-        ShownAccess {
+        Ok(ShownAccess {
             event: self.event,
             process: self.process,
             kind: AccessKind::Read,
             step: AccessStep::End,
             begin: self.read.entry,
             words: Vec::new(alloc),
-            cell: Vec::new(alloc),
+            cell: cell_if(alloc, shows, &self.read.access)?,
             overlaps: [false; 16],
             change: None,
-        }
+        })
     }
 }
 
 impl MonitoredBitAccess {
-    /// Returns the access with its words.
-    fn shown(&self, alloc: Global) -> Result<ShownAccess, AllocError>
-        ensures { IfOk result (λ access. given_access access ≡ shown_made self.now) }
-    {
-        let mut access = self.passed(alloc)?;
-        access.words = words(alloc, self.written, self.access.how)?;
-        access.cell = cell_name(alloc, &self.access)?;
-        Ok(access)
-    }
-
-    /// Returns the access without its words and its cell.
-    fn passed(&self, alloc: Global) -> Result<ShownAccess, AllocError>
+    /// Returns the access, with its words and its cell if a picture shows its entry.
+    fn shown(&self, alloc: Global, shows: bool) -> Result<ShownAccess, AllocError>
         ensures { IfOk result
-            (λ access. given_access access ≡ without_words (shown_made self.now)) }
+            (λ access. given_access access ≡ with_words_if shows (shown_made self.now)) }
     {
         Ok(ShownAccess {
             event: self.event,
@@ -92,8 +60,8 @@ impl MonitoredBitAccess {
             kind: kind(self.access.how),
             step: self.step,
             begin: self.begin,
-            words: Vec::new(alloc),
-            cell: Vec::new(alloc),
+            words: words_if(alloc, shows, self.written, self.access.how)?,
+            cell: cell_if(alloc, shows, &self.access)?,
             overlaps: self.overlaps,
             change: self.shown_change(alloc)?,
         })
@@ -127,6 +95,28 @@ impl BitChange {
             was_open: self.was_open,
             is_open: self.is_open,
         })
+    }
+}
+
+/// Returns the words of a move, if a picture shows its entry, and otherwise none.
+fn words_if(alloc: Global, shows: bool, written: bool, how: Move) -> Result<Vec<u8>, AllocError>
+    ensures { IfOk result (λ text. text.items ≡ cond shows (words_of written how) []) }
+{
+    if shows {
+        words(alloc, written, how)
+    } else {
+        Ok(Vec::new(alloc))
+    }
+}
+
+/// Returns the name of the bit of an access, if a picture shows its entry, and otherwise no byte.
+fn cell_if(alloc: Global, shows: bool, access: &Access) -> Result<Vec<u8>, AllocError>
+    ensures { IfOk result (λ text. text.items ≡ cond shows (copy_word access.now) []) }
+{
+    if shows {
+        cell_name(alloc, access)
+    } else {
+        Ok(Vec::new(alloc))
     }
 }
 
