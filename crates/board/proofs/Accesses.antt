@@ -5,13 +5,12 @@ use Rattle.std.specs.Prelude.{slice_index, fold}
 use mathlib.Core.Option.{some}
 use lib.ListN.{get_elem?}
 use Rattle.model.specs.safe_bit.Cell.{Cell, cell_after}
-use Rattle.model.specs.safe_bit.{Move, read_value}
+use Rattle.model.specs.safe_bit.{Move, is_of_write, read_value}
 use Rattle.model.specs.{Access, Entry, Event, Mark, Past, Refusal, call_number, ended, ended_with, entry_of, history, last_command, moves_of, opening_bit, own, past_of, placed, same_bit, stage, stage_after, value_of, valued}
 use Rattle.plain_store.specs.{Setup}
 use Rattle.model.specs.declared.events.Event.TheVariants as event
 use Rattle.model.proofs.Accepted.{accepted_adds}
 use Rattle.model.proofs.Local.{command-plain, calls-plain}
-use Rattle.model.proofs.Singles.{is_write}
 use Rattle.model.proofs.Staging.{no_called, stage-placed}
 use Rattle.model.proofs.Width.{IsGood, is_good}
 use Rattle.laws.specs.{IsThere, cell_held, doing, marks_with, next_of}
@@ -154,10 +153,10 @@ step_shows s events words words' views id v flick n f at live m size bits =
 -- The cells.
 
 -- a read leaves the words unchanged
-shown-read : (c : Cell) (m : Move) → is_write m ≡ false → shown (cell_after c m) ≡ shown c
+shown-read : (c : Cell) (m : Move) → is_of_write m ≡ false → shown (cell_after c m) ≡ shown c
 shown-read c m h = grind arith
 
-pub cells_read : (s : Setup) (past : Past) (e : Entry) (x a : Access) → e.access ≡ Some x → is_write x.how ≡ false → shown (cell_held s (e ∷ past) a) ≡ shown (cell_held s past a)
+pub cells_read : (s : Setup) (past : Past) (e : Entry) (x a : Access) → e.access ≡ Some x → is_of_write x.how ≡ false → shown (cell_held s (e ∷ past) a) ≡ shown (cell_held s past a)
 cells_read s past e x a h r = ap shown (held-entry s past e x a h) ∙ by (same_bit a x)
   where
     by : (b : Bool) → shown (cond b (cell_after (cell_held s past a) x.how) (cell_held s past a)) ≡ shown (cell_held s past a)

@@ -6,13 +6,13 @@ use mathlib.Core.Option.{some}
 use lib.ListN.{get_elem?}
 use Rattle.atomic_table.specs.Table.{State, keeps, Allows}
 use Rattle.model.specs.safe_bit.Cell.{Cell, cell_after, read_answer}
-use Rattle.model.specs.safe_bit.{Move, read_value}
+use Rattle.model.specs.safe_bit.{Move, is_of_write, read_value}
 use Rattle.model.specs.safe_bit.declared.Move.TheVariants.{EndWrite, BeginRead, EndRead}
 use Rattle.model.specs.reader_copies.{IsWrite}
 use Rattle.model.specs.{Access, AreGiven, Event, Past, Taken, ended, history, moves_of, opening_bit, past_of, placed, reply_taken, stage, stage_after, value_of, valued}
 use Rattle.plain_store.specs.{Setup, checked}
 use Rattle.model.specs.declared.events.Event.TheVariants as event
-use Rattle.model.proofs.Singles.{is_write, is_write-true}
+use Rattle.model.proofs.Singles.{is_of_write-true}
 use Rattle.model.proofs.Width.{IsGood, is_good}
 use Rattle.laws.specs.{being_written, cell_held, doing, is_inside, marks_with, next_of}
 use Rattle.laws.proofs.Ends.{ends_what_began}
@@ -101,7 +101,7 @@ record Moved (s : Setup) (events : List Event) (words : List ℕ) (views : List 
 
 -- the begin or the end of a read
 reading : (s : Setup) (events : List Event) (words : List ℕ) (views : List ViewState) (id : ℕ) (v : ViewState) (flick : Bool) (n x : Access) → Shows s events words views → get_elem? views id ≡ some v → v.spent ≡ false →
-    next_of s v.own.process v.own.doing flick ≡ Some n → valued s (past_of s events) flick n ≡ x → is_write x.how ≡ false → Moved s events words views id v flick n
+    next_of s v.own.process v.own.doing flick ≡ Some n → valued s (past_of s events) flick n ≡ x → is_of_write x.how ≡ false → Moved s events words views id v flick n
 reading s events words views id v flick n x f at live next is reads =
     let g = is_good s f.good in
     let m = made s g events v flick n (f.known id v at live) next in
@@ -125,7 +125,7 @@ loads s slots id flick v held xs n live may next how t agree _ at _ =
     let k = f.known id b b_at live in
     let b_next : next_of s p b.own.doing flick ≡ Some n = next_then s v flick n xs next in
     let n_is : valued s past flick n ≡ n = valued-begin s past flick n how in
-    let first : Moved s events t.words (set t.views id b) id b flick n = reading s events t.words (set t.views id b) id b flick n n f b_at live b_next n_is (ap is_write how) in
+    let first : Moved s events t.words (set t.views id b) id b flick n = reading s events t.words (set t.views id b) id b flick n n f b_at live b_next n_is (ap is_of_write how) in
     let m = first.made in
     let events1 = event.Step p flick ∷ events in
     let past1 = past_of s events1 in
@@ -177,11 +177,11 @@ loads s slots id flick v held xs n live may next how t agree _ at _ =
 
 -- The word that a store writes.
 
-no-value : (m : Move) (v : Bool) → is_write m ≡ true → value_of (ended v m) ≡ false
+no-value : (m : Move) (v : Bool) → is_of_write m ≡ true → value_of (ended v m) ≡ false
 no-value m v h = grind arith
 
 -- after a write the word shows what was stored
-shows-stored : (c : Cell) (m : Move) (value : Bool) → is_write m ≡ true → (m ≡ EndWrite → c.value ≡ value) → shown (cell_after c m) ≡ stored value m
+shows-stored : (c : Cell) (m : Move) (value : Bool) → is_of_write m ≡ true → (m ≡ EndWrite → c.value ≡ value) → shown (cell_after c m) ≡ stored value m
 shows-stored c m value h k = grind arith
 
 -- a store keeps the rule
@@ -191,7 +191,7 @@ pub stores : (s : Setup) (slots id : ℕ) (flick : Bool) (v : ViewState) (held :
 stores s slots id flick v held xs n live may next is_written t agree _ at _ =
     let f0 = agree.1 in
     let g = is_good s f0.good in
-    let writes : is_write n.how ≡ true = is_write-true n.how is_written in
+    let writes : is_of_write n.how ≡ true = is_of_write-true n.how is_written in
     let events = xs ++ agree.0 in
     let past = past_of s events in
     let b : ViewState = at_events s v xs in

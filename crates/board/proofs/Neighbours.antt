@@ -1,9 +1,8 @@
 -- The begin and the end of each read are neighbours.
 use Rattle.std.proofs.Common.{◌≡◌, ◌==◌, ◌&&◌, Bool, true, false, [], ◌∷◌, Option, Some, None, refl, ap, ◌∙◌, eq-eqb, arith}
 use Rattle.std.specs.Prelude.{not}
-use Rattle.model.specs.safe_bit.{Move, is_of_read}
+use Rattle.model.specs.safe_bit.{Move, is_of_read, is_of_write}
 use Rattle.model.specs.{Access, Entry, Past, same_bit}
-use Rattle.model.proofs.Singles.{is_write}
 use Rattle.board.specs.{are_neighbours, is_pair, is_whole_read, reads}
 
 -- an entry that does not belong to a read ends no read
@@ -49,5 +48,5 @@ read_more e b past x y process ends begins same pair k =
 pub marked_reads : (e : Entry) → e.access ≡ None → reads e ≡ false
 marked_reads e h = ap (λ o. elim o as (λ _. Bool) [ None ↦ false | Some a ↦ is_of_read a.how ]) h
 
-pub written_reads : (e : Entry) (x : Access) → e.access ≡ Some x → is_write x.how ≡ true → reads e ≡ false
+pub written_reads : (e : Entry) (x : Access) → e.access ≡ Some x → is_of_write x.how ≡ true → reads e ≡ false
 written_reads e x h k = grind arith

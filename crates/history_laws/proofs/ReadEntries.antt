@@ -1,10 +1,10 @@
 -- Each entry of a read in the critical section keeps the data: it writes no register, and the command that the last one may take changes nothing.
 use Rattle.std.proofs.Common.{◌≡◌, ◌≢◌, ℕ, ◌+◌, ◌<◌, ◌==◌, Bool, true, false, cond, List, [], ◌∷◌, ◌++◌, length, map, Option, Some, None, refl, sym, ap, subst, ◌∙◌, inl, inr, eqb-true}
 use Rattle.std.proofs.lemmas.Bool.{and_parts, cases_eq, false≢true}
+use Rattle.model.specs.safe_bit.{is_of_write}
 use Rattle.model.specs.{Access, AsksCommit, AsksImage, AsksStamp, Call, Entry, Event, Part, Past, Place, Reading, Run, Version, Writing, access_at, before_image_read, bits_with, entry_of, history, is_fresh, is_image, is_last, is_read, last_call, last_marks, marks_of, own, past_of, place_after, placed, read_at, reply, reply_taken, store_after, store_read, value_of, valued, width}
 use Rattle.plain_store.specs.{Command, Contents, Reply, Setup, changes}
 use Rattle.model.specs.declared.marks.Mark.TheVariants.{Taken}
-use Rattle.model.proofs.Singles.{is_write}
 use Rattle.model.proofs.Width.{IsGood}
 use Rattle.laws.proofs.Always.{inv_of}
 use Rattle.laws.proofs.Alone.{closes_inside}
@@ -108,7 +108,7 @@ read_takes s past p busy command number part read begun value touched is quiet a
 -- The entry.
 
 -- an access of a read writes nothing
-writes_not : (s : Setup) (past : Past) (flick : Bool) (c : Call) (part : Part) (read : List Bool) (begun : Bool) → is_write (valued s past flick (access_at c part (Reading read begun))).how ≡ false
+writes_not : (s : Setup) (past : Past) (flick : Bool) (c : Call) (part : Part) (read : List Bool) (begun : Bool) → is_of_write (valued s past flick (access_at c part (Reading read begun))).how ≡ false
 writes_not s past flick c part read true = refl
 writes_not s past flick c part read false = refl
 

@@ -4,7 +4,7 @@ use Rattle.std.proofs.Common.{◌≡◌, ◌≢◌, ℕ, ◌+◌, ◌%◌, ◌<�
 use Rattle.std.proofs.lemmas.Bool.{cases_eq, false_from_ne_true, false≢true}
 use Rattle.std.proofs.lemmas.List.Folds.{list_any_at}
 use Rattle.std.proofs.lemmas.List.FromFn.{get_or-range_with_len, length-range_with_len}
-use Rattle.model.specs.safe_bit.{Move, is_overlapped, read_value}
+use Rattle.model.specs.safe_bit.{Move, is_of_write, is_overlapped, read_value}
 use Rattle.model.specs.safe_bit.declared.Move.TheVariants.{BeginWrite, EndRead, EndWrite}
 use Rattle.model.proofs.safe_bit.Showing.{shows_moves}
 use Rattle.model.specs.{Access, Call, Closing, Entry, Event, Field, Part, Past, Place, Reading, Run, Withdraws, Writing, access_at, bit_written, cell_after, closing_after, copy, ended, is_end_of_read, enter, entry_of, history, inside, is_last, is_over, is_read, is_somebody_inside, is_version, marks_of, moves_of, new_run, opening_bit, part_after, past-induction, past_of, place_after, placed, processes, read_at, run_after, value_of, valued, width, written_at}
@@ -12,7 +12,6 @@ use Rattle.model.specs.safe_number.{new_write}
 use Rattle.plain_store.specs.{Command, Setup}
 use Rattle.model.proofs.Opens.{opened}
 use Rattle.model.proofs.TurnRecords.{turns_all}
-use Rattle.model.proofs.Singles.{is_write}
 use Rattle.model.proofs.Width.{IsGood}
 use Rattle.laws.proofs.Alone.{touched_inside, version-at}
 use Rattle.laws.proofs.Always.{inv_of}
@@ -212,7 +211,7 @@ untouched s g events p = past-induction AllUntouched s (λ g p. tt) more events 
 -- The statements.
 
 -- a move that ends a read is not a write
-not_write : (m : Move) → is_end_of_read m ≡ true → is_write m ≡ false
+not_write : (m : Move) → is_end_of_read m ≡ true → is_of_write m ≡ false
 not_write (EndRead v) h = refl
 not_write _ h = absurd (false≢true h)
 
@@ -233,7 +232,7 @@ ends_by s past p e d' a (a_restart was none m then) access ends = let f : None �
 ends_by s past p e d' a (a_closing command number at flick n was next made same m then) access ends =
     let f : Some n.access ≡ Some a = sym made ∙ access in
     let is : n.access ≡ a = cc in
-    absurd (true≢false (sym (closing-writes (call s p command number) at flick n next).0 ∙ ap (λ (x : Access). is_write x.how) is ∙ not_write a.how ends))
+    absurd (true≢false (sym (closing-writes (call s p command number) at flick n next).0 ∙ ap (λ (x : Access). is_of_write x.how) is ∙ not_write a.how ends))
 ends_by s past p e d' a (a_step command number at b flick was over made is m then) access ends = go at.part at.run was over m (sym same ∙ is)
   where
     same : b ≡ a
@@ -253,12 +252,12 @@ ends_by s past p e d' a (a_step command number at b flick was over made is m the
       is = is;
     }
     go part (Reading bits false) k o m is = absurd (false≢true (sym (ap (λ (x : Access). is_end_of_read x.how) is) ∙ ends))
-    go part (Writing w) k o m is = absurd (false≢true (sym (not_write a.how ends) ∙ ap (λ (x : Access). is_write x.how) is ∙ write ((bit_written (written_at c part).1 w).made % 2 == 0)))
+    go part (Writing w) k o m is = absurd (false≢true (sym (not_write a.how ends) ∙ ap (λ (x : Access). is_of_write x.how) is ∙ write ((bit_written (written_at c part).1 w).made % 2 == 0)))
       where
         v : Bool
         v = read_value (opening_bit s (access_at c part (Writing w))) (moves_of (access_at c part (Writing w)) past) flick
 
-        write : (even : Bool) → is_write (ended v (cond even (BeginWrite (bit_written (written_at c part).1 w).value) EndWrite)) ≡ true
+        write : (even : Bool) → is_of_write (ended v (cond even (BeginWrite (bit_written (written_at c part).1 w).value) EndWrite)) ≡ true
         write true = refl
         write false = refl
 

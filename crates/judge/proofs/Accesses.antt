@@ -5,7 +5,7 @@ use Rattle.std.proofs.lemmas.Bool.Decides.{nat_tests}
 use Rattle.std.specs.Option.{is_some}
 use Rattle.std.specs.Prelude.{option_map}
 use Rattle.model.specs.reader_copies.Runs as copies
-use Rattle.model.specs.safe_bit.{Move, is_begin_of_write, is_end, is_of_read, read_value, settles}
+use Rattle.model.specs.safe_bit.{Move, is_begin_of_write, is_end, is_of_read, is_of_write, read_value, settles}
 use Rattle.model.specs.safe_bit.declared.Move.TheVariants.{BeginWrite, EndWrite, BeginRead, EndRead, Settle}
 use Rattle.model.specs.safe_number.{NumberWrite}
 use Rattle.model.specs.{Access, Call, Clears, Entry, Event, Field, Next, Over, Part, Past, Place, Reading, Run, Stage, Writing, access_at, access_of, bit_written, ended, ended_with, entry_of, field_number, is_fresh, is_over, is_running, is_settling, moves_of, opening_bit, past_of, stage, stage_of, width, written_at}
@@ -13,7 +13,6 @@ use Rattle.model.specs.declared.stages.Stage.TheVariants as stages
 use Rattle.plain_store.specs.{Command, Setup}
 use Rattle.model.specs.Closings.{Closing, Withdraws, Settles, Frees, Lowers, Quit, Ended, closing_next, closing_stage, no_ticket}
 use Rattle.model.proofs.PlaceTurns.{access_in}
-use Rattle.model.proofs.Singles.{is_write}
 use Rattle.model.proofs.Turns.{and_false}
 use Rattle.model.proofs.Width.{IsGood}
 use Rattle.any_lock.specs.safe_monitor.laws.{Closes, Doing, IsThere, Runs, call, doing, next_of}
@@ -68,13 +67,13 @@ unrefused s p k a h = λ i. first_that (
     owned : (m : Move) → a.how ≡ m → (not (is_of_read m) && not (a.owner == p)) ≡ false
     owned BeginRead is = refl
     owned (EndRead v) is = refl
-    owned (BeginWrite v) is = ap not (eq-eqb a.owner p (h.by.writes (ap is_write is)))
-    owned EndWrite is = ap not (eq-eqb a.owner p (h.by.writes (ap is_write is)))
-    owned (Settle v) is = ap not (eq-eqb a.owner p (h.by.writes (ap is_write is)))
+    owned (BeginWrite v) is = ap not (eq-eqb a.owner p (h.by.writes (ap is_of_write is)))
+    owned EndWrite is = ap not (eq-eqb a.owner p (h.by.writes (ap is_of_write is)))
+    owned (Settle v) is = ap not (eq-eqb a.owner p (h.by.writes (ap is_of_write is)))
 
     read : (m : Move) → a.how ≡ m → (is_of_read m && not (a.reader == p)) ≡ false
-    read BeginRead is = ap not (eq-eqb a.reader p (h.by.reads (ap is_write is)))
-    read (EndRead v) is = ap not (eq-eqb a.reader p (h.by.reads (ap is_write is)))
+    read BeginRead is = ap not (eq-eqb a.reader p (h.by.reads (ap is_of_write is)))
+    read (EndRead v) is = ap not (eq-eqb a.reader p (h.by.reads (ap is_of_write is)))
     read _ is = refl
 
     ended_one : (b : Bool) → elim b as (λ _. Type 0) [ true ↦ is_end_of k.opened a ≡ true | false ↦ k.opened ≡ None ] → (b && not (is_end_of k.opened a)) ≡ false
@@ -156,12 +155,12 @@ written_settles bits w = go ((bit_written bits w).made % 2 == 0)
     go true = refl
     go false = refl
 
-not_reading : (m : Move) → is_write m ≡ true → is_of_read m ≡ false
+not_reading : (m : Move) → is_of_write m ≡ true → is_of_read m ≡ false
 not_reading BeginRead h = absurd (true≢false (sym h))
 not_reading (EndRead v) h = absurd (true≢false (sym h))
 not_reading _ h = refl
 
-settling_moves : (m : Move) → is_write m ≡ true → may_move stages.Settling m ≡ true
+settling_moves : (m : Move) → is_of_write m ≡ true → may_move stages.Settling m ≡ true
 settling_moves m h = ap (λ b. settles m || false || (true && not b)) (not_reading m h) ∙ go (settles m)
   where
     go : (b : Bool) → (b || false || true) ≡ true
@@ -230,7 +229,7 @@ closing_torn s p command number at flick n torn next h below =
     go Quit i h below = cc
     go Ended i h below = cc
 
-closing_moves : (c : Call) (at : Closing) (flick : Bool) (n : Next) → closing_next c at flick ≡ Some n → is_write n.access.how ≡ true → may_move (closing_stage at) n.access.how ≡ true
+closing_moves : (c : Call) (at : Closing) (flick : Bool) (n : Next) → closing_next c at flick ≡ Some n → is_of_write n.access.how ≡ true → may_move (closing_stage at) n.access.how ≡ true
 closing_moves c (Withdraws w) flick n next writes = running_moves stages.Leaving n.access.how refl
 closing_moves c Quit flick n next writes = cc
 closing_moves c Ended flick n next writes = cc

@@ -1,12 +1,11 @@
 -- The write that a process has open, as any lock's look-back finds it, is its last one, and its last one is open, if that is a begin.
 use Rattle.std.proofs.Common.{◌≡◌, ℕ, ◌<◌, ◌+◌, ◌==◌, ◌&&◌, not, Bool, true, false, cond, [], ◌∷◌, Option, Some, None, length, refl, sym, ap, subst, ◌∙◌, true≢false}
-use Rattle.model.specs.safe_bit.{Move, is_begin}
+use Rattle.model.specs.safe_bit.{Move, is_begin, is_of_write}
 use Rattle.model.specs.safe_bit.declared.Move.TheVariants.{BeginWrite, EndWrite, BeginRead, EndRead, Settle}
 use Rattle.model.specs.{Access, Entry, Mark, Past, Withdraws, is_begin_of_write, last_write, own, unfinished}
 use Rattle.plain_store.specs.{Setup}
 use Rattle.model.specs.declared.marks.Mark.TheVariants as mark
 use Rattle.model.proofs.Opens.{last-none}
-use Rattle.model.proofs.Singles.{is_write}
 use Rattle.any_lock.specs.safe_monitor.laws.{Doing, Runs, Closes}
 use Rattle.any_lock.proofs.safe_monitor.laws.Frame.{own-own}
 use Rattle.any_lock.proofs.safe_monitor.laws.FrameCells.{ByProcess}
@@ -81,7 +80,7 @@ begun_open entry x begun closed = go x.how begun (sym (open_write entry x) ∙ c
     go (EndRead v) h same = true≢false (sym h)
     go (Settle v) h same = true≢false (sym h)
 
-begin_writes : (m : Move) → is_begin_of_write m ≡ true → is_write m ≡ true
+begin_writes : (m : Move) → is_begin_of_write m ≡ true → is_of_write m ≡ true
 begin_writes (BeginWrite v) h = refl
 begin_writes _ h = absurd (true≢false (sym h))
 
@@ -89,7 +88,7 @@ begin_writes _ h = absurd (true≢false (sym h))
 pub access_last : (s : Setup) (past : Past) (e : Entry) (a : Access) → e.access ≡ Some a → ArePlain e.marks → ByProcess e.process a → a.reader < s.processes → OpenIsLast s e.process (opened e.process (e ∷ past)) (last_write (own e.process (e ∷ past)))
 access_last s past e a acc plain by below b is_open =
     let one = write_begun (length past) a b (sym (ap write_of (opened_access past e a acc plain)) ∙ is_open) in
-    let writes : is_write a.how ≡ true = begin_writes a.how one.1 in
+    let writes : is_of_write a.how ≡ true = begin_writes a.how one.1 in
     record {
       last_is = ap last_write (own-own e.process e past refl) ∙ last-made e (own e.process past) a acc ∙ ap (λ b. cond b (Some a) (last_write (own e.process past))) writes ∙ ap Some (sym one.0);
       begins = ap (λ (x : Access). is_begin_of_write x.how) one.0 ∙ one.1;

@@ -4,10 +4,9 @@ use Rattle.std.specs.List.{list_any}
 use Rattle.model.specs.{Access, Call, Closing, Entry, Event, Part, Past, Place, Reading, Run, Wait, Waits, Withdraws, Writing, access_at, closing_after, failing, has, history, is_begin_of_write, is_failed, is_finished, is_over, last_write, made_with, moves_of, opening_bit, own, past_of, place_after, settling_from, unfinished, value_of, written_at}
 use Rattle.plain_store.specs.{Command, Setup}
 use Rattle.model.specs.declared.marks.Mark.TheVariants as mark
-use Rattle.model.specs.safe_bit.{read_value}
+use Rattle.model.specs.safe_bit.{is_of_write, read_value}
 use Rattle.model.specs.safe_bit.declared.Move.TheVariants.{BeginRead, EndRead}
 use Rattle.model.proofs.Opens.{last-none}
-use Rattle.model.proofs.Singles.{is_write}
 use Rattle.model.proofs.Width.{IsGood}
 use Rattle.any_lock.specs.safe_monitor.laws.{Closes, Doing, IsThere, Rests, Runs, call, closes, doing, runs}
 use Rattle.any_lock.proofs.safe_monitor.laws.AtPlaces.{own-induction}
@@ -15,7 +14,7 @@ use Rattle.any_lock.proofs.safe_monitor.laws.Frame.{Happens, a_call, a_withdrawa
 use Rattle.any_lock.proofs.safe_monitor.laws.FrameCells.{ByProcess, EntryBy, makes, marks_only}
 use Rattle.any_lock.proofs.safe_monitor.laws.FrameCuts.{LeftIn, LeftRun, last-made, remaining, written-writes}
 use Rattle.any_lock.proofs.safe_monitor.laws.FrameEvents.{accepted}
-use Rattle.any_lock.proofs.safe_monitor.laws.FrameSteps.{closing-writes, entry-by, is_write-ended, remaining-is}
+use Rattle.any_lock.proofs.safe_monitor.laws.FrameSteps.{closing-writes, entry-by, is_of_write-ended, remaining-is}
 use Rattle.any_lock.proofs.safe_monitor.laws.HeldThere.{access_there}
 use Rattle.any_lock.specs.{BegunAccess, ProcessView, opened, process_view, torn, torn_after, write_of}
 use Rattle.any_lock.proofs.Markings.{ArePlain, no_failure, none_of}
@@ -112,7 +111,7 @@ closes_last o last command number (Withdraws w) h = h
 closes_last o last command number _ h = tt
 
 -- after an access of a write
-written_last : (past : Past) (e : Entry) (a : Access) → e.access ≡ Some a → ArePlain e.marks → is_write a.how ≡ true → LastIsOpen (opened e.process (e ∷ past)) (last_write (own e.process (e ∷ past)))
+written_last : (past : Past) (e : Entry) (a : Access) → e.access ≡ Some a → ArePlain e.marks → is_of_write a.how ≡ true → LastIsOpen (opened e.process (e ∷ past)) (last_write (own e.process (e ∷ past)))
 written_last past e a acc plain writes x unended closed =
     let last : last_write (own e.process (e ∷ past)) ≡ Some a = ap last_write (own-own e.process e past refl) ∙ last-made e (own e.process past) a acc ∙ ap (λ b. cond b (Some a) (last_write (own e.process past))) writes in
     let both : Some a ≡ Some x = sym last ∙ unended.0 in
@@ -124,13 +123,13 @@ still_last : (s : Setup) (past : Past) (e : Entry) (o : Option BegunAccess) → 
 still_last s past e o same none = finished s.processes (last_write (own e.process (e ∷ past))) o (ap (λ l. unfinished s.processes (last_write l)) (own-own e.process e past refl) ∙ ap (unfinished s.processes) same ∙ none)
 
 -- after the access at a place
-place_last : (s : Setup) (past : Past) (e : Entry) (command : Command) (number : ℕ) (part : Part) (run : Run) (a : Access) (v : Bool) → e.access ≡ Some a → ArePlain e.marks → is_write a.how ≡ is_write (access_at (call s e.process command number) part run).how →
+place_last : (s : Setup) (past : Past) (e : Entry) (command : Command) (number : ℕ) (part : Part) (run : Run) (a : Access) (v : Bool) → e.access ≡ Some a → ArePlain e.marks → is_of_write a.how ≡ is_of_write (access_at (call s e.process command number) part run).how →
     LeftRun (call s e.process command number) (remaining s (own e.process past)) part run → LastIsOpen (opened e.process (e ∷ past)) (last_write (own e.process (e ∷ past)))
 place_last s past e command number part (Writing w) a v acc plain same l = written_last past e a acc plain (same ∙ written-writes e.process (written_at (call s e.process command number) part).0 (written_at (call s e.process command number) part).1 w)
 place_last s past e command number part (Reading bits begun) a v acc plain same l =
     still_last s past e (opened e.process (e ∷ past)) (last-made e (own e.process past) a acc ∙ ap (λ b. cond b (Some a) (last_write (own e.process past))) (same ∙ read begun)) l.1
   where
-    read : (b : Bool) → is_write (cond b (EndRead false) BeginRead) ≡ false
+    read : (b : Bool) → is_of_write (cond b (EndRead false) BeginRead) ≡ false
     read true = refl
     read false = refl
 
@@ -188,7 +187,7 @@ module _ (s : Setup) (past : Past) (e : Entry) (d d' : Doing) (is : doing s e.pr
       subst (IsTorn s (e ∷ past) p) (sym k) (record {
         open_last = access_last s past e a acc plain (made_by p e a acc by) (there a acc).reader;
         last_open = runs_last (opened p (e ∷ past)) (last_write (own p (e ∷ past))) command number (place_after c at (value_of a.how))
-            (place_last s past e command number at.part at.run a (value_of a.how) acc plain (ap (λ (y : Access). is_write y.how) made ∙ is_write-ended (read_value (opening_bit s x) (moves_of x past) flick) x.how) (subst (LeftIn s p (remaining s mine)) i l));
+            (place_last s past e command number at.part at.run a (value_of a.how) acc plain (ap (λ (y : Access). is_of_write y.how) made ∙ is_of_write-ended (read_value (opening_bit s x) (moves_of x past) flick) x.how) (subst (LeftIn s p (remaining s mine)) i l));
         torn_in = runs_none s p (torn p (e ∷ past)) command number (place_after c at (value_of a.how))
             (torn_on (Some a) acc (plain_torn plain) ∙ ap (torn_after (Some a)) (subst (TornIn s p (torn p past)) i before.torn_in) ∙ never_torn (Some a));
       })

@@ -1,13 +1,14 @@
 -- Registers of versions are touched inside alone.
 use Rattle.std.proofs.Common.{◌≡◌, ℕ, Bool, true, false, cond, List, [], ◌∷◌, Some, None, refl, sym, ap, subst, ◌∙◌, true≢false, IsTrue}
 use Rattle.model.specs.reader_copies.Runs as copies
+use Rattle.model.specs.safe_bit.{is_of_write}
 use Rattle.model.specs.reader_copies.{IsWrite}
 use Rattle.model.specs.{Access, Call, Closing, Ended, Entry, Event, Frees, Next, Past, Place, Quit, Reading, Run, Settles, Wait, Withdraws, Writing, access_at, closing_after, closing_next, entry_of, freeing, inside, is_commit, is_fresh, is_last_settled, is_last_written, is_version, no_ticket, past_of, place_after, value_of, valued, write_moved}
 use Rattle.model.specs.declared.access.Field.TheVariants.{Choosing, Ticket}
 use Rattle.plain_store.specs.{Command, Setup}
 use Rattle.model.specs.Closings as closing
 use Rattle.model.specs.Parts.{Part, Waits, AsksCommit, AsksStamp, AsksImage, WritesImage, WritesStamp, WritesCommit, is_over, read_at, written_at}
-use Rattle.model.proofs.Singles.{is_write, is_write-true}
+use Rattle.model.proofs.Singles.{is_of_write-true}
 use Rattle.model.proofs.Width.{IsGood}
 use Rattle.model.specs.safe_number.{new_write}
 use Rattle.laws.specs.{Doing, Rests, Lies, Runs, Closes, call, runs, closes, doing, is_inside, is_inside_at}
@@ -168,4 +169,4 @@ owner_writes s g events event e is a acc w = go (entry-by s g events event e is)
     go (makes x h by) =
         let f : Some x ≡ Some a = sym h ∙ acc in
         let same : x ≡ a = cc in
-        sym (ap (λ (y : Access). y.owner) same) ∙ by.writes (ap (λ (y : Access). is_write y.how) same ∙ is_write-true a.how w)
+        sym (ap (λ (y : Access). y.owner) same) ∙ by.writes (ap (λ (y : Access). is_of_write y.how) same ∙ is_of_write-true a.how w)

@@ -2,6 +2,7 @@
 use Rattle.std.proofs.Common.{◌≡◌, ◌≢◌, ℕ, ◌+◌, ◌*◌, ◌/◌, ◌%◌, ◌==◌, ◌||◌, Bool, true, false, cond, if◌then◌else◌, List, [], ◌∷◌, refl, sym, ap, ◌∙◌, subst, arith, Option, Some, None, inl, inr, eq-eqb}
 use Rattle.std.proofs.lemmas.Bool.{cases_eq}
 use Rattle.std.specs.Prelude.{option_map, unwrap_or}
+use Rattle.model.specs.safe_bit.{is_of_write}
 use Rattle.model.specs.safe_bit.declared.Move.TheVariants.{BeginWrite, EndWrite, BeginRead, EndRead, Settle}
 use Rattle.model.specs.safe_bit.Cell.{Cell}
 use Rattle.model.specs.reader_copies.Runs as copies
@@ -10,7 +11,6 @@ use Rattle.model.specs.declared.access.Field.TheVariants.{Choosing, Ticket}
 use Rattle.model.specs.safe_number.{NumberWrite, new_write}
 use Rattle.plain_store.specs.{Command, Setup}
 use Rattle.model.specs.Closings.{Closing, Withdraws, Settles, Frees, Lowers, Quit, Ended, closing_next, closing_after, failing, freeing, settling_from, is_last_settled, is_last_written, no_ticket}
-use Rattle.model.proofs.Singles.{is_write}
 use Rattle.model.proofs.Width.{IsGood}
 use Rattle.laws.specs.{Closes, Doing, Lies, Rests, Runs, being_written, call, cell_held, closes, doing, next_of, runs}
 use Rattle.laws.proofs.Frame.{Happens, a_call, a_withdrawal, a_failure, a_restart, a_step, a_closing, doing-other}
@@ -103,10 +103,10 @@ place_ends s past e p command number at flick over access v = last (is_last c at
     c : Call
     c = call s p command number
 
-    is_write-written : (m : ℕ) (v : Bool) → is_write (if m % 2 == 0 then BeginWrite v else EndWrite) ≡ true
-    is_write-written m v = go (m % 2 == 0)
+    is_of_write-written : (m : ℕ) (v : Bool) → is_of_write (if m % 2 == 0 then BeginWrite v else EndWrite) ≡ true
+    is_of_write-written m v = go (m % 2 == 0)
       where
-        go : (b : Bool) → is_write (if b then BeginWrite v else EndWrite) ≡ true
+        go : (b : Bool) → is_of_write (if b then BeginWrite v else EndWrite) ≡ true
         go true = refl
         go false = refl
 
@@ -116,7 +116,7 @@ place_ends s past e p command number at flick over access v = last (is_last c at
         let f = (written_at c part).0 in
         let to : Place = record { part = part; run = Writing (write_moved s.processes bits w) } in
         subst (λ b. next_of s p (cond b Rests (Runs command number to)) fl ≡ Some n → n.how ≡ EndWrite → (Copy s (e ∷ past) n).value ≡ being_written s p (cond b Rests (Runs command number to))) (sym over)
-        (λ next how. written s past e p f bits s.processes w (access ∙ ap Some (valued-write s past flick (access_at c part (Writing w)) (is_write-written (bit_written bits w).made (bit_written bits w).value))) n (some_access _ n next) how)
+        (λ next how. written s past e p f bits s.processes w (access ∙ ap Some (valued-write s past flick (access_at c part (Writing w)) (is_of_write-written (bit_written bits w).made (bit_written bits w).value))) n (some_access _ n next) how)
     stays part (Reading bits begun) over access fl n =
         let to : Place = record { part = part; run = run_after c part (Reading bits begun) v } in
         subst (λ b. next_of s p (cond b Rests (Runs command number to)) fl ≡ Some n → n.how ≡ EndWrite → (Copy s (e ∷ past) n).value ≡ being_written s p (cond b Rests (Runs command number to))) (sym over)

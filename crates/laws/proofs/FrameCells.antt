@@ -2,13 +2,12 @@
 use Rattle.std.proofs.Common.{◌≡◌, ◌≢◌, ℕ, ◌==◌, ◌&&◌, Bool, true, false, cond, List, [], ◌∷◌, ◌++◌, Some, None, refl, sym, ap, subst, ◌∙◌, eqb-true, eq-eqb}
 use Rattle.model.specs.safe_bit.Cell.{Cell, cell_of, read_answer}
 use Rattle.model.specs.safe_bit.Cell as bit
-use Rattle.model.specs.safe_bit.{Move}
+use Rattle.model.specs.safe_bit.{Move, is_of_write}
 use Rattle.model.specs.safe_bit.declared.Move.TheVariants.{BeginWrite, EndWrite, BeginRead, EndRead, Settle}
 use Rattle.model.proofs.safe_bit.Showing.{answer-shows, shows_moves}
 use Rattle.model.specs.{Access, Entry, Event, Field, Past, cell_after, copy, ended, ended_with, field_number, moves_of, opening_bit, past_of, same_bit, value_of, valued}
 use Rattle.model.specs.declared.access.Field.TheVariants.{Choosing, Ticket, Commit, Stamp0, Stamp1, Image0, Image1}
 use Rattle.plain_store.specs.{Setup}
-use Rattle.model.proofs.Singles.{is_write}
 use Rattle.model.proofs.TurnRecords.{turns_all}
 use Rattle.model.proofs.Width.{IsGood}
 
@@ -85,8 +84,8 @@ itself x = λ i. one x.bit i && one x.reader i && one x.owner i && one (field_nu
 
 -- an access of p writes bits of p, and reads its own copies
 pub record ByProcess (p : ℕ) (x : Access) : Type 0 where
-  pub writes : is_write x.how ≡ true → x.owner ≡ p
-  pub reads : is_write x.how ≡ false → x.reader ≡ p
+  pub writes : is_of_write x.how ≡ true → x.owner ≡ p
+  pub reads : is_of_write x.how ≡ false → x.reader ≡ p
 
 -- an entry with such an access, or with none
 pub data EntryBy (p : ℕ) (e : Entry) : Type 0 where
@@ -98,7 +97,7 @@ pub record KeptBits (now before : Cell) : Type 0 where
   pub value : now.value ≡ before.value
   pub writing : now.writing ≡ before.writing
 
-kept_read : (c : Cell) (m : Move) → is_write m ≡ false → KeptBits (bit.cell_after c m) c
+kept_read : (c : Cell) (m : Move) → is_of_write m ≡ false → KeptBits (bit.cell_after c m) c
 kept_read c (BeginWrite v) h = cc
 kept_read c EndWrite h = cc
 kept_read c (Settle v) h = cc
@@ -111,9 +110,9 @@ cells-others s past e p o f k r (makes x h by) n = subst (λ c. KeptBits c (cell
   where
     go : (b : Bool) → same_bit (copy o f r k) x ≡ b → KeptBits (cond b (bit.cell_after (cells s past o f k r) x.how) (cells s past o f k r)) (cells s past o f k r)
     go false i = record { value = refl; writing = refl }
-    go true i = read (is_write x.how) refl
+    go true i = read (is_of_write x.how) refl
       where
-        read : (w : Bool) → is_write x.how ≡ w → KeptBits (bit.cell_after (cells s past o f k r) x.how) (cells s past o f k r)
+        read : (w : Bool) → is_of_write x.how ≡ w → KeptBits (bit.cell_after (cells s past o f k r) x.how) (cells s past o f k r)
         read true j = absurd (n ((on-copy x o f k r i).owner ∙ by.writes j))
         read false j = kept_read (cells s past o f k r) x.how j
 
@@ -124,9 +123,9 @@ cells-apart s past e p o f k r (makes x h by) n m = cells-entry s past e x o f k
   where
     go : (b : Bool) → same_bit (copy o f r k) x ≡ b → cond b (bit.cell_after (cells s past o f k r) x.how) (cells s past o f k r) ≡ cells s past o f k r
     go false i = refl
-    go true i = absurd (either (is_write x.how) refl)
+    go true i = absurd (either (is_of_write x.how) refl)
       where
-        either : (w : Bool) → is_write x.how ≡ w → ⊥
+        either : (w : Bool) → is_of_write x.how ≡ w → ⊥
         either true j = n ((on-copy x o f k r i).owner ∙ by.writes j)
         either false j = m ((on-copy x o f k r i).reader ∙ by.reads j)
 

@@ -1,7 +1,7 @@
 -- The unfinished write of a process, by its state: its memory unit begins with it where the process fails.
 use Rattle.std.proofs.Common.{◌≡◌, ℕ, ◌+◌, ◌*◌, ◌%◌, ◌<◌, ◌==◌, Bool, true, false, cond, List, [], ◌∷◌, Option, Some, None, length, refl, sym, ap, subst, ◌∙◌, arith, true≢false, eqb-true}
 use Rattle.std.specs.Prelude.{is_none}
-use Rattle.model.specs.safe_bit.{Move}
+use Rattle.model.specs.safe_bit.{Move, is_of_write}
 use Rattle.model.specs.safe_bit.declared.Move.TheVariants.{BeginWrite, EndWrite, BeginRead, EndRead, Settle}
 use Rattle.model.specs.reader_copies.Runs as copies
 use Rattle.model.specs.{Access, Call, Entry, Field, Next, Part, Past, Place, Reading, Run, Writing, access_at, access_of, bit_written, bits_with, enter, inside, is_last, is_over, is_read, last_write, new_run, next_written, part_after, place_after, run_after, unfinished, width, write_moved, written_at}
@@ -12,7 +12,6 @@ use Rattle.model.specs.Closings.{Closing, Withdraws, Settles, Frees, Lowers, Qui
 use Rattle.model.proofs.Closing.{ticket_width, further}
 use Rattle.model.proofs.Cursors.{Goes}
 use Rattle.model.proofs.PlaceTurns.{access_in}
-use Rattle.model.proofs.Singles.{is_write}
 use Rattle.model.proofs.Ties.{written-width}
 use Rattle.model.proofs.Width.{IsGood, width-pos}
 use Rattle.model.proofs.ClosingScripts.{new-goes}
@@ -21,7 +20,7 @@ use Rattle.laws.specs.{Doing, Rests, Lies, Runs, Closes, call, runs, closes}
 
 -- The last write, after an entry.
 
-pub last-made : (e : Entry) (mine : Past) (x : Access) → e.access ≡ Some x → last_write (e ∷ mine) ≡ cond (is_write x.how) (Some x) (last_write mine)
+pub last-made : (e : Entry) (mine : Past) (x : Access) → e.access ≡ Some x → last_write (e ∷ mine) ≡ cond (is_of_write x.how) (Some x) (last_write mine)
 last-made e mine x h =
     ap (λ o. elim o as (λ _. Option Access) [
       | None ↦ last_write mine
@@ -29,7 +28,7 @@ last-made e mine x h =
     ]) h
     ∙ go x.how
   where
-    go : (m : Move) → elim m as (λ _. Option Access) [ BeginWrite v ↦ Some x | EndWrite ↦ Some x | Settle v ↦ Some x | BeginRead ↦ last_write mine | EndRead v ↦ last_write mine ] ≡ cond (is_write m) (Some x) (last_write mine)
+    go : (m : Move) → elim m as (λ _. Option Access) [ BeginWrite v ↦ Some x | EndWrite ↦ Some x | Settle v ↦ Some x | BeginRead ↦ last_write mine | EndRead v ↦ last_write mine ] ≡ cond (is_of_write m) (Some x) (last_write mine)
     go (BeginWrite v) = refl
     go _ = refl
 
@@ -56,10 +55,10 @@ new-on n bits w some wide same = record { goes = new-goes n bits w some wide sam
 abbrev pub written : ℕ → Field → List Bool → NumberWrite → Access
 written p f bits w = access_of p f (next_written bits w)
 
-pub written-writes : (p : ℕ) (f : Field) (bits : List Bool) (w : NumberWrite) → is_write (written p f bits w).how ≡ true
+pub written-writes : (p : ℕ) (f : Field) (bits : List Bool) (w : NumberWrite) → is_of_write (written p f bits w).how ≡ true
 written-writes p f bits w = go ((bit_written bits w).made % 2 == 0)
   where
-    go : (b : Bool) → is_write (cond b (BeginWrite (bit_written bits w).value) EndWrite) ≡ true
+    go : (b : Bool) → is_of_write (cond b (BeginWrite (bit_written bits w).value) EndWrite) ≡ true
     go true = refl
     go false = refl
 
@@ -151,7 +150,7 @@ place-remaining s p torn command number to over on = go (is_over to.part) refl
 -- after an access at a place
 pub step-remaining : (s : Setup) → IsGood s → (p : ℕ) (was torn : Option Access) (command : Command) (number : ℕ) (x : Part) (run : Run) (v : Bool)
     → let c : Call = call s p command number in
-    is_over x ≡ false → LeftRun c was x run → (is_write (access_at c x run).how ≡ true → torn ≡ unfinished s.processes (Some (access_at c x run))) → (is_write (access_at c x run).how ≡ false → torn ≡ was) →
+    is_over x ≡ false → LeftRun c was x run → (is_of_write (access_at c x run).how ≡ true → torn ≡ unfinished s.processes (Some (access_at c x run))) → (is_of_write (access_at c x run).how ≡ false → torn ≡ was) →
     LeftIn s p torn (runs command number (place_after c (record { part = x; run = run }) v))
 step-remaining s g p was torn command number x (Writing w) v o l writes reads = go (is_last c x (Writing w)) refl
   where
@@ -178,7 +177,7 @@ step-remaining s g p was torn command number x (Reading bits begun) v o l writes
     c : Call
     c = call s p command number
 
-    read : (b : Bool) → is_write (cond b (EndRead false) BeginRead) ≡ false
+    read : (b : Bool) → is_of_write (cond b (EndRead false) BeginRead) ≡ false
     read true = refl
     read false = refl
 
@@ -192,7 +191,7 @@ step-remaining s g p was torn command number x (Reading bits begun) v o l writes
 -- after an access of a closing
 pub closing-remaining : (s : Setup) → IsGood s → (p : ℕ) (was torn : Option Access) (command : Command) (number : ℕ) (at : Closing) (flick : Bool) (n : Next)
     → let c : Call = call s p command number in
-    LeftClosing c was at → closing_next c at flick ≡ Some n → (is_write n.access.how ≡ true → torn ≡ unfinished s.processes (Some n.access)) → LeftIn s p torn (closes command number (closing_after c at flick))
+    LeftClosing c was at → closing_next c at flick ≡ Some n → (is_of_write n.access.how ≡ true → torn ≡ unfinished s.processes (Some n.access)) → LeftIn s p torn (closes command number (closing_after c at flick))
 closing-remaining s g p was torn command number (Withdraws w) flick n l h writes = go (is_last_written c (no_ticket c) w) refl
   where
     c : Call
@@ -202,7 +201,7 @@ closing-remaining s g p was torn command number (Withdraws w) flick n l h writes
     is = ap access_in (sym h)
 
     now : torn ≡ unfinished s.processes (Some (written p Ticket (no_ticket c) w))
-    now = writes (ap (λ (a : Access). is_write a.how) is ∙ written-writes p Ticket (no_ticket c) w) ∙ ap (λ a. unfinished s.processes (Some a)) is
+    now = writes (ap (λ (a : Access). is_of_write a.how) is ∙ written-writes p Ticket (no_ticket c) w) ∙ ap (λ a. unfinished s.processes (Some a)) is
 
     go : (b : Bool) → is_last_written c (no_ticket c) w ≡ b → LeftIn s p torn (closes command number (cond b Quit (Withdraws (write_moved s.processes (no_ticket c) w))))
     go true last = remaining-done s.processes p Ticket (no_ticket c) w torn now l.0.goes.inside last
@@ -232,7 +231,7 @@ closing-remaining s g p was torn command number (Lowers w) flick n l h writes = 
     is = ap access_in (sym h)
 
     now : torn ≡ unfinished s.processes (Some (written p Choosing (false ∷ []) w))
-    now = writes (ap (λ (a : Access). is_write a.how) is ∙ written-writes p Choosing (false ∷ []) w) ∙ ap (λ a. unfinished s.processes (Some a)) is
+    now = writes (ap (λ (a : Access). is_of_write a.how) is ∙ written-writes p Choosing (false ∷ []) w) ∙ ap (λ a. unfinished s.processes (Some a)) is
 
     go : (b : Bool) → is_last_written c (false ∷ []) w ≡ b → LeftIn s p torn (closes command number (cond b Ended (Lowers (write_moved s.processes (false ∷ []) w))))
     go true last = remaining-done s.processes p Choosing (false ∷ []) w torn now l.goes.inside last

@@ -1,7 +1,7 @@
 -- Every accepted event of every record is a step.
 use Rattle.std.proofs.Common.{◌≡◌, ◌≢◌, ℕ, ◌<◌, ◌≤◌, ◌==◌, ◌%◌, ◌&&◌, Bool, true, false, cond, List, [], ◌∷◌, Option, Some, None, refl, sym, ap, subst, ◌∙◌, arith, true≢false, eqb-true, eq-eqb}
 use Rattle.std.specs.Prelude.{is_none}
-use Rattle.model.specs.safe_bit.{Move, read_value}
+use Rattle.model.specs.safe_bit.{Move, is_of_write, read_value}
 use Rattle.model.specs.safe_bit.declared.Move.TheVariants.{BeginWrite, EndWrite, BeginRead, EndRead, Settle}
 use Rattle.model.specs.reader_copies.Runs as copies
 use Rattle.model.specs.{Access, Call, Entry, Event, Field, Next, Part, Past, Raises, Reading, Run, Wait, Waits, Writing, access_at, bit_written, ended, ended_with, entry_of, inside, is_called, is_fresh, last_read, last_write, made_with, moves_of, opening_bit, own, past-induction, past_of, process_of, read_so_far, since, unfinished, value_begun, value_of, valued, written_at}
@@ -10,7 +10,6 @@ use Rattle.model.specs.safe_number.{NumberWrite}
 use Rattle.plain_store.specs.{Command, Setup}
 use Rattle.model.specs.Closings.{Closing, Withdraws, Settles, Frees, Lowers, Quit, Ended, no_ticket, is_unwritten, freeing, settling_from, failing, closing_next, reply_with}
 use Rattle.model.proofs.PlaceTurns.{access_in}
-use Rattle.model.proofs.Singles.{is_write}
 use Rattle.model.proofs.Turns.{and_false}
 use Rattle.model.proofs.Width.{IsGood}
 use Rattle.model.proofs.Opens.{last-none}
@@ -26,25 +25,25 @@ use Rattle.laws.proofs.FrameInside.{inside-is}
 
 -- The unfinished access after an access.
 
-ended-write : (v : Bool) (m : Move) → is_write m ≡ true → ended v m ≡ m
+ended-write : (v : Bool) (m : Move) → is_of_write m ≡ true → ended v m ≡ m
 ended-write v (BeginWrite b) h = refl
 ended-write v EndWrite h = refl
 ended-write v (Settle b) h = refl
 ended-write v BeginRead h = cc
 ended-write v (EndRead b) h = cc
 
-pub is_write-ended : (v : Bool) (m : Move) → is_write (ended v m) ≡ is_write m
-is_write-ended v (BeginWrite b) = refl
-is_write-ended v _ = refl
+pub is_of_write-ended : (v : Bool) (m : Move) → is_of_write (ended v m) ≡ is_of_write m
+is_of_write-ended v (BeginWrite b) = refl
+is_of_write-ended v _ = refl
 
 -- an access of a write does not depend on the cell
-pub valued-write : (s : Setup) (past : Past) (flick : Bool) (x : Access) → is_write x.how ≡ true → valued s past flick x ≡ x
+pub valued-write : (s : Setup) (past : Past) (flick : Bool) (x : Access) → is_of_write x.how ≡ true → valued s past flick x ≡ x
 valued-write s past flick x h = λ i. record { owner = x.owner; field = x.field; bit = x.bit; reader = x.reader; how = ended-write (read_value (opening_bit s x) (moves_of x past) flick) x.how h i }
 
-made-write : (e : Entry) (mine : Past) (x : Access) → e.access ≡ Some x → is_write x.how ≡ true → last_write (e ∷ mine) ≡ Some x
+made-write : (e : Entry) (mine : Past) (x : Access) → e.access ≡ Some x → is_of_write x.how ≡ true → last_write (e ∷ mine) ≡ Some x
 made-write e mine x h w = last-made e mine x h ∙ ap (λ b. cond b (Some x) (last_write mine)) w
 
-made-read : (e : Entry) (mine : Past) (x : Access) → e.access ≡ Some x → is_write x.how ≡ false → last_write (e ∷ mine) ≡ last_write mine
+made-read : (e : Entry) (mine : Past) (x : Access) → e.access ≡ Some x → is_of_write x.how ≡ false → last_write (e ∷ mine) ≡ last_write mine
 made-read e mine x h w = last-made e mine x h ∙ ap (λ b. cond b (Some x) (last_write mine)) w
 
 waits-remaining : (c : Call) (torn : Option Access) (t : ℕ) (w : Wait) (ws : List Wait) (run : Run) → LeftRun c torn (Waits t w ws) run → torn ≡ None
@@ -70,11 +69,11 @@ remaining-happens s g past p e d d' (a_step command number at a flick was over a
     x : Access
     x = access_at (call s p command number) at.part at.run
 
-    writes : is_write x.how ≡ true → remaining s (e ∷ own p past) ≡ unfinished s.processes (Some x)
+    writes : is_of_write x.how ≡ true → remaining s (e ∷ own p past) ≡ unfinished s.processes (Some x)
     writes w = ap (unfinished s.processes) (made-write e (own p past) x (access ∙ ap Some (is ∙ valued-write s past flick x w)) w)
 
-    reads : is_write x.how ≡ false → remaining s (e ∷ own p past) ≡ remaining s (own p past)
-    reads w = ap (unfinished s.processes) (made-read e (own p past) a access (ap (λ (b : Access). is_write b.how) is ∙ is_write-ended (read_value (opening_bit s x) (moves_of x past) flick) x.how ∙ w))
+    reads : is_of_write x.how ≡ false → remaining s (e ∷ own p past) ≡ remaining s (own p past)
+    reads w = ap (unfinished s.processes) (made-read e (own p past) a access (ap (λ (b : Access). is_of_write b.how) is ∙ is_of_write-ended (read_value (opening_bit s x) (moves_of x past) flick) x.how ∙ w))
 remaining-happens s g past p e d d' (a_closing command number at flick n was next access same marks then) l =
     subst (LeftIn s p (remaining s (e ∷ own p past))) (sym then)
     (closing-remaining s g p (remaining s (own p past)) (remaining s (e ∷ own p past)) command number at flick n (subst (LeftIn s p (remaining s (own p past))) was l) next (λ w. ap (unfinished s.processes) (made-write e (own p past) n.access access w)))
@@ -181,29 +180,29 @@ place-by c x (Writing w) v = record {
   reads = λ h. absurd (true≢false (sym (even ((bit_written (written_at c x).1 w).made % 2 == 0)) ∙ h));
 }
   where
-    even : (b : Bool) → is_write (ended v (cond b (BeginWrite (bit_written (written_at c x).1 w).value) EndWrite)) ≡ true
+    even : (b : Bool) → is_of_write (ended v (cond b (BeginWrite (bit_written (written_at c x).1 w).value) EndWrite)) ≡ true
     even true = refl
     even false = refl
 place-by c x (Reading bits begun) v = record { writes = λ h. absurd (true≢false (sym h ∙ read begun)); reads = λ _. refl }
   where
-    read : (b : Bool) → is_write (ended v (cond b (EndRead false) BeginRead)) ≡ false
+    read : (b : Bool) → is_of_write (ended v (cond b (EndRead false) BeginRead)) ≡ false
     read true = refl
     read false = refl
 
 -- a closing only writes, and its owner's bits
-pub closing-writes : (c : Call) (at : Closing) (flick : Bool) (n : Next) → closing_next c at flick ≡ Some n → (is_write n.access.how ≡ true) × (n.access.owner ≡ c.process)
-closing-writes c at flick n h = subst (λ (a : Access). (is_write a.how ≡ true) × (a.owner ≡ c.process)) (ap access_in h) (go at flick h)
+pub closing-writes : (c : Call) (at : Closing) (flick : Bool) (n : Next) → closing_next c at flick ≡ Some n → (is_of_write n.access.how ≡ true) × (n.access.owner ≡ c.process)
+closing-writes c at flick n h = subst (λ (a : Access). (is_of_write a.how ≡ true) × (a.owner ≡ c.process)) (ap access_in h) (go at flick h)
   where
-    write : (b : Bool) (v : Bool) → is_write (cond b (BeginWrite v) EndWrite) ≡ true
+    write : (b : Bool) (v : Bool) → is_of_write (cond b (BeginWrite v) EndWrite) ≡ true
     write true v = refl
     write false v = refl
 
-    settle : (b d : Bool) (v : Bool) → is_write (cond b EndWrite (cond d (Settle v) (BeginWrite v))) ≡ true
+    settle : (b d : Bool) (v : Bool) → is_of_write (cond b EndWrite (cond d (Settle v) (BeginWrite v))) ≡ true
     settle true d v = refl
     settle false true v = refl
     settle false false v = refl
 
-    go : (at : Closing) (flick : Bool) → closing_next c at flick ≡ Some n → (is_write (access_in (closing_next c at flick)).how ≡ true) × ((access_in (closing_next c at flick)).owner ≡ c.process)
+    go : (at : Closing) (flick : Bool) → closing_next c at flick ≡ Some n → (is_of_write (access_in (closing_next c at flick)).how ≡ true) × ((access_in (closing_next c at flick)).owner ≡ c.process)
     go (Withdraws w) flick h = (write ((bit_written (no_ticket c) w).made % 2 == 0) (bit_written (no_ticket c) w).value, refl)
     go (Settles f bit begun taken is t) flick h = (settle t.begun (copies.is_open_at t.made t.reader) (copies.settled_at t flick), refl)
     go (Frees is w) flick h = (write ((bit_written (no_ticket c) w).made % 2 == 0) (bit_written (no_ticket c) w).value, refl)

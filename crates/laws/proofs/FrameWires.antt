@@ -2,11 +2,10 @@
 use Rattle.std.proofs.Common.{◌≡◌, ◌≢◌, ℕ, Bool, true, false, cond, List, ◌∷◌, Some, None, refl, ap, ◌∙◌}
 use Rattle.model.specs.safe_bit.Cell.{Cell}
 use Rattle.model.specs.safe_bit.Cell as bit
-use Rattle.model.specs.safe_bit.{Move}
+use Rattle.model.specs.safe_bit.{Move, is_of_write}
 use Rattle.model.specs.safe_bit.declared.Move.TheVariants.{BeginWrite, EndWrite, BeginRead, EndRead, Settle}
 use Rattle.model.specs.{Access, Entry, Event, Field, Past, copy, past_of, same_bit, value_of, valued}
 use Rattle.plain_store.specs.{Setup}
-use Rattle.model.proofs.Singles.{is_write}
 use Rattle.model.proofs.Width.{IsGood}
 use Rattle.laws.proofs.FrameCells.{cells, cells-entry, cells-kept, cells-others, cells-apart, KeptBits, EntryBy, off-field, off-reader, itself, answer-read}
 use Rattle.laws.proofs.Invariant.{Wire, wire, wires, touches}
@@ -35,7 +34,7 @@ pub touched-moved : (c : Cell) (m : Move) → (bit.cell_after c m).touched ≡ t
 touched-moved c (BeginWrite v) = refl
 touched-moved c _ = refl
 
-read-keeps : (w : Wire) (m : Move) → is_write m ≡ false → wire_after w m ≡ w
+read-keeps : (w : Wire) (m : Move) → is_of_write m ≡ false → wire_after w m ≡ w
 read-keeps w (BeginWrite v) h = cc
 read-keeps w EndWrite h = cc
 read-keeps w BeginRead h = refl
@@ -78,7 +77,7 @@ pub touches-apart : (s : Setup) (past : Past) (e : Entry) (p o r : ℕ) → Entr
 touches-apart s past e p o r by n m = λ i f k. (cells-apart s past e p o f k r by n m i).touched
 
 -- an access of a read leaves all registers as they are
-pub wires-read : (s : Setup) (past : Past) (e : Entry) (x : Access) (o : ℕ) → e.access ≡ Some x → is_write x.how ≡ false → wires s (e ∷ past) o ≡ wires s past o
+pub wires-read : (s : Setup) (past : Past) (e : Entry) (x : Access) (o : ℕ) → e.access ≡ Some x → is_of_write x.how ≡ false → wires s (e ∷ past) o ≡ wires s past o
 wires-read s past e x o h w = λ i f k r. one f k r i
   where
     one : (f : Field) (k r : ℕ) → wires s (e ∷ past) o f k r ≡ wires s past o f k r

@@ -3,13 +3,12 @@ use Rattle.std.proofs.Common.{◌≡◌, ◌==◌, ◌&&◌, ◌||◌, Bool, tru
 use Rattle.std.specs.Prelude.{flat_map}
 use Rattle.std.specs.List.{list_any}
 use Rattle.model.specs.safe_bit.Cell.{Cell, BitCall, Makes, Drops, AreWritesInTurn, MayMove, MayWrite, cell_after, cell_of_calls, without_read, read_answer}
-use Rattle.model.specs.safe_bit.{Move, Shows, read_value}
+use Rattle.model.specs.safe_bit.{Move, Shows, is_of_write, read_value}
 use Rattle.model.specs.safe_bit.declared.Move.TheVariants.{BeginWrite, EndWrite, BeginRead, EndRead, Settle}
 use Rattle.model.proofs.safe_bit.Showing.{answer-shows, shows_dropped, shows_moves}
 use Rattle.model.specs.{Access, Entry, Event, Mark, Past, is_end_of_read, entry_of, is_failed, moves_of, opening_bit, past_of, same_bit}
 use Rattle.plain_store.specs.{Setup}
 use Rattle.model.specs.Newest as record_cells
-use Rattle.model.proofs.Singles.{is_write}
 use Rattle.model.proofs.TurnRecords.{turns_all}
 use Rattle.model.proofs.Width.{IsGood}
 use Rattle.laws.specs.{calls_on, cell_held, drops, is_withdrawn}
@@ -52,7 +51,7 @@ drops-by e marks h = ap (λ ms. list_any is_failed ms || list_any is_withdrawn m
 -- Whether a read is open.
 
 -- a move of a write leaves it
-pub write-keeps : (c : Cell) (m : Move) → is_write m ≡ true → (cell_after c m).reading ≡ c.reading
+pub write-keeps : (c : Cell) (m : Move) → is_of_write m ≡ true → (cell_after c m).reading ≡ c.reading
 write-keeps c (BeginWrite v) h = refl
 write-keeps c EndWrite h = refl
 write-keeps c (Settle v) h = refl
@@ -60,7 +59,7 @@ write-keeps c BeginRead h = cc
 write-keeps c (EndRead v) h = cc
 
 -- an entry with an access of a write leaves the open read
-pub reading-written : (s : Setup) (past : Past) (e : Entry) (x a : Access) → e.access ≡ Some x → is_write x.how ≡ true → (cell_held s (e ∷ past) a).reading ≡ (cell_held s past a).reading
+pub reading-written : (s : Setup) (past : Past) (e : Entry) (x a : Access) → e.access ≡ Some x → is_of_write x.how ≡ true → (cell_held s (e ∷ past) a).reading ≡ (cell_held s past a).reading
 reading-written s past e x a h w = ap (λ (c : Cell). c.reading) (held-entry s past e x a h) ∙ go (same_bit a x)
   where
     go : (b : Bool) → (cond b (cell_after (cell_held s past a) x.how) (cell_held s past a)).reading ≡ (cell_held s past a).reading
@@ -162,7 +161,7 @@ held_ends s g events event e h a acc v how calm =
     ends_as_it_may s (past_of s events) event e h a v acc how (sym shows.touched ∙ calm) ∙ sym (shows.untouched calm)
 
 -- a move may be made where its write is in turn, and where a read is open if it ends one, and only then
-pub may_move : (c : Cell) (m : Move) → MayWrite c m → (is_write m ≡ false → c.reading ≡ is_end_of_read m) → ((v : Bool) → m ≡ EndRead v → c.touched ≡ false → v ≡ c.value) → MayMove c m
+pub may_move : (c : Cell) (m : Move) → MayWrite c m → (is_of_write m ≡ false → c.reading ≡ is_end_of_read m) → ((v : Bool) → m ≡ EndRead v → c.touched ≡ false → v ≡ c.value) → MayMove c m
 may_move c (BeginWrite v) turn reading ends = turn
 may_move c EndWrite turn reading ends = turn
 may_move c (Settle v) turn reading ends = turn

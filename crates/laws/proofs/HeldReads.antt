@@ -2,12 +2,11 @@
 use Rattle.std.proofs.Common.{◌≡◌, ◌≢◌, ℕ, ◌==◌, ◌&&◌, Bool, true, false, cond, List, [], ◌∷◌, Some, None, refl, sym, ap, subst, ◌∙◌, true≢false, eqb-true, eq-eqb, ne_eqb}
 use Rattle.std.proofs.lemmas.Bool.{eqb-false}
 use Rattle.model.specs.safe_bit.Cell.{Cell, cell_after}
-use Rattle.model.specs.safe_bit.{read_value}
+use Rattle.model.specs.safe_bit.{is_of_write, read_value}
 use Rattle.model.specs.{Access, Call, Closing, Entry, Event, Part, Past, Place, Reading, Run, Withdraws, Writing, access_at, bits_with, closing_after, ended_with, is_end_of_read, enter, entry_of, is_last, is_over, is_read, moves_of, new_run, opening_bit, part_after, past-induction, past_of, place_after, run_after, same_bit, value_of, valued, width, written_at}
 use Rattle.model.specs.safe_number.{NumberWrite, new_write}
 use Rattle.plain_store.specs.{Command, Setup}
 use Rattle.model.specs.declared.marks.Mark.TheVariants.{Called, Failed, Withdrew, Restarted}
-use Rattle.model.proofs.Singles.{is_write}
 use Rattle.model.proofs.Turns.{and_false}
 use Rattle.model.proofs.Width.{IsGood}
 use Rattle.laws.specs.{Closes, Doing, Lies, Rests, Runs, call, cell_held, closes, doing, drops, runs}
@@ -15,7 +14,7 @@ use Rattle.laws.proofs.Frame.{Happens, a_call, a_withdrawal, a_failure, a_restar
 use Rattle.laws.proofs.FrameCells.{EntryBy, marks_only, makes, itself, on-copy}
 use Rattle.laws.proofs.FrameCuts.{written-writes}
 use Rattle.laws.proofs.FrameEvents.{Accepted, accepted}
-use Rattle.laws.proofs.FrameSteps.{closing-writes, entry-by, is_write-ended}
+use Rattle.laws.proofs.FrameSteps.{closing-writes, entry-by, is_of_write-ended}
 use Rattle.laws.proofs.HeldCells.{drops-by, held-entry, reading-apart, reading-dropped, reading-kept, reading-written}
 
 -- a number access has a read of the bit open
@@ -67,8 +66,8 @@ after-none c part run v a h = go (is_last c part run)
 -- A step.
 
 -- a write's access, with any value
-pub place-writes : (c : Call) (part : Part) (w : NumberWrite) (v : Bool) → is_write (ended_with v (access_at c part (Writing w))).how ≡ true
-place-writes c part w v = is_write-ended v (access_at c part (Writing w)).how ∙ written-writes c.process (written_at c part).0 (written_at c part).1 w
+pub place-writes : (c : Call) (part : Part) (w : NumberWrite) (v : Bool) → is_of_write (ended_with v (access_at c part (Writing w))).how ≡ true
+place-writes c part w v = is_of_write-ended v (access_at c part (Writing w)).how ∙ written-writes c.process (written_at c part).0 (written_at c part).1 w
 
 -- the reads that are open after an access at a place
 step-reads : (s : Setup) (past : Past) (p : ℕ) (e : Entry) (command : Command) (number : ℕ) (part : Part) (run : Run) (x : Access) (flick : Bool) (a : Access)
@@ -76,7 +75,7 @@ step-reads : (s : Setup) (past : Past) (p : ℕ) (e : Entry) (command : Command)
     is_over part ≡ false → e.access ≡ Some x → x ≡ valued s past flick (access_at c part run) → (cell_held s past a).reading ≡ open_read c part run a →
     (cell_held s (e ∷ past) a).reading ≡ reads_now s p a (runs command number (place_after c (record { part = part; run = run }) (value_of x.how)))
 step-reads s past p e command number part (Writing w) x flick a o h is was =
-    reading-written s past e x a h (ap (λ (y : Access). is_write y.how) is ∙ place-writes c part w (read_value (opening_bit s (access_at c part (Writing w))) (moves_of (access_at c part (Writing w)) past) flick)) ∙ was
+    reading-written s past e x a h (ap (λ (y : Access). is_of_write y.how) is ∙ place-writes c part w (read_value (opening_bit s (access_at c part (Writing w))) (moves_of (access_at c part (Writing w)) past) flick)) ∙ was
     ∙ sym (runs-none s p a command number (place_after c (record { part = part; run = Writing w }) (value_of x.how)) (after-none c part (Writing w) (value_of x.how) a refl))
   where
     c : Call
@@ -128,9 +127,9 @@ own-reads s past p e d d' a (a_closing command number at flick n was next access
 -- an entry of another process leaves it
 others-read : (s : Setup) (past : Past) (e : Entry) (a : Access) → EntryBy e.process e → e.process ≢ a.reader → (cell_held s (e ∷ past) a).reading ≡ (cell_held s past a).reading
 others-read s past e a (marks_only none) apart = reading-kept s past e a none (ap (λ b. drops e && b) (ne_eqb e.process a.reader apart) ∙ and_false (drops e))
-others-read s past e a (makes x h by) apart = go (is_write x.how) refl (same_bit a x) refl
+others-read s past e a (makes x h by) apart = go (is_of_write x.how) refl (same_bit a x) refl
   where
-    go : (w : Bool) → is_write x.how ≡ w → (b : Bool) → same_bit a x ≡ b → (cell_held s (e ∷ past) a).reading ≡ (cell_held s past a).reading
+    go : (w : Bool) → is_of_write x.how ≡ w → (b : Bool) → same_bit a x ≡ b → (cell_held s (e ∷ past) a).reading ≡ (cell_held s past a).reading
     go true i b j = reading-written s past e x a h i
     go false i false j = reading-apart s past e x a h j
     go false i true j = absurd (apart (sym ((on-copy x a.owner a.field a.bit a.reader j).reader ∙ by.reads i)))
@@ -163,16 +162,16 @@ reads_are s g events = past-induction ReadsAll s (λ g p a r. refl) more events 
 -- The access itself.
 
 -- at a place, a read is open if the access ends it, and only then
-place-reads : (s : Setup) (past : Past) (c : Call) (part : Part) (run : Run) (flick : Bool) (a : Access) → a ≡ valued s past flick (access_at c part run) → is_write a.how ≡ false → open_read c part run a ≡ is_end_of_read a.how
+place-reads : (s : Setup) (past : Past) (c : Call) (part : Part) (run : Run) (flick : Bool) (a : Access) → a ≡ valued s past flick (access_at c part run) → is_of_write a.how ≡ false → open_read c part run a ≡ is_end_of_read a.how
 place-reads s past c part (Writing w) flick a is r =
-    absurd (true≢false (sym (ap (λ (y : Access). is_write y.how) is ∙ place-writes c part w (read_value (opening_bit s (access_at c part (Writing w))) (moves_of (access_at c part (Writing w)) past) flick)) ∙ r))
+    absurd (true≢false (sym (ap (λ (y : Access). is_of_write y.how) is ∙ place-writes c part w (read_value (opening_bit s (access_at c part (Writing w))) (moves_of (access_at c part (Writing w)) past) flick)) ∙ r))
 place-reads s past c part (Reading bits true) flick a is r =
     let x : Access = access_at c part (Reading bits true) in
     ap (λ (y : Access). same_bit y x) is ∙ itself x ∙ sym (ap (λ (y : Access). is_end_of_read y.how) is)
 place-reads s past c part (Reading bits false) flick a is r = sym (ap (λ (y : Access). is_end_of_read y.how) is)
 
 -- at each access of a process, a read is open if the access ends it, and only then
-pub access-reads : (s : Setup) (past : Past) (p : ℕ) (e : Entry) (d d' : Doing) (a : Access) → Happens s past p e d d' → e.access ≡ Some a → is_write a.how ≡ false → reads_now s p a d ≡ is_end_of_read a.how
+pub access-reads : (s : Setup) (past : Past) (p : ℕ) (e : Entry) (d d' : Doing) (a : Access) → Happens s past p e d d' → e.access ≡ Some a → is_of_write a.how ≡ false → reads_now s p a d ≡ is_end_of_read a.how
 access-reads s past p e d d' a (a_call command number was none marks then) h r = let f : None ≡ Some a = sym none ∙ h in cc
 access-reads s past p e d d' a (a_withdrawal command number t w ws run was none marks then) h r = let f : None ≡ Some a = sym none ∙ h in cc
 access-reads s past p e d d' a (a_failure command number may none marks then) h r = let f : None ≡ Some a = sym none ∙ h in cc
@@ -184,4 +183,4 @@ access-reads s past p e d d' a (a_step command number at x flick was over access
 access-reads s past p e d d' a (a_closing command number at flick n was next access made marks then) h r =
     let f : Some n.access ≡ Some a = sym access ∙ h in
     let same : n.access ≡ a = cc in
-    absurd (true≢false (sym (closing-writes (call s p command number) at flick n next).0 ∙ ap (λ (y : Access). is_write y.how) same ∙ r))
+    absurd (true≢false (sym (closing-writes (call s p command number) at flick n next).0 ∙ ap (λ (y : Access). is_of_write y.how) same ∙ r))

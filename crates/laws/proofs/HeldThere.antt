@@ -2,13 +2,13 @@
 use Rattle.std.proofs.Common.{◌≡◌, ◌≢◌, ℕ, ◌+◌, ◌/◌, ◌*◌, ◌<◌, ◌==◌, ◌||◌, Bool, true, false, cond, List, [], ◌∷◌, Option, Some, None, length, refl, sym, ap, subst, ◌∙◌, arith}
 use Rattle.std.proofs.lemmas.Bool.{eqb-false}
 use Rattle.model.specs.reader_copies.Runs as copies
+use Rattle.model.specs.safe_bit.{is_of_write}
 use Rattle.model.specs.{Access, Call, Entry, Event, Next, Part, Past, Place, Reading, Run, Writing, access_at, bit_written, entry_of, is_finished, is_over, last_write, own, past_of, place_after, unfinished, value_of, width, write_moved, written_at}
 use Rattle.model.specs.safe_number.{new_write}
 use Rattle.plain_store.specs.{Command, Setup}
 use Rattle.model.specs.Closings.{Closing, Withdraws, Settles, Frees, Lowers, Quit, Ended, closing_after, closing_next, freeing, is_last_settled, is_last_written, no_ticket, settling_from}
 use Rattle.model.proofs.Closing.{ticket_width}
 use Rattle.model.proofs.PlaceTurns.{access_in}
-use Rattle.model.proofs.Singles.{is_write}
 use Rattle.model.proofs.Ties.{written-width}
 use Rattle.model.proofs.Width.{IsGood}
 use Rattle.model.proofs.Opens.{last-none}
@@ -177,7 +177,7 @@ last-there s mine e made last a h = go e.access refl
 
     go : (x : Option Access) → e.access ≡ x → a.bit < width s a.field
     go None none = last a (sym (last-none e mine none) ∙ h)
-    go (Some x) is = written x (made x is) (is_write x.how) (sym (last-made e mine x is) ∙ h)
+    go (Some x) is = written x (made x is) (is_of_write x.how) (sym (last-made e mine x is) ∙ h)
 
 -- the access of an entry, if the bit that a unit settles exists
 entry-there : (s : Setup) → IsGood s → (events : List Event) (event : Event) (e : Entry) → entry_of s (past_of s events) event ≡ Some e → ClosesThere s (doing s e.process (past_of s events)) →

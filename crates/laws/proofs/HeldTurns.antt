@@ -1,11 +1,10 @@
 -- Every access is in its turn on the registers, and each open read is of the register that its process reads at its place.
 use Rattle.std.proofs.Common.{◌≡◌, ℕ, true, false, List, ◌∷◌, Option, Some, None, refl, sym, ap, subst, ◌∙◌, true≢false}
-use Rattle.model.specs.safe_bit.{MayMove}
+use Rattle.model.specs.safe_bit.{MayMove, is_of_write}
 use Rattle.model.specs.{Access, Call, Entry, Event, Part, Past, Place, Reading, Run, Writing, access_at, entry_of, is_read, is_running, last_call, last_start, own, past_of, read_at, stage}
 use Rattle.plain_store.specs.{Command, Setup}
 use Rattle.model.specs.declared.marks.Mark.TheVariants.{Called}
 use Rattle.model.proofs.OpenSteps.{place_at}
-use Rattle.model.proofs.Singles.{is_write}
 use Rattle.model.proofs.Width.{IsGood}
 use Rattle.laws.specs.{cell_held, doing}
 use Rattle.laws.proofs.Frame.{Does, at_rest, lying, running, leaving, settling}
@@ -17,12 +16,12 @@ use Rattle.laws.proofs.HeldCells.{held_ends, held_writes, may_move}
 use Rattle.laws.proofs.HeldReads.{access-reads, open_read, reads_are, reads_now}
 
 -- the process that reads is the reader
-reader-is : (e : Entry) (a : Access) → EntryBy e.process e → e.access ≡ Some a → is_write a.how ≡ false → a.reader ≡ e.process
+reader-is : (e : Entry) (a : Access) → EntryBy e.process e → e.access ≡ Some a → is_of_write a.how ≡ false → a.reader ≡ e.process
 reader-is e a (marks_only none) acc r = let f : None ≡ Some a = sym none ∙ acc in cc
 reader-is e a (makes x h by) acc r =
     let f : Some x ≡ Some a = sym h ∙ acc in
     let same : x ≡ a = cc in
-    sym (ap (λ (y : Access). y.reader) same) ∙ by.reads (ap (λ (y : Access). is_write y.how) same ∙ r)
+    sym (ap (λ (y : Access). y.reader) same) ∙ by.reads (ap (λ (y : Access). is_of_write y.how) same ∙ r)
 
 pub comes_in_turn : (s : Setup) → IsGood s → (events : List Event) (event : Event) (e : Entry) → entry_of s (past_of s events) event ≡ Some e → (a : Access) → e.access ≡ Some a →
     MayMove (cell_held s (past_of s events) a) a.how

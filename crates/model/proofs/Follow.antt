@@ -3,10 +3,10 @@ use Rattle.std.specs.Prelude.{◌≡◌, ◌⊎◌, refl, ℕ, suc, ◌+◌, ◌
 use Rattle.std.proofs.Common.{sym, ◌∙◌, ap, true≢false, arith, append_assoc, append-nil, length-append, eqb-true, ne_eqb, eq-eqb, inl, inr}
 use Rattle.std.proofs.lemmas.Bool.Decides.{eqb_tells}
 use Rattle.model.specs.{Access, Call, Field, IsFollowed, Next, Numbers, Over, Part, Portion, Raises, ReadSoFar, Script, doing, ended, ended_with, first_marks, is_over, is_read, last_marks, local_program, part_after, read_at, read_of, reads_of, scripted, single, singles, width, with_access, with_move, write_of, written_at}
-use Rattle.safe_bit.specs.{Move}
+use Rattle.safe_bit.specs.{Move, is_of_write}
 use Rattle.safe_bit.specs.declared.Move.TheVariants.{BeginWrite, EndWrite, BeginRead, EndRead, Settle}
 use Rattle.model.proofs.Singles
-use Rattle.model.proofs.Singles.{get-append, get-remaining, get-none, length-single, single-access, length-reads_from, Half, begins, ends, read-at, is_write, AllWrites-write_of, AllWrites-get}
+use Rattle.model.proofs.Singles.{get-append, get-remaining, get-none, length-single, single-access, length-reads_from, Half, begins, ends, read-at, AllWrites-write_of, AllWrites-get}
 use Rattle.model.proofs.Place.{portion, rest, rest-unread, rest-read, rest-write}
 use Rattle.model.proofs.Width.{IsGood, doing-pos}
 
@@ -134,14 +134,14 @@ is_end_of_read c g r q len at v st w f b l = record {
     mine : List Next
     mine = single (first_marks at.part) (last_marks c at.part v) (doing c at.part)
 
-pub write-adds_nothing : (w k : ℕ) (v : Bool) (m : Move) (r : ReadSoFar) → is_write m ≡ true → with_move w k (ended v m) r ≡ r
+pub write-adds_nothing : (w k : ℕ) (v : Bool) (m : Move) (r : ReadSoFar) → is_of_write m ≡ true → with_move w k (ended v m) r ≡ r
 write-adds_nothing w k v (BeginWrite b) r h = refl
 write-adds_nothing w k v EndWrite r h = refl
 write-adds_nothing w k v (Settle b) r h = refl
 write-adds_nothing w k v BeginRead r h = cc
 write-adds_nothing w k v (EndRead b) r h = cc
 
-pub write-no_bits : (v : Bool) (m : Move) (bits : List Bool) → is_write m ≡ true → more_bits (ended v m) bits ≡ bits
+pub write-no_bits : (v : Bool) (m : Move) (bits : List Bool) → is_of_write m ≡ true → more_bits (ended v m) bits ≡ bits
 write-no_bits v (BeginWrite b) bits h = refl
 write-no_bits v EndWrite bits h = refl
 write-no_bits v (Settle b) bits h = refl
@@ -153,7 +153,7 @@ pub step_write : (c : Call) → IsGood c.setup → (r : ReadSoFar) (len : ℕ) (
 step_write c g r len at x v st w o h =
     rw (write-adds_nothing (width c.setup x.field) x.bit v x.how r is, write-no_bits v x.how at.bits is, st.fresh w) (go (at.made + 1 == length (doing c at.part)) refl)
   where
-    is : is_write x.how ≡ true
+    is : is_of_write x.how ≡ true
     is = AllWrites-get (write_of c.setup c.process (written_at c at.part).0 (written_at c at.part).1) at.made x
         (AllWrites-write_of c.setup c.process (written_at c at.part).0 (written_at c at.part).1)
         (ap (λ b. slice_get (cond b (read_of c.setup c.process (read_at c at.part).0 (read_at c at.part).1) (write_of c.setup c.process (written_at c at.part).0 (written_at c at.part).1)) at.made) (sym w) ∙ h)

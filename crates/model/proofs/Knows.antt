@@ -1,11 +1,11 @@
 -- The store that a call knows while it writes a change is the one of the image that it has read last.
 use Rattle.std.proofs.Common.{◌≡◌, ℕ, ◌+◌, ◌==◌, ◌%◌, Bool, true, false, cond, List, [], ◌∷◌, ◌++◌, Some, length, refl, sym, ap, subst, ◌∙◌, true≢false}
+use Rattle.safe_bit.specs.{is_of_write}
 use Rattle.safe_bit.specs.declared.Move.TheVariants.{BeginWrite, EndWrite}
 use Rattle.model.specs.{Access, Call, Numbers, Place, ReadSoFar, Reading, Run, Version, Wait, Writing, access_at, bit_written, ended_with, enter, greatest, is_last, last_read, lets_by, max_of, newest_stamp, others, place_after, run_after, store_read, value_of, waits_of, width, with_access, write_moved}
 use Rattle.plain_store.specs.{Contents, changes}
 use Rattle.model.specs.Parts.{Part, Raises, Asks, TakesTicket, Lowers, Refuses, Waits, AsksCommit, AsksStamp, AsksImage, WritesImage, WritesStamp, WritesCommit, Clears, is_read, is_over, read_at, written_at, part_after, to_b, to_c, to_d, to_e, to_g}
 use Rattle.model.proofs.Follow.{write-adds_nothing}
-use Rattle.model.proofs.Singles.{is_write}
 use Rattle.model.proofs.Ties.{Tie, over, writes, reads}
 
 -- the store of a change is that of the number that was read last
@@ -78,7 +78,7 @@ knows-write c (WritesImage vs store) f r h = h
 knows-write c (WritesStamp vs store) f r h = h
 knows-write c _ f r h = tt
 
-writes-of : (even v : Bool) → is_write (cond even (BeginWrite v) EndWrite) ≡ true
+writes-of : (even v : Bool) → is_of_write (cond even (BeginWrite v) EndWrite) ≡ true
 writes-of true v = refl
 writes-of false v = refl
 

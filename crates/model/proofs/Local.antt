@@ -7,13 +7,14 @@ use Rattle.plain_store.specs.{Command, Setup}
 use Rattle.model.specs.declared.marks.Mark.TheVariants.{Called, Failed, Down, Withdrew}
 use Rattle.model.specs.declared.stages.Stage.TheVariants.{Idle, Leaving, Settling, Down}
 use Rattle.model.proofs.Singles
-use Rattle.model.proofs.Singles.{get-append, get-remaining, length-single, Half, begins, ends, read-at, is_write, AllWrites-write_of, AllWrites-get}
+use Rattle.model.proofs.Singles.{get-append, get-remaining, length-single, Half, begins, ends, read-at, AllWrites-write_of, AllWrites-get}
 use Rattle.model.proofs.Place.{portion, rest, rest-read}
 use Rattle.model.proofs.Follow.{Spot, more_bits, moved_on, Stands, next_access, not_over, write-adds_nothing, step}
 use Rattle.model.proofs.Ties.{Tied, tied-next, tied-on}
 use Rattle.model.proofs.Marking.{spot_marks, marks_are}
 use Rattle.model.proofs.Width.{IsGood}
 use Rattle.model.proofs.Staging.{stage-marks, stage-placed, no_start-marks, no_start-placed, no_called, no_command, no_start}
+use Rattle.safe_bit.specs.{is_of_write}
 
 pub record Running (s : Setup) (p : ℕ) (mine : Past) (st : Stage) : Type 0 where
   pub command : Command
@@ -93,7 +94,7 @@ made_too c r len at n v st h = go (is_read at.part) refl
     go : (b : Bool) → is_read at.part ≡ b → Made (with_access c.setup (Some (ended_with v n.access)) r)
     go false w = (n, ap (λ (q : ReadSoFar). scripted c q.finished len) (write-adds_nothing (width c.setup n.access.field) n.access.bit v n.access.how r is) ∙ h)
       where
-        is : is_write n.access.how ≡ true
+        is : is_of_write n.access.how ≡ true
         is = AllWrites-get (write_of c.setup c.process (written_at c at.part).0 (written_at c at.part).1) at.made n.access
             (AllWrites-write_of c.setup c.process (written_at c at.part).0 (written_at c at.part).1)
             (ap (λ b. slice_get (cond b (read_of c.setup c.process (read_at c at.part).0 (read_at c at.part).1) (write_of c.setup c.process (written_at c at.part).0 (written_at c at.part).1)) at.made) (sym w) ∙ next_access c r len at n st h)

@@ -3,9 +3,10 @@ use Rattle.std.specs.Prelude.{◌≡◌, ◌⊎◌, refl, ℕ, zero, suc, ◌+�
 use Rattle.std.proofs.Common.{sym, ◌∙◌, ap, arith, append-nil, ne_eqb, eq-eqb, inl, inr}
 use Rattle.model.specs.{Access, Call, Clears, Field, Mark, Next, Numbers, Part, Portion, ReadSoFar, Script, doing, ended, ended_with, first_marks, is_over, is_read, last_marks, part_after, read_at, read_of, scripted, single, singles, width, with_access, with_move, write_of, written_at}
 use Rattle.model.proofs.Singles
-use Rattle.model.proofs.Singles.{get-append, get-remaining, length-single, length-reads_from, Half, begins, ends, read-at, is_write, AllWrites-write_of, AllWrites-get}
+use Rattle.model.proofs.Singles.{get-append, get-remaining, length-single, length-reads_from, Half, begins, ends, read-at, AllWrites-write_of, AllWrites-get}
 use Rattle.model.proofs.Place.{portion, rest, rest-unread, rest-read, rest-write}
 use Rattle.model.proofs.Follow.{Spot, more_bits, Stands, next_access, not_over, same_end, write-adds_nothing, write-no_bits}
+use Rattle.safe_bit.specs.{is_of_write}
 
 -- first on the first access, last on the last one
 abbrev pub marks_on : List Mark → List Mark → ℕ → ℕ → List Mark
@@ -64,7 +65,7 @@ marks_write c r len at n m v st w h k =
     o : is_over at.part ≡ false
     o = not_over c r len at n st h
 
-    is : is_write n.access.how ≡ true
+    is : is_of_write n.access.how ≡ true
     is = AllWrites-get (write_of c.setup c.process (written_at c at.part).0 (written_at c at.part).1) at.made n.access
         (AllWrites-write_of c.setup c.process (written_at c at.part).0 (written_at c at.part).1)
         (ap (λ b. slice_get (cond b (read_of c.setup c.process (read_at c at.part).0 (read_at c at.part).1) (write_of c.setup c.process (written_at c at.part).0 (written_at c at.part).1)) at.made) (sym w) ∙ next_access c r len at n st h)

@@ -2,7 +2,7 @@
 use Rattle.std.specs.Prelude.{◌≡◌, refl, ℕ, zero, suc, ◌+◌, ◌*◌, ◌<◌, Bool, true, false, List, [], ◌∷◌, ◌++◌, length, map, replicate, slice_get, Option, None, Some}
 use Rattle.std.proofs.Common.{sym, subst, ap, arith, zero-add, suc-add}
 use Rattle.model.specs.{Access, Field, Mark, Next, access_of, single, write_of}
-use Rattle.safe_bit.specs.{Move}
+use Rattle.safe_bit.specs.{Move, is_of_write}
 use Rattle.safe_bit.specs.declared.Move.TheVariants.{BeginWrite, EndWrite, BeginRead, EndRead, Settle}
 use Rattle.plain_store.specs.{Setup}
 use Rattle.safe_number.specs.{at_bit}
@@ -70,24 +70,16 @@ read-at p owner field k (suc n) (suc (suc i)) x h =
     let r = read-at p owner field (k + 1) n i x h in
     record { of_field = r.of_field; half = half_more k n i x r.half }
 
--- a write is made of write moves
-abbrev pub is_write : Move → Bool
-is_write (BeginWrite v) = true
-is_write EndWrite = true
-is_write (Settle v) = true
-is_write BeginRead = false
-is_write (EndRead v) = false
-
-pub is_write-true : (m : Move) → IsWrite m → is_write m ≡ true
-is_write-true (BeginWrite v) h = refl
-is_write-true EndWrite h = refl
-is_write-true (Settle v) h = refl
-is_write-true BeginRead h = absurd h
-is_write-true (EndRead v) h = absurd h
+pub is_of_write-true : (m : Move) → IsWrite m → is_of_write m ≡ true
+is_of_write-true (BeginWrite v) h = refl
+is_of_write-true EndWrite h = refl
+is_of_write-true (Settle v) h = refl
+is_of_write-true BeginRead h = absurd h
+is_of_write-true (EndRead v) h = absurd h
 
 abbrev pub AllWrites : List Access → Type 0
 AllWrites [] = Unit {0}
-AllWrites (a ∷ xs) = (is_write a.how ≡ true) × AllWrites xs
+AllWrites (a ∷ xs) = (is_of_write a.how ≡ true) × AllWrites xs
 
 pub AllWrites-append : (xs bs : List Access) → AllWrites xs → AllWrites bs → AllWrites (xs ++ bs)
 AllWrites-append [] bs h k = k
@@ -111,7 +103,7 @@ AllWrites-bits n p field k (b ∷ bits) =
 pub AllWrites-write_of : (s : Setup) (p : ℕ) (field : Field) (bits : List Bool) → AllWrites (write_of s p field bits)
 AllWrites-write_of s p field bits = AllWrites-bits s.processes p field 0 bits
 
-pub AllWrites-get : (xs : List Access) (i : ℕ) (x : Access) → AllWrites xs → slice_get xs i ≡ Some x → is_write x.how ≡ true
+pub AllWrites-get : (xs : List Access) (i : ℕ) (x : Access) → AllWrites xs → slice_get xs i ≡ Some x → is_of_write x.how ≡ true
 AllWrites-get [] zero x w h = cc
 AllWrites-get [] (suc i) x w h = cc
 AllWrites-get (a ∷ xs) zero x w h = let e : a ≡ x = cc in rw (← e) w.0

@@ -2,7 +2,7 @@
 use Rattle.std.proofs.Common.{◌≡◌, ℕ, ◌==◌, ◌&&◌, Bool, true, false, cond, List, [], ◌∷◌, ◌++◌, Option, Some, None, refl, sym, ap, subst, ◌∙◌, true≢false, inl, inr, eqb-true}
 use Rattle.std.specs.Prelude.{fold, nat_lt}
 use Rattle.safe_bit.specs.Cell.{Cell, cell_of, MayWrite, AreWritesInTurn}
-use Rattle.safe_bit.specs.{Move, is_write_open}
+use Rattle.safe_bit.specs.{Move, is_of_write, is_write_open}
 use Rattle.safe_bit.specs.declared.Move.TheVariants.{BeginWrite, EndWrite, BeginRead, EndRead, Settle}
 use Rattle.model.specs.{Access, Call, Entry, Event, Mark, Past, Run, Stage, TornBit, Turn, added, entry_of, field_number, is_running, last_call, last_write, moves_of, open_closing, open_run, opening_bit, own, past_of, process_of, refused_at, same_bit, settling_from, stage, stage_after, torn_at, torn_run, unfinished}
 use Rattle.plain_store.specs.{Setup}
@@ -14,7 +14,6 @@ use Rattle.model.proofs.OpenRecords.{withdrawn-out, unit-out}
 use Rattle.model.proofs.OpenSteps.{Opens, closed, runs_at, leaves, settles, Out, IsLate, place_at, running-out}
 use Rattle.model.proofs.Opens.{opened, Torn, open_torn}
 use Rattle.model.proofs.PlaceTurns.{enter-closed}
-use Rattle.model.proofs.Singles.{is_write}
 use Rattle.model.proofs.Standing.{at_place}
 use Rattle.model.proofs.Ties.{Tie, over, writes, reads}
 use Rattle.model.proofs.Turns.{new-closed}
@@ -186,7 +185,7 @@ cell-writing o (BeginRead ∷ ms) = cell-writing o ms
 cell-writing o (EndRead v ∷ ms) = cell-writing o ms
 
 -- a move is in its turn if it is where it writes
-by-writes : (was : Bool) (m : Move) → (is_write m ≡ true → Turn was m) → Turn was m
+by-writes : (was : Bool) (m : Move) → (is_of_write m ≡ true → Turn was m) → Turn was m
 by-writes was (BeginWrite v) h = h refl
 by-writes was EndWrite h = h refl
 by-writes was (Settle v) h = h refl
@@ -218,7 +217,7 @@ turn-more s g events event a ih (Some e) h = go e.access refl
         at false j = ih
         at true j = (may-write (cell_of (opening_bit s a) (moves_of a past)) (opened past a) b.how (cell-writing (opening_bit s a) (moves_of a past)) (by-writes (opened past a) b.how turn), ih)
           where
-            turn : is_write b.how ≡ true → Turn (opened past a) b.how
+            turn : is_of_write b.how ≡ true → Turn (opened past a) b.how
             turn w =
                 let mine : b.owner ≡ p = added-own s g past event e acc.1 (view s g events p) (one_writer s g events p) acc.2 b i w in
                 let owner : a.owner ≡ b.owner = eqb-true a.owner b.owner (owner-of (a.bit == b.bit) (a.reader == b.reader) (a.owner == b.owner) (field_number a.field == field_number b.field) j) in

@@ -2,18 +2,17 @@
 use Rattle.std.specs.Prelude.{◌≡◌, refl, ℕ, ◌<◌, Bool, true, false, List, [], ◌∷◌, ◌++◌, length, flat_map, slice_index_or}
 use Rattle.std.proofs.Common.{sym, ◌∙◌, ap, append_assoc}
 use Rattle.model.specs.{AllReads, Field, HasBits, Past, begins_read, copy, move_on, moves_of, opening_bit}
-use Rattle.safe_bit.specs.{Move, is_write_open, last_written, read_value}
+use Rattle.safe_bit.specs.{Move, is_of_write, is_write_open, last_written, read_value}
 use Rattle.safe_bit.specs.declared.Move.TheVariants.{BeginWrite, EndWrite, BeginRead, EndRead, Settle}
 use Rattle.reader_copies.specs.{IsRead}
 use Rattle.plain_store.specs.{Setup}
-use Rattle.model.proofs.Singles.{is_write}
 
 abbrev pub NoWrites : List Move → Type 0
 NoWrites [] = Unit {0}
-NoWrites (m ∷ ms) = (is_write m ≡ false) × NoWrites ms
+NoWrites (m ∷ ms) = (is_of_write m ≡ false) × NoWrites ms
 
 -- a move that begins or ends a read writes nothing
-pub read-no_write : (m : Move) → IsRead m → is_write m ≡ false
+pub read-no_write : (m : Move) → IsRead m → is_of_write m ≡ false
 read-no_write (BeginWrite v) h = absurd h
 read-no_write EndWrite h = absurd h
 read-no_write BeginRead h = refl

@@ -3,13 +3,13 @@ use Rattle.std.specs.Prelude.{◌≡◌, refl, ℕ, zero, suc, ◌+◌, ◌==◌
 use Rattle.std.proofs.Common.{sym, ◌∙◌, ap, subst, true≢false, eqb-true, eq-eqb}
 use Rattle.model.specs.{Access, Entry, Event, Field, Mark, Next, Past, Script, access_of, added, before, doing, ended, ended_with, entry_made, entry_of, field_number, has, inside, is_failed, is_finished, is_read, last_call, last_write, made_with, move_on, moves_of, nth, own, past_of, process_of, program, program_from, read_at, read_of, refused_at, same_bit, settle, settles_at, since, single, singles, stage, starts, stepped, unfinished, unit_program, valued, width, withdrawn, write_of, writing, written_at}
 use Rattle.model.specs.declared.access.Field.TheVariants.{Choosing, Ticket}
-use Rattle.safe_bit.specs.{Move, is_write_open}
+use Rattle.safe_bit.specs.{Move, is_of_write, is_write_open}
 use Rattle.safe_bit.specs.declared.Move.TheVariants.{BeginWrite, EndWrite, BeginRead, EndRead, Settle}
 use Rattle.plain_store.specs.{Setup}
 use Rattle.model.specs.declared.events.Event.TheVariants.{Call, Step, Fail, Withdraw, Restart}
 use Rattle.model.specs.declared.marks.Mark.TheVariants.{Left, Down, Failed, Withdrew}
 use Rattle.model.specs.declared.stages.Stage.TheVariants.{Idle, Down}
-use Rattle.model.proofs.Singles.{is_write, reads_from, map-joined}
+use Rattle.model.proofs.Singles.{reads_from, map-joined}
 use Rattle.model.proofs.Whole.{NoWrites, open-reads}
 use Rattle.model.proofs.Follow.{Spot, next_access}
 use Rattle.model.proofs.Local.{View, rests, down, runs, withdraws, fails, option_map-some}
@@ -22,7 +22,7 @@ use Rattle.reader_copies.specs.Runs as copies
 
 -- a write move of p is on a bit of p
 abbrev pub IsOwn : ℕ → Access → Type 0
-IsOwn p x = is_write x.how ≡ true → x.owner ≡ p
+IsOwn p x = is_of_write x.how ≡ true → x.owner ≡ p
 
 abbrev pub AllOwn : ℕ → List Access → Type 0
 AllOwn p [] = Unit {0}
@@ -131,7 +131,7 @@ unit-own c past v h = go (last_write past) refl
 pub own-valued : (p : ℕ) (v : Bool) (a : Access) → IsOwn p a → IsOwn p (ended_with v a)
 own-valued p v a h = go a.how h
   where
-    go : (m : Move) → (is_write m ≡ true → a.owner ≡ p) → is_write (ended v m) ≡ true → a.owner ≡ p
+    go : (m : Move) → (is_of_write m ≡ true → a.owner ≡ p) → is_of_write (ended v m) ≡ true → a.owner ≡ p
     go (BeginWrite w) h = h
     go _ h = h
 
@@ -245,7 +245,7 @@ others-read a e o h = go e.access refl
       where
         at : (t : Bool) → same_bit a b ≡ t → NoWrites (cond t (b.how ∷ []) [])
         at false j = tt
-        at true j = (read (is_write b.how) refl, tt)
+        at true j = (read (is_of_write b.how) refl, tt)
           where
             owner : (a.owner == b.owner) ≡ true
             owner = second (a.bit == b.bit) (first ((a.bit == b.bit) && (a.reader == b.reader) && (a.owner == b.owner)) (field_number a.field == field_number b.field) j)
@@ -262,7 +262,7 @@ others-read a e o h = go e.access refl
                     last false k = cc
                 second false k = cc
 
-            read : (w : Bool) → is_write b.how ≡ w → is_write b.how ≡ false
+            read : (w : Bool) → is_of_write b.how ≡ w → is_of_write b.how ≡ false
             read false k = k
             read true k = absurd (true≢false (sym (eq-eqb e.process a.owner (sym (o b i k) ∙ sym (eqb-true a.owner b.owner owner))) ∙ h))
 

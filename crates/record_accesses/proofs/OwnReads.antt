@@ -10,13 +10,12 @@ use Rattle.laws.proofs.FrameSteps.{closing-writes, entry-by, step_of, valued-wri
 use Rattle.laws.proofs.HeldReads.{place-writes}
 use Rattle.laws.proofs.HeldThere.{access_there}
 use Rattle.plain_store.specs.{Command, Setup}
-use Rattle.model.specs.safe_bit.{Move, is_overlapped, is_write_open, read_value}
+use Rattle.model.specs.safe_bit.{Move, is_of_write, is_overlapped, is_write_open, read_value}
 use Rattle.model.specs.safe_bit.declared.Move.TheVariants.{BeginWrite, EndWrite, BeginRead, EndRead, Settle}
 use Rattle.model.specs.{Access, Call, Entry, Event, Past, Place, Reading, Run, Writing, access_at, ended_with, entry_of, last_call, last_start, moves_of, open_run, opening_bit, own, past_of, same_bit, stage, valued, width}
 use Rattle.model.specs.Parts.{Part}
 use Rattle.model.specs.declared.marks.Mark.TheVariants.{Called}
 use Rattle.model.proofs.OpenSteps.{Opens, closed, leaves, place_at, runs_at, settles}
-use Rattle.model.proofs.Singles.{is_write}
 use Rattle.model.proofs.TurnRecords.{opens_all}
 use Rattle.model.proofs.Width.{IsGood, is_good}
 use Rattle.model.proofs.Writer.{EachOwn, each_own, open-own}
@@ -38,7 +37,7 @@ at-place s p past command number at (running c b r k) was = (c, b, cc)
 -- one that reads there has no write open, whatever its call is
 reads-quiet : (c k : Call) (part : Part) (run : Run) (v : Bool) (a : Access) → a ≡ ended_with v (access_at c part run) → a.how ≡ BeginRead → (b : Access) → open_run k part run b ≡ false
 reads-quiet c k part (Reading bits begun) v a is how b = refl
-reads-quiet c k part (Writing w) v a is how b = absurd (true≢false (sym (place-writes c part w v) ∙ ap (λ (x : Access). is_write x.how) (sym is) ∙ ap is_write how))
+reads-quiet c k part (Writing w) v a is how b = absurd (true≢false (sym (place-writes c part w v) ∙ ap (λ (x : Access). is_of_write x.how) (sym is) ∙ ap is_of_write how))
 
 quiet-at : (s : Setup) (p : ℕ) (past : Past) (at : Place) (c : Command) → Opens s p (own p past) (stage p past) → last_start (own p past) ≡ Some (Called c) → place_at s p (own p past) ≡ at →
     ((k : Call) (b : Access) → open_run k at.part at.run b ≡ false) → (b : Access) → is_write_open (moves_of b (own p past)) ≡ false
@@ -67,7 +66,7 @@ quiet-reader s g events what e a h access how b = go (step_of s g events what e 
     go (closes_on command number at flick n d next made d') =
         let writes = (closing-writes (call s p command number) at flick n next).0 in
         let is : a ≡ n.access = (let same : valued s past flick n.access ≡ a = cc in sym same ∙ valued-write s past flick n.access writes) in
-        absurd (true≢false (sym writes ∙ ap (λ (x : Access). is_write x.how) (sym is) ∙ ap is_write how))
+        absurd (true≢false (sym writes ∙ ap (λ (x : Access). is_of_write x.how) (sym is) ∙ ap is_of_write how))
     go (steps command number at x flick d over made is d') =
         let same : a ≡ x = cc in
         let there = at-place s p past command number at (does_all s g events p) d in
@@ -81,14 +80,14 @@ writer-owner : (b : Access) (past : Past) (p : ℕ) → EachOwn past → writer_
 writer-owner b [] p own h = absurd (cc)
 writer-owner b (e ∷ past) p own h = by e.access (λ x. own.0 x) h (writer-owner b past p own.1)
   where
-    by : (o : Option Access) → ((x : Access) → o ≡ Some x → is_write x.how ≡ true → x.owner ≡ e.process) → writer_with e.process (elim o as (λ _. List Move) [ None ↦ [] | Some x ↦ cond (same_bit b x) (x.how ∷ []) [] ]) (writer_of b past) ≡ Some p →
+    by : (o : Option Access) → ((x : Access) → o ≡ Some x → is_of_write x.how ≡ true → x.owner ≡ e.process) → writer_with e.process (elim o as (λ _. List Move) [ None ↦ [] | Some x ↦ cond (same_bit b x) (x.how ∷ []) [] ]) (writer_of b past) ≡ Some p →
         (writer_of b past ≡ Some p → b.owner ≡ p) → b.owner ≡ p
     by None owns h rest = rest h
     by (Some x) owns h rest = at (same_bit b x) refl x.how refl h
       where
         at : (t : Bool) → same_bit b x ≡ t → (m : Move) → x.how ≡ m → writer_with e.process (cond t (m ∷ []) []) (writer_of b past) ≡ Some p → b.owner ≡ p
         at false same m is h = rest h
-        at true same (BeginWrite v) is h = ap (λ (a : Access). a.owner) (same-bare b x same) ∙ owns x refl (ap is_write is) ∙ (let e : e.process ≡ p = cc in e)
+        at true same (BeginWrite v) is h = ap (λ (a : Access). a.owner) (same-bare b x same) ∙ owns x refl (ap is_of_write is) ∙ (let e : e.process ≡ p = cc in e)
         at true same EndWrite is h = absurd (cc)
         at true same BeginRead is h = rest h
         at true same (EndRead v) is h = rest h
@@ -101,7 +100,7 @@ read-own s g events what e a h access how = record { own = reader (entry-by s g 
   where
     reader : EntryBy e.process e → a.reader ≡ e.process
     reader (marks_only none) = absurd (cc)
-    reader (makes x is by) = let same : x ≡ a = cc in ap (λ (x : Access). x.reader) (sym same) ∙ by.reads (ap (λ (x : Access). is_write x.how) same ∙ ap is_write how)
+    reader (makes x is by) = let same : x ≡ a = cc in ap (λ (x : Access). x.reader) (sym same) ∙ by.reads (ap (λ (x : Access). is_of_write x.how) same ∙ ap is_of_write how)
 
     calm : (b : Access) → writer_of b (past_of s events) ≡ Some e.process → ⊥
     calm b writes =
