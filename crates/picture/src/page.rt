@@ -1,18 +1,18 @@
 //! A page that draws bands from the lines of a run, a record or a trace.
-ghost use Rattle.std.specs.Prelude.{◌≡◌, ◌++◌, [], ◌∷◌, codes, IfOk, IfSome, None, OnOk};
-ghost use Rattle.picture.specs.Adding.{Begins, FramesBand, GivesLines, all_reported};
+ghost use Rattle.std.specs.Prelude.{◌≡◌, ◌++◌, [], ◌∷◌, IfOk, IfSome, None, OnOk};
+ghost use Rattle.picture.specs.Adding.{GivesLines, all_reported};
 ghost use Rattle.markup.specs.{EndsAll, lines_in};
-ghost use Rattle.picture.specs.Bandings.{Accesses, Reads, Reports, band_tag};
+ghost use Rattle.picture.specs.Bandings.{Accesses, Reads, Reports};
 ghost use Rattle.picture_layout.specs.{at_first, no_accesses, nothing_reported, seen, stages_reported, text_of, reported_in};
 ghost use Rattle.picture.specs.Pages.{BeginsColumn, DrawsBand, GivesLast, MakesRoom, Passes, Places, Puts, SetsOpening, TakesItem, held_back, lines_of_band, page_of, seen_page, stages_kept};
 ghost use Rattle.picture.specs.Verdicts.{titles_if};
-ghost use Rattle.picture.specs.declared.page.Form.TheVariants as form_variants;
+
+mod band_markup;
 
 use crate::bands::{Band, behind};
 use crate::openings::{characters, opening_words};
-use crate::sheets::view;
 use crate::subjects::Subject;
-use markup::{Key, Markup, Tag, class, words};
+use markup::Markup;
 use picture_layout::{
     AccessState, Column, Layout, OverlappedRead, RunLine, ShownAccess, State, WordEnds, stretch,
 };
@@ -349,67 +349,4 @@ impl Page {
         self.height = self.height.saturating_add(u64::from(band.height()) + 16);
         Ok(markup)
     }
-
-    /// Returns a band as a picture or as a group.
-    fn markup_of(&self, band: &Band) -> Result<Markup, AllocError>
-        ensures draws { FramesBand result self.now.form self.now band.now }
-        ensures lines { IfOk result
-            (λ markup. lines_in markup
-            ≡ all_reported band.now.columns.items ++ titles_if band.now.verdict) }
-        ensures ended { IfOk result EndsAll }
-    {
-        match self.form {
-            Form::Page => self.picture_of(band),
-            Form::Picture(top) => self.group_of(band, top),
-        }
-    }
-
-    /// Returns a band as a picture of its own.
-    fn picture_of(&self, band: &Band) -> Result<Markup, AllocError>
-        ensures draws { FramesBand result form_variants.Page self.now band.now }
-        ensures lines { IfOk result
-            (λ markup. lines_in markup
-            ≡ all_reported band.now.columns.items ++ titles_if band.now.verdict) }
-        ensures ended { IfOk result EndsAll }
-    {
-        let mut markup = Markup::new(self.alloc);
-        enter_band(self.bands, band.height(), &mut markup)?;
-        markup.constant("\n")?;
-        band.draw_judged(self.alloc, &self.accesses, &mut markup)?;
-        markup.frame("</svg>\n")?;
-        Ok(markup)
-    }
-
-    /// Returns a band as a group of one picture, whose bands begin at this height.
-    fn group_of(&self, band: &Band, top: u64) -> Result<Markup, AllocError>
-        ensures draws { FramesBand result (form_variants.Picture top) self.now band.now }
-        ensures lines { IfOk result
-            (λ markup. lines_in markup
-            ≡ all_reported band.now.columns.items ++ titles_if band.now.verdict) }
-        ensures ended { IfOk result EndsAll }
-    {
-        let mut markup = Markup::new(self.alloc);
-        markup.lower(top.saturating_add(self.height))?;
-        band.draw_judged(self.alloc, &self.accesses, &mut markup)?;
-        markup.end_group()?;
-        Ok(markup)
-    }
-}
-
-/// Adds the tag of the picture of the band with this number and height.
-fn enter_band(number: u64, height: u32, markup: &mut Markup) -> Result<(), AllocError>
-    ensures draws { OnOk result (markup.new ≡ markup.old ++ band_tag number height) }
-    ensures read { Begins result markup.old markup.new (codes "svg") }
-{
-    let view = view(markup.alloc(), u64::from(height))?;
-    let label = format!(in markup.alloc(); "Part {number} of the run")?;
-    markup.enter(
-        Tag::Svg,
-        &[
-            class("band"),
-            words(Key::ViewBox, view.as_bytes()),
-            words(Key::Role, b"group"),
-            words(Key::Label, label.as_bytes()),
-        ],
-    )
 }

@@ -5,7 +5,7 @@ use Rattle.markup.specs.declared.names.Key.TheVariants as key
 use Rattle.markup.specs.declared.names.Tag.TheVariants as tag
 use Rattle.picture.specs.{view_of}
 use Rattle.picture.proofs.Sheetings.{adds_other, four_said}
-use Rattle.picture.proofs.page.enter_band.Goals as goal
+use Rattle.picture.proofs.page.band_markup.enter_band.Goals as goal
 
 pub returns-clause-draws : goal.returns-clause-draws
 returns-clause-draws c =
