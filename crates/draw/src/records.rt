@@ -4,5 +4,6 @@ mod around;
 mod drawing;
 pub(crate) mod engines;
 pub(crate) mod held;
+mod judged_bands;
 mod sheet;
 mod stored;

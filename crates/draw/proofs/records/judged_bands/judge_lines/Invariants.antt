@@ -1,7 +1,7 @@
 use Rattle.std.proofs.Common.{◌≡◌, ◌-◌, ◌^◌}
 use Rattle.scenario.specs.files.{EndHolds, coming}
 use Rattle.draw.proofs.JudgedFile.{Judged}
-use Rattle.draw.proofs.records.engines.judge_lines.Given as goal
+use Rattle.draw.proofs.records.judged_bands.judge_lines.Given as goal
 
 -- each entry so far was heard, and drawn as far as it is shown; a source that has told its end is at it, and no call has failed
 abbrev pub invariant-lines : goal.invariant-lines

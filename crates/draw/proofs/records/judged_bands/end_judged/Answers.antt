@@ -5,7 +5,7 @@ use Rattle.judge.specs.record_file.{Progress}
 use Rattle.judge.specs.{Reporting}
 use Rattle.draw.specs.{DrawnEntry, EndsAsked, IsDrawFault, Stands, ReportsOfLines}
 use Rattle.draw.proofs.JudgedFile.{read_judged, read_none, read_some}
-use Rattle.draw.proofs.records.engines.end_judged.Goals as goal
+use Rattle.draw.proofs.records.judged_bands.end_judged.Goals as goal
 
 pub returns-in_default-clause-fault : goal.returns-in_default-clause-fault
 returns-in_default-clause-fault g c = λ to_come first u.

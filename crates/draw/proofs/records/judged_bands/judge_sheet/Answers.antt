@@ -7,7 +7,7 @@ use Rattle.judge.proofs.Ends.{if_err}
 use Rattle.draw.specs.{DrawnEntry, DrawsBandsOf, IsDrawFault, IsJudged}
 use Rattle.draw.proofs.RecordEnds.{no_value, reading_same}
 use Rattle.draw.proofs.Written.{failed_same, if_err_then, if_ok_then}
-use Rattle.draw.proofs.records.engines.judge_sheet.Goals as goal
+use Rattle.draw.proofs.records.judged_bands.judge_sheet.Goals as goal
 
 pub returns-in_err-judge_lines : goal.returns-in_err-judge_lines
 returns-in_err-judge_lines g c =

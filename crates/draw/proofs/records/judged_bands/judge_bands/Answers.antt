@@ -3,7 +3,7 @@ use Rattle.picture.specs.{Form}
 use Rattle.picture.specs.declared.reads.PictureOptions.{PictureOptions}
 use Rattle.judge.specs.{IsOfRecord}
 use Rattle.draw.specs.{DrawnEntry, DrawsBandsOf, IsJudged}
-use Rattle.draw.proofs.records.engines.judge_bands.Goals as goal
+use Rattle.draw.proofs.records.judged_bands.judge_bands.Goals as goal
 
 pub returns : goal.returns
 returns g c =

@@ -1,7 +1,7 @@
 use Rattle.std.proofs.Common.{None, Option, subst}
 use Rattle.judge.specs.Trials.{IsObserved}
 use Rattle.draw.proofs.RecordEnds.{no_value}
-use Rattle.draw.proofs.records.engines.reporting_of.Goals as goal
+use Rattle.draw.proofs.records.judged_bands.reporting_of.Goals as goal
 
 pub returns-in_err-into_observer : goal.returns-in_err-into_observer
 returns-in_err-into_observer g c = no_value _ _ _ c.from_residual.ensures.1
