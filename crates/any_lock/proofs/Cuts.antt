@@ -6,25 +6,25 @@ use Rattle.plain_store.specs.{Answer, Setup}
 use Rattle.model.specs.{Access, AnswersNoCutCall, Entry, Mark, Past, Stage, has, is_called, is_down, is_failed, is_in_doorway, is_leaving, is_running, is_settling, is_waiting_stage, own, since, stage_after}
 use Rattle.model.specs.declared.marks.Mark.TheVariants as mark
 use Rattle.model.specs.declared.stages.Stage.TheVariants as stage
-use Rattle.any_lock.specs.{MarkRefusal, ProcessView, accessed_by, has_nothing, has_one_mark, its_call, mark_refusal, marked, marked_all, refusal_of_marks, refusal_on, process_view, stands_alone}
+use Rattle.any_lock.specs.{MarkRefusal, ProcessView, accessed_by, has_nothing, has_one_mark, its_call, mark_refusal, marked, marked_all, refusal_of_marks, refusal_on, process_view, must_be_alone}
 use Rattle.any_lock.specs.declared.refusals.MarkRefusal.TheVariants as refusal
 use Rattle.any_lock.proofs.Alone.{AllKeep, Keeps, not_not}
 use Rattle.any_lock.proofs.Breaks.{none_else, none_if}
 use Rattle.any_lock.proofs.Markings.{no_failure, none_of, or_false, or_left, or_right, since-mine, with_marks}
 use Rattle.any_lock.proofs.Steps.{own-mine, process_view-other}
-use Rattle.any_lock.proofs.Whole.{one_alone, refusal_or, refused, stands_whole}
+use Rattle.any_lock.proofs.Whole.{one_alone, refusal_or, refused, whole_applied}
 
 -- Entries whose marks are not refused.
 
 -- an entry has an access or a mark, and a mark that must be alone is alone
 pub record Orderly (o : Option Access) (p : ℕ) (ms : List Mark) : Type 0 where
   pub something : has_nothing (with_marks p o ms) ≡ false
-  pub apart : (list_any stands_alone ms && not (has_one_mark (with_marks p o ms))) ≡ false
+  pub apart : (list_any must_be_alone ms && not (has_one_mark (with_marks p o ms))) ≡ false
 
 pub orderly : (s : Setup) (past : Past) (p : ℕ) (o : Option Access) (ms : List Mark) → refusal_of_marks s past (with_marks p o ms) ≡ None → Orderly o p ms
 orderly s past p o ms none = record {
   something = none_if (has_nothing (with_marks p o ms)) refusal.Nothing _ none;
-  apart = none_if (list_any stands_alone ms && not (has_one_mark (with_marks p o ms))) refusal.NotAlone _ (none_else (has_nothing (with_marks p o ms)) refusal.Nothing _ none);
+  apart = none_if (list_any must_be_alone ms && not (has_one_mark (with_marks p o ms))) refusal.NotAlone _ (none_else (has_nothing (with_marks p o ms)) refusal.Nothing _ none);
 }
 
 pub unrefused_on : (s : Setup) (past : Past) (p : ℕ) (o : Option Access) (ms : List Mark) → refusal_of_marks s past (with_marks p o ms) ≡ None →
@@ -145,7 +145,7 @@ sound_all s n (m ∷ ms) k cut none sound = sound_all s n ms (marked s n k m) (c
 abbrev pub is_cut : ℕ → Past → Bool
 is_cut p past = list_any (has is_failed) (its_call p past)
 
-same_cut : (cut : Bool) (ms : List Mark) → list_any stands_alone ms ≡ false → fold cut_after cut ms ≡ cut
+same_cut : (cut : Bool) (ms : List Mark) → list_any must_be_alone ms ≡ false → fold cut_after cut ms ≡ cut
 same_cut cut [] plain = refl
 same_cut cut (mark.Called c ∷ ms) plain = absurd (true≢false plain)
 same_cut cut (mark.Failed ∷ ms) plain = absurd (true≢false plain)
@@ -153,13 +153,13 @@ same_cut cut (mark.Withdrew ∷ ms) plain = absurd (true≢false plain)
 same_cut cut (mark.Restarted ∷ ms) plain = absurd (true≢false plain)
 same_cut cut (_ ∷ ms) plain = same_cut cut ms plain
 
-cut_plain : (p : ℕ) (o : Option Access) (ms : List Mark) (past : Past) → list_any stands_alone ms ≡ false → is_cut p (with_marks p o ms ∷ past) ≡ is_cut p past
+cut_plain : (p : ℕ) (o : Option Access) (ms : List Mark) (past : Past) → list_any must_be_alone ms ≡ false → is_cut p (with_marks p o ms ∷ past) ≡ is_cut p past
 cut_plain p o ms past plain = ap (list_any (has is_failed)) (since-mine p o ms past plain) ∙ ap (λ b. b || is_cut p past) (none_of is_failed no_failure ms plain)
 
 abbrev pub CutGoesOn : ℕ → Past → Option Access → List Mark → Type 0
 CutGoesOn p past o ms = is_cut p (with_marks p o ms ∷ past) ≡ fold cut_after (is_cut p past) ms
 
-cut_alone : (p : ℕ) (m : Mark) (past : Past) → stands_alone m ≡ true → CutGoesOn p past None (m ∷ [])
+cut_alone : (p : ℕ) (m : Mark) (past : Past) → must_be_alone m ≡ true → CutGoesOn p past None (m ∷ [])
 cut_alone p (mark.Called c) past h = ap (λ l. list_any (has is_failed) (since is_called l)) (own-mine p (with_marks p None (mark.Called c ∷ [])) past refl)
 cut_alone p mark.Failed past h = ap (λ l. list_any (has is_failed) (since is_called l)) (own-mine p (with_marks p None (mark.Failed ∷ [])) past refl)
 cut_alone p mark.Withdrew past h = ap (λ l. list_any (has is_failed) (since is_called l)) (own-mine p (with_marks p None (mark.Withdrew ∷ [])) past refl)
@@ -167,9 +167,9 @@ cut_alone p mark.Restarted past h = ap (λ l. list_any (has is_failed) (since is
 cut_alone p _ past h = absurd (true≢false (sym h))
 
 cut_on : (p : ℕ) (past : Past) (o : Option Access) (ms : List Mark) → Orderly o p ms → CutGoesOn p past o ms
-cut_on p past o ms fine = go (list_any stands_alone ms) refl
+cut_on p past o ms fine = go (list_any must_be_alone ms) refl
   where
-    go : (b : Bool) → list_any stands_alone ms ≡ b → CutGoesOn p past o ms
+    go : (b : Bool) → list_any must_be_alone ms ≡ b → CutGoesOn p past o ms
     go false plain = cut_plain p o ms past plain ∙ sym (same_cut (is_cut p past) ms plain)
     go true any = let one = one_alone o ms p any fine.apart in
         subst (λ x. CutGoesOn p past x ms) (sym one.1) (subst (λ x. CutGoesOn p past None x) (sym one.2) (cut_alone p one.0 past one.3))
@@ -185,7 +185,7 @@ all_sound s (e ∷ past) all p = go (cases_eq e.process p) (all_sound s past all
     mine before =
         let fine = orderly s past e.process e.access e.marks all.0.marks in
         let none = unrefused_on s past e.process e.access e.marks all.0.marks in
-        subst (λ k. IsSound k (is_cut e.process (e ∷ past))) (stands_whole s e.process past e.access e.marks fine.apart none)
+        subst (λ k. IsSound k (is_cut e.process (e ∷ past))) (whole_applied s e.process past e.access e.marks fine.apart none)
         (subst (λ b. IsSound (marked_all s (length past) (accessed_by (length past) (process_view s e.process past) e.access) e.marks) b) (sym (cut_on e.process past e.access e.marks fine))
         (sound_all s (length past) e.marks (accessed_by (length past) (process_view s e.process past) e.access) (is_cut e.process past) none
         (sound_accessed (length past) (process_view s e.process past) e.access (is_cut e.process past) before)))
@@ -199,7 +199,7 @@ all_sound s (e ∷ past) all p = go (cases_eq e.process p) (all_sound s past all
 -- A call that is answered.
 
 -- a call that is answered was not cut
-answered_at : (s : Setup) (n : ℕ) (ms : List Mark) (k : ProcessView) (cut : Bool) (i : ℕ) (a : Answer) → refusal_on s n k ms ≡ None → IsSound k cut → list_any stands_alone ms ≡ false →
+answered_at : (s : Setup) (n : ℕ) (ms : List Mark) (k : ProcessView) (cut : Bool) (i : ℕ) (a : Answer) → refusal_on s n k ms ≡ None → IsSound k cut → list_any must_be_alone ms ≡ false →
     i < length ms → get_or ms i (mark.Answered a) ≡ mark.Answered a → cut ≡ false
 answered_at s n [] k cut i a none sound plain within is = absurd (omega arith)
 answered_at s n (m ∷ ms) k cut zero a none sound plain within is =
@@ -211,20 +211,20 @@ answered_at s n (m ∷ ms) k cut zero a none sound plain within is =
     go false h sound running = h
     go true h sound running = absurd (clash (rests k.stage) (sound.cut h) running)
 answered_at s n (m ∷ ms) k cut (suc i) a none sound plain within is =
-    let here = or_left (stands_alone m) (list_any stands_alone ms) plain in
-    let later = or_right (stands_alone m) (list_any stands_alone ms) plain in
-    let same : cut_after cut m ≡ cut = same_cut cut (m ∷ []) (or_false (stands_alone m) ∙ here) in
+    let here = or_left (must_be_alone m) (list_any must_be_alone ms) plain in
+    let later = or_right (must_be_alone m) (list_any must_be_alone ms) plain in
+    let same : cut_after cut m ≡ cut = same_cut cut (m ∷ []) (or_false (must_be_alone m) ∙ here) in
     sym same ∙ answered_at s n ms (marked s n k m) (cut_after cut m) i a (rest_unrefused s n k m ms none) (sound_marked s n k m cut (first_unrefused s n k m ms none) sound) later (omega arith) is
 
 -- an answer need not be alone
-pub answered_plain : (o : Option Access) (p : ℕ) (ms : List Mark) (i : ℕ) (a : Answer) → Orderly o p ms → i < length ms → get_or ms i (mark.Answered a) ≡ mark.Answered a → list_any stands_alone ms ≡ false
-answered_plain o p ms i a fine within is = go (list_any stands_alone ms) refl
+pub answered_plain : (o : Option Access) (p : ℕ) (ms : List Mark) (i : ℕ) (a : Answer) → Orderly o p ms → i < length ms → get_or ms i (mark.Answered a) ≡ mark.Answered a → list_any must_be_alone ms ≡ false
+answered_plain o p ms i a fine within is = go (list_any must_be_alone ms) refl
   where
-    only : (m : Mark) (i : ℕ) → stands_alone m ≡ true → i < length (m ∷ []) → get_or (m ∷ []) i (mark.Answered a) ≡ mark.Answered a → ⊥
-    only m zero alone within is = true≢false (sym alone ∙ ap stands_alone is)
+    only : (m : Mark) (i : ℕ) → must_be_alone m ≡ true → i < length (m ∷ []) → get_or (m ∷ []) i (mark.Answered a) ≡ mark.Answered a → ⊥
+    only m zero alone within is = true≢false (sym alone ∙ ap must_be_alone is)
     only m (suc i) alone within is = omega arith
 
-    go : (b : Bool) → list_any stands_alone ms ≡ b → list_any stands_alone ms ≡ false
+    go : (b : Bool) → list_any must_be_alone ms ≡ b → list_any must_be_alone ms ≡ false
     go false h = h
     go true any =
         let one = one_alone o ms p any fine.apart in

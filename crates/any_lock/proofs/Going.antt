@@ -66,7 +66,7 @@ kept_with k p before then takes = record {
 pub knows_on : (k : LockRunState) (past : Past) (e : Entry) (before then : ProcessView) (takes : Bool) → e.process < k.setup.processes →
     slice_get k.process_views e.process ≡ Some before → list_any is_taken e.marks ≡ takes → then ≡ process_view k.setup e.process (e ∷ past) → Knows k past →
     Knows (kept_with k e.process before then takes) (e ∷ past)
-knows_on k past e before then takes below there is view_of knows = by takes is (reply_taken e.marks) refl
+knows_on k past e before then takes below there is same_view knows = by takes is (reply_taken e.marks) refl
   where
     s : Setup
     s = k.setup
@@ -77,7 +77,7 @@ knows_on k past e before then takes below there is view_of knows = by takes is (
     each : (q : ℕ) → q < s.processes → slice_get (slice_set k.process_views e.process then) q ≡ Some (process_view s q (e ∷ past))
     each q inside = elim (cases_eq q e.process) [
       | inl same ↦ ap (slice_get (slice_set k.process_views e.process then)) same ∙ slice_get-set_same k.process_views e.process then (slice_get_within k.process_views e.process before there)
-          ∙ ap Some (view_of ∙ ap (λ n. process_view s n (e ∷ past)) (sym same))
+          ∙ ap Some (same_view ∙ ap (λ n. process_view s n (e ∷ past)) (sym same))
       | inr apart ↦ slice_get-set_other k.process_views e.process q then apart ∙ knows.process_views q inside
           ∙ ap Some (sym (process_view-other s q e past (ne_eqb e.process q (λ h. apart (sym h)))))
     ]

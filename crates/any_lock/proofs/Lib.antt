@@ -7,13 +7,13 @@ pub mod Breaks
 pub mod Loops
 pub mod Going
 pub mod Unmarked
-pub mod StandsThere
+pub mod LookedUpViews
 pub mod Rooms
 pub mod Reported
 pub mod Alone
 pub mod Cuts
 pub mod MainTheorems
-pub mod Stands
+pub mod RepliesInHistory
 pub mod Took
 pub mod Once
 pub mod Order

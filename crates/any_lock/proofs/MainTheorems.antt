@@ -5,7 +5,7 @@ use Rattle.model.specs.{Past}
 use Rattle.any_lock.specs.{GoodSaysTheMainTheorem, KeepsMainTheoremThroughout}
 use Rattle.any_lock.proofs.Alone.{AllKeep, all_alone, all_keep, overtakes_nobody, takes_its_place}
 use Rattle.any_lock.proofs.Cuts.{answers_no_cut_call}
-use Rattle.any_lock.proofs.Stands.{stands_in_history}
+use Rattle.any_lock.proofs.RepliesInHistory.{reply_in_history}
 use Rattle.any_lock.proofs.Once.{calls_take_once}
 use Rattle.any_lock.proofs.Order.{places_keep_order}
 use Rattle.any_lock.proofs.Took.{answers_what_it_took}
@@ -22,7 +22,7 @@ throughout s past all later earlier e split =
       alone = all_alone s (e ∷ earlier) kept;
       overtakes = overtakes_nobody s earlier e kept.1 kept.0;
       place = takes_its_place s earlier e kept.0;
-      view_of = stands_in_history s earlier e kept.1 kept.0;
+      in_history = reply_in_history s earlier e kept.1 kept.0;
       answers = answers_what_it_took s earlier e kept.1 kept.0;
       once = calls_take_once s (e ∷ earlier) kept;
       cut = answers_no_cut_call s earlier e kept.1 kept.0;

@@ -8,14 +8,14 @@ use Rattle.model.specs.{Access, Entry, Mark, Past, Stage, call_number, called_in
 use Rattle.model.specs.declared.marks.Mark.TheVariants as mark
 use Rattle.model.specs.declared.stages.Stage.TheVariants as stages
 use Rattle.lock_stages.specs.{with_call, with_enter, with_wait, without_wait}
-use Rattle.any_lock.specs.{Passage, ProcessView, begun_by, first_that, has_access, is_withdrawal, left_open, mark_refusal, marked, opened, passage_in, reply_in, process_view, stands_alone}
+use Rattle.any_lock.specs.{Passage, ProcessView, begun_by, first_that, has_access, is_withdrawal, left_open, mark_refusal, marked, opened, passage_in, reply_in, process_view, must_be_alone}
 use Rattle.any_lock.specs.declared.refusals.MarkRefusal.TheVariants as refusal
 use Rattle.any_lock.proofs.Steps.{first_none, if_there, inside-mine, number-called, number-mine, opened-mine, own-mine, passage_by, stage-mine, view_by, torn-mine}
 
 -- Marks that need not be alone.
 
 abbrev pub ArePlain : List Mark → Type 0
-ArePlain ms = list_any stands_alone ms ≡ false
+ArePlain ms = list_any must_be_alone ms ≡ false
 
 pub or_left : (a b : Bool) → (a || b) ≡ false → a ≡ false
 or_left false b h = refl
@@ -25,21 +25,21 @@ pub or_right : (a b : Bool) → (a || b) ≡ false → b ≡ false
 or_right false b h = h
 or_right true b h = absurd (true≢false h)
 
-pub none_of : (t : Mark → Bool) → ((m : Mark) → stands_alone m ≡ false → t m ≡ false) → (ms : List Mark) → ArePlain ms → list_any t ms ≡ false
+pub none_of : (t : Mark → Bool) → ((m : Mark) → must_be_alone m ≡ false → t m ≡ false) → (ms : List Mark) → ArePlain ms → list_any t ms ≡ false
 none_of t apart [] plain = refl
 none_of t apart (m ∷ ms) plain =
-    ap (λ b. b || list_any t ms) (apart m (or_left (stands_alone m) (list_any stands_alone ms) plain))
-    ∙ none_of t apart ms (or_right (stands_alone m) (list_any stands_alone ms) plain)
+    ap (λ b. b || list_any t ms) (apart m (or_left (must_be_alone m) (list_any must_be_alone ms) plain))
+    ∙ none_of t apart ms (or_right (must_be_alone m) (list_any must_be_alone ms) plain)
 
-no_call : (m : Mark) → stands_alone m ≡ false → is_called m ≡ false
+no_call : (m : Mark) → must_be_alone m ≡ false → is_called m ≡ false
 no_call (mark.Called c) h = absurd (true≢false h)
 no_call _ h = refl
 
-pub no_failure : (m : Mark) → stands_alone m ≡ false → is_failed m ≡ false
+pub no_failure : (m : Mark) → must_be_alone m ≡ false → is_failed m ≡ false
 no_failure mark.Failed h = absurd (true≢false h)
 no_failure _ h = refl
 
-no_withdrawal : (m : Mark) → stands_alone m ≡ false → is_withdrawal m ≡ false
+no_withdrawal : (m : Mark) → must_be_alone m ≡ false → is_withdrawal m ≡ false
 no_withdrawal mark.Withdrew h = absurd (true≢false h)
 no_withdrawal _ h = refl
 
@@ -102,15 +102,15 @@ or_false false = refl
 any-one : (t : Mark → Bool) (ms : List Mark) (m : Mark) → list_any t (ms ++ m ∷ []) ≡ (list_any t ms || t m)
 any-one t ms m = list_any-append t ms (m ∷ []) ∙ ap (λ b. list_any t ms || b) (or_false (t m))
 
-pub plain-more : (ms : List Mark) (m : Mark) → ArePlain ms → stands_alone m ≡ false → ArePlain (ms ++ m ∷ [])
-plain-more ms m plain is = any-one stands_alone ms m ∙ ap (λ b. b || stands_alone m) plain ∙ is
+pub plain-more : (ms : List Mark) (m : Mark) → ArePlain ms → must_be_alone m ≡ false → ArePlain (ms ++ m ∷ [])
+plain-more ms m plain is = any-one must_be_alone ms m ∙ ap (λ b. b || must_be_alone m) plain ∙ is
 
 there_twice : (o : Option ℕ) (a b : Bool) (n : ℕ) → first_of o (if_there (a || b) n) ≡ first_of (first_of o (if_there a n)) (if_there b n)
 there_twice (Some k) a b n = refl
 there_twice None true b n = refl
 there_twice None false b n = refl
 
-numbered-more : (p : ℕ) (t : Mark → Bool) (o : Option Access) (ms : List Mark) (m : Mark) (past : Past) → ArePlain ms → stands_alone m ≡ false →
+numbered-more : (p : ℕ) (t : Mark → Bool) (o : Option Access) (ms : List Mark) (m : Mark) (past : Past) → ArePlain ms → must_be_alone m ≡ false →
     number_in_call p (has t) (with_marks p o (ms ++ m ∷ []) ∷ past) ≡ first_of (number_in_call p (has t) (with_marks p o ms ∷ past)) (if_there (t m) (length past))
 numbered-more p t o ms m past plain is =
     numbered-plain p (has t) o (ms ++ m ∷ []) past (plain-more ms m plain is)
@@ -127,14 +127,14 @@ pub reply_nil : (o : Option Reply) → reply_or o None ≡ o
 reply_nil None = refl
 reply_nil (Some r) = refl
 
-reply-more : (p : ℕ) (o : Option Access) (ms : List Mark) (m : Mark) (past : Past) → ArePlain ms → stands_alone m ≡ false →
+reply-more : (p : ℕ) (o : Option Access) (ms : List Mark) (m : Mark) (past : Past) → ArePlain ms → must_be_alone m ≡ false →
     reply_in (since is_called (own p (with_marks p o (ms ++ m ∷ []) ∷ past))) ≡ reply_or (reply_or (reply_taken ms) (reply_taken (m ∷ []))) (reply_in (since is_called (own p past)))
 reply-more p o ms m past plain is =
     reply-plain p o (ms ++ m ∷ []) past (plain-more ms m plain is)
     ∙ ap (λ x. reply_or x (reply_in (since is_called (own p past)))) (reply-append ms (m ∷ []))
 
 -- a mark that takes nothing
-reply-same : (p : ℕ) (o : Option Access) (ms : List Mark) (m : Mark) (past : Past) → ArePlain ms → stands_alone m ≡ false → reply_taken (m ∷ []) ≡ None →
+reply-same : (p : ℕ) (o : Option Access) (ms : List Mark) (m : Mark) (past : Past) → ArePlain ms → must_be_alone m ≡ false → reply_taken (m ∷ []) ≡ None →
     reply_in (since is_called (own p (with_marks p o (ms ++ m ∷ []) ∷ past))) ≡ reply_in (since is_called (own p (with_marks p o ms ∷ past)))
 reply-same p o ms m past plain is none =
     reply-more p o ms m past plain is
@@ -170,7 +170,7 @@ moved n k m = record k {
   passage = moved_on n k.stage k.passage m;
 }
 
-module _ (s : Setup) (p : ℕ) (o : Option Access) (ms : List Mark) (m : Mark) (past : Past) (plain : ArePlain ms) (is : stands_alone m ≡ false) where
+module _ (s : Setup) (p : ℕ) (o : Option Access) (ms : List Mark) (m : Mark) (past : Past) (plain : ArePlain ms) (is : must_be_alone m ≡ false) where
   stage_to : stage_at p (with_marks p o (ms ++ m ∷ []) ∷ past) ≡ stage_after (stage_at p (with_marks p o ms ∷ past)) m
   stage_to =
       stage-mine p (with_marks p o (ms ++ m ∷ [])) past refl ∙ fold-append stage_after (stage_at p past) ms (m ∷ [])
@@ -216,7 +216,7 @@ waits-remaining stages.Settling = refl
 waits-remaining _ = refl
 
 -- the state of p after that mark
-pub process_view-marked : (s : Setup) (p : ℕ) (o : Option Access) (ms : List Mark) (m : Mark) (past : Past) → ArePlain ms → stands_alone m ≡ false →
+pub process_view-marked : (s : Setup) (p : ℕ) (o : Option Access) (ms : List Mark) (m : Mark) (past : Past) → ArePlain ms → must_be_alone m ≡ false →
     mark_refusal (process_view s p (with_marks p o ms ∷ past)) m ≡ None →
     process_view s p (with_marks p o (ms ++ m ∷ []) ∷ past) ≡ marked s (length past) (process_view s p (with_marks p o ms ∷ past)) m
 process_view-marked s p o ms m past plain is allowed = by m is allowed
@@ -231,7 +231,7 @@ process_view-marked s p o ms m past plain is allowed = by m is allowed
     same : (then : Passage) → then.waits ≡ t.waits → then.enters ≡ t.enters → record then { waits = first_of t.waits None; enters = first_of t.enters None } ≡ then
     same then waits enters = passage_by (record then { waits = first_of t.waits None; enters = first_of t.enters None }) then refl refl refl (first_none t.waits ∙ sym waits) (first_none t.enters ∙ sym enters)
 
-    by : (m : Mark) → stands_alone m ≡ false → mark_refusal k m ≡ None → process_view s p (with_marks p o (ms ++ m ∷ []) ∷ past) ≡ marked s (length past) k m
+    by : (m : Mark) → must_be_alone m ≡ false → mark_refusal k m ≡ None → process_view s p (with_marks p o (ms ++ m ∷ []) ∷ past) ≡ marked s (length past) k m
     by (mark.Waiting n) is h = moved_to s p o ms (mark.Waiting n) past plain is (reply-same p o ms (mark.Waiting n) past plain is refl)
         ∙ ap (λ x. record k { stage = stages.Waiting; passage = record (with_wait (length past) t) { enters = x } }) (first_none t.enters)
     by mark.Entered is h = moved_to s p o ms mark.Entered past plain is (reply-same p o ms mark.Entered past plain is refl)
@@ -254,13 +254,13 @@ next-call : (b : Bool) (c : ℕ) → cond b (suc c) 0 ≡ cond b (cond b c 0 + 1
 next-call true c = sym (add-one c)
 next-call false c = refl
 
-pub process_view-alone : (s : Setup) (p : ℕ) (m : Mark) (past : Past) → stands_alone m ≡ true → process_view s p (with_marks p None (m ∷ []) ∷ past) ≡ marked s (length past) (process_view s p past) m
+pub process_view-alone : (s : Setup) (p : ℕ) (m : Mark) (past : Past) → must_be_alone m ≡ true → process_view s p (with_marks p None (m ∷ []) ∷ past) ≡ marked s (length past) (process_view s p past) m
 process_view-alone s p m past is = by m is
   where
     k : ProcessView
     k = process_view s p past
 
-    by : (m : Mark) → stands_alone m ≡ true → process_view s p (with_marks p None (m ∷ []) ∷ past) ≡ marked s (length past) k m
+    by : (m : Mark) → must_be_alone m ≡ true → process_view s p (with_marks p None (m ∷ []) ∷ past) ≡ marked s (length past) k m
     by (mark.Called c) h = let mine = own-mine p (with_marks p None (mark.Called c ∷ [])) past refl in
         view_by (process_view s p (with_marks p None (mark.Called c ∷ []) ∷ past)) (marked s (length past) k (mark.Called c))
         (stage-mine p (with_marks p None (mark.Called c ∷ [])) past refl)

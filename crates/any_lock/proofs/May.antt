@@ -12,7 +12,7 @@ use Rattle.plain_store.specs.declared.Reply.TheVariants as reply
 use Rattle.plain_store.proofs.Changes.{same_value-Decides}
 use Rattle.model.specs.{Access, Entry, Mark, Past, begins_read, has, history, is_entered, is_in_doorway, is_leaving, moves_of, opening_bit, takings}
 use Rattle.model.specs.declared.marks.Mark.TheVariants as mark
-use Rattle.any_lock.specs.{AnyLockLaw, MarkRefusal, MaysKeepAllLaws, Remedy, ProcessView, accessed_by, breaks_access, breaks_history, breaks_marks, breaks_overtaken, breaks_safe, breaks_together, broken_inside, broken_later, change_of, changed, ends_with, ends_wrongly, first_broken, first_that, has_other_reply, is_reply, is_that, is_withdrawn, mark_refusal, mark_with, marked, other_ahead, other_inside, other_value, passage_in, refusal_of_marks, refusal_on, right_reply, same_reply, same_truth, process_view, stands_alone, value_in, with_value}
+use Rattle.any_lock.specs.{AnyLockLaw, MarkRefusal, MaysKeepAllLaws, Remedy, ProcessView, accessed_by, breaks_access, breaks_history, breaks_marks, breaks_overtaken, breaks_safe, breaks_together, broken_inside, broken_later, change_of, changed, ends_with, ends_wrongly, first_broken, first_that, has_other_reply, is_reply, is_that, is_withdrawn, mark_refusal, mark_with, marked, other_ahead, other_inside, other_value, passage_in, refusal_of_marks, refusal_on, right_reply, same_reply, same_truth, process_view, must_be_alone, value_in, with_value}
 use Rattle.any_lock.specs.declared.reasons.Remedy.TheVariants.{Value, Taking}
 use Rattle.any_lock.specs.declared.any_lock_law.AnyLockLaw.TheVariants as law
 use Rattle.any_lock.specs.declared.refusals.MarkRefusal.TheVariants as refusal
@@ -99,7 +99,7 @@ module _ (n : ℕ) (r : Reply) where
   put_any test same [] = refl
   put_any test same (m ∷ ms) = ap (λ b. b || list_any test (map put ms)) (same m) ∙ ap (λ b. test m || b) (put_any test same ms)
 
-  alone_same : (m : Mark) → stands_alone (put m) ≡ stands_alone m
+  alone_same : (m : Mark) → must_be_alone (put m) ≡ must_be_alone m
   alone_same (mark.Answered (answer.Reply q)) = refl
   alone_same _ = refl
 
@@ -145,7 +145,7 @@ module _ (n : ℕ) (r : Reply) where
       let nothing : k.reply ≡ None = unreplied k.reply a other (none_if (has_other_reply k.reply a) refusal.OtherReply _ rest') in
       let both : Some q0 ≡ None = sym some ∙ nothing in cc
 
-  goes_on_so : (s : Setup) (j : ℕ) (k : ProcessView) (q0 : Reply) (m : Mark) → k.reply ≡ Some q0 → stands_alone m ≡ false → mark_refusal k m ≡ None → GoesOnSo s j k m
+  goes_on_so : (s : Setup) (j : ℕ) (k : ProcessView) (q0 : Reply) (m : Mark) → k.reply ≡ Some q0 → must_be_alone m ≡ false → mark_refusal k m ≡ None → GoesOnSo s j k m
   goes_on_so s j k q0 (mark.Called c) some plain none = absurd (true≢false plain)
   goes_on_so s j k q0 (mark.Taken i q) some plain none = let both : Some q0 ≡ None = sym some ∙ untaken k i q none in absurd (cc)
   goes_on_so s j k q0 (mark.Answered (answer.Reply q)) some plain none = (answers_so k q q0 some none, refl, refl)
@@ -160,22 +160,22 @@ module _ (n : ℕ) (r : Reply) where
   marks_after : (s : Setup) (j : ℕ) (ms : List Mark) (k : ProcessView) (q0 : Reply) → k.reply ≡ Some q0 → ArePlain ms → refusal_on s j k ms ≡ None → refusal_on s j (replied k) (map put ms) ≡ None
   marks_after s j [] k q0 some plain none = refl
   marks_after s j (m ∷ ms) k q0 some plain none =
-      let so = goes_on_so s j k q0 m some (or_left (stands_alone m) (list_any stands_alone ms) plain) (first_unrefused s j k m ms none) in
-      let rest = marks_after s j ms (marked s j k m) q0 (so.2 ∙ some) (or_right (stands_alone m) (list_any stands_alone ms) plain) (rest_unrefused s j k m ms none) in
+      let so = goes_on_so s j k q0 m some (or_left (must_be_alone m) (list_any must_be_alone ms) plain) (first_unrefused s j k m ms none) in
+      let rest = marks_after s j ms (marked s j k m) q0 (so.2 ∙ some) (or_right (must_be_alone m) (list_any must_be_alone ms) plain) (rest_unrefused s j k m ms none) in
       refused_later s j (replied k) (put m) (map put ms) so.0 ∙ ap (λ x. refusal_on s j x (map put ms)) so.1 ∙ rest
 
   -- a mark before that one is refused no more than before
   marks_before : (s : Setup) (j : ℕ) (ms : List Mark) (k : ProcessView) (cut : Bool) → IsSound k cut → ArePlain ms → refusal_on s j k ms ≡ None → (takings ms ≡ [] → ⊥) → refusal_on s j k (map put ms) ≡ None
   marks_before s j [] k cut sound plain none takes = refl
   marks_before s j (m ∷ ms) k cut sound plain none takes =
-      by (λ (x : Mark) first more. marks_before s j ms (marked s j k x) (cut_after cut x) (sound_marked s j k x cut first sound) (or_right (stands_alone m) (list_any stands_alone ms) plain) more)
-      m (or_left (stands_alone m) (list_any stands_alone ms) plain) (first_unrefused s j k m ms none) (rest_unrefused s j k m ms none) takes
+      by (λ (x : Mark) first more. marks_before s j ms (marked s j k x) (cut_after cut x) (sound_marked s j k x cut first sound) (or_right (must_be_alone m) (list_any must_be_alone ms) plain) more)
+      m (or_left (must_be_alone m) (list_any must_be_alone ms) plain) (first_unrefused s j k m ms none) (rest_unrefused s j k m ms none) takes
     where
       later : ArePlain ms
-      later = or_right (stands_alone m) (list_any stands_alone ms) plain
+      later = or_right (must_be_alone m) (list_any must_be_alone ms) plain
 
       by : ((x : Mark) → mark_refusal k x ≡ None → refusal_on s j (marked s j k x) ms ≡ None → (takings ms ≡ [] → ⊥) → refusal_on s j (marked s j k x) (map put ms) ≡ None) →
-          (m : Mark) → stands_alone m ≡ false → mark_refusal k m ≡ None → refusal_on s j (marked s j k m) ms ≡ None → (takings (m ∷ ms) ≡ [] → ⊥) → refusal_on s j k (put m ∷ map put ms) ≡ None
+          (m : Mark) → must_be_alone m ≡ false → mark_refusal k m ≡ None → refusal_on s j (marked s j k m) ms ≡ None → (takings (m ∷ ms) ≡ [] → ⊥) → refusal_on s j k (put m ∷ map put ms) ≡ None
       by on (mark.Taken i q) apart first more takes =
           refused_later s j k (mark.Taken n r) (map put ms) first
           ∙ marks_after s j ms (marked s j k (mark.Taken i q)) q refl later more
@@ -190,7 +190,7 @@ module _ (n : ℕ) (r : Reply) where
       by on _ apart first more takes = absurd (true≢false apart)
 
 -- a mark that must be alone takes nothing
-alone_takes_none : (m : Mark) → stands_alone m ≡ true → takings (m ∷ []) ≡ []
+alone_takes_none : (m : Mark) → must_be_alone m ≡ true → takings (m ∷ []) ≡ []
 alone_takes_none (mark.Called c) is = refl
 alone_takes_none mark.Failed is = refl
 alone_takes_none mark.Withdrew is = refl
@@ -240,15 +240,15 @@ with_right_taking s past e all breaks =
         let m = length (history s past) in
         let q = right_reply s past e.process in
         let long : length (map (mark_with (Taking m q)) e.marks) ≡ length e.marks = length-map e.marks (mark_with (Taking m q)) in
-        let alone : list_any stands_alone (map (mark_with (Taking m q)) e.marks) ≡ list_any stands_alone e.marks = put_any m q stands_alone (alone_same m q) e.marks in
+        let alone : list_any must_be_alone (map (mark_with (Taking m q)) e.marks) ≡ list_any must_be_alone e.marks = put_any m q must_be_alone (alone_same m q) e.marks in
         let k : ProcessView = accessed_by (length past) (process_view s e.process past) e.access in
         refused s e.process past e.access (map (mark_with (Taking m q)) e.marks)
         (ap (λ l. is_none e.access && (l == 0)) long ∙ fine.something)
-        (ap (λ b. b && not (is_none e.access && (length (map (mark_with (Taking m q)) e.marks) == 1))) alone ∙ ap (λ l. list_any stands_alone e.marks && not (is_none e.access && (l == 1))) long ∙ fine.apart)
+        (ap (λ b. b && not (is_none e.access && (length (map (mark_with (Taking m q)) e.marks) == 1))) alone ∙ ap (λ l. list_any must_be_alone e.marks && not (is_none e.access && (l == 1))) long ∙ fine.apart)
         ∙ marks_before m q s (length past) e.marks k (is_cut e.process past) (sound_accessed (length past) (process_view s e.process past) e.access (is_cut e.process past) (all_sound s past all e.process))
-        (plain (list_any stands_alone e.marks) refl) none takes
+        (plain (list_any must_be_alone e.marks) refl) none takes
       where
-        plain : (b : Bool) → list_any stands_alone e.marks ≡ b → list_any stands_alone e.marks ≡ false
+        plain : (b : Bool) → list_any must_be_alone e.marks ≡ b → list_any must_be_alone e.marks ≡ false
         plain false is = is
         plain true any =
             let one = one_alone e.access e.marks e.process any fine.apart in

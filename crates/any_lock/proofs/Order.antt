@@ -18,7 +18,7 @@ use Rattle.any_lock.proofs.Markings.{or_left, or_right}
 use Rattle.any_lock.proofs.Once.{own-append}
 use Rattle.any_lock.proofs.Steps.{own-mine, process_view-other}
 use Rattle.any_lock.proofs.Took.{outside}
-use Rattle.any_lock.proofs.Whole.{stands_whole}
+use Rattle.any_lock.proofs.Whole.{whole_applied}
 
 -- A call whose span has ended takes no more commands.
 
@@ -104,14 +104,14 @@ over_entry s past e kept uncalled over =
     let fine = orderly s past e.process e.access e.marks kept.marks in
     let none = unrefused_on s past e.process e.access e.marks kept.marks in
     let all = over_all s (length past) e.marks (accessed_by (length past) (process_view s e.process past) e.access) uncalled none (over_accessed (length past) (process_view s e.process past) e.access over) in
-    (subst IsOver (stands_whole s e.process past e.access e.marks fine.apart none) all.0, all.1)
+    (subst IsOver (whole_applied s e.process past e.access e.marks fine.apart none) all.0, all.1)
 
 ends_entry : (s : Setup) (past : Past) (e : Entry) → AllKeep s past → Keeps s past e → has is_called e ≡ false → has ends_span e ≡ true → IsOver (process_view s e.process (e ∷ past))
 ends_entry s past e before kept uncalled ends =
     let fine = orderly s past e.process e.access e.marks kept.marks in
     let none = unrefused_on s past e.process e.access e.marks kept.marks in
     let sound = sound_accessed (length past) (process_view s e.process past) e.access (is_cut e.process past) (all_sound s past before e.process) in
-    subst IsOver (stands_whole s e.process past e.access e.marks fine.apart none)
+    subst IsOver (whole_applied s e.process past e.access e.marks fine.apart none)
     (ends_all s (length past) e.marks (accessed_by (length past) (process_view s e.process past) e.access) (is_cut e.process past) uncalled ends none sound)
 
 -- the state of p after the span of its call has ended, until its next call

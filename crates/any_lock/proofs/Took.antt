@@ -10,14 +10,14 @@ use Rattle.model.specs.{Access, Entry, IsAnswerTo, Mark, Past, all_takings, is_c
 use Rattle.model.specs.declared.marks.Mark.TheVariants as mark
 use Rattle.model.specs.declared.stages.Stage.TheVariants as stage
 use Rattle.any_lock.specs.declared.refusals.MarkRefusal.TheVariants as refusal
-use Rattle.any_lock.specs.{AnswersWhatItTook, ProcessView, accessed_by, has_other_reply, is_reply, is_withdrawn, its_call, mark_refusal, marked, marked_all, refusal_on, reply_in, process_view, stands_alone}
+use Rattle.any_lock.specs.{AnswersWhatItTook, ProcessView, accessed_by, has_other_reply, is_reply, is_withdrawn, its_call, mark_refusal, marked, marked_all, refusal_on, reply_in, process_view, must_be_alone}
 use Rattle.any_lock.proofs.Alone.{AllKeep, Keeps}
 use Rattle.any_lock.proofs.Breaks.{none_else, none_if}
 use Rattle.any_lock.proofs.Cuts.{IsSound, Orderly, all_sound, answered_plain, answers_not, cut_after, first_unrefused, holds, is_cut, orderly, own-other, rest_unrefused, sound_accessed, sound_marked, unrefused_on}
 use Rattle.any_lock.proofs.Markings.{ArePlain, or_left, or_right, reply_or, reply_nil, since-mine, untaken, with_marks}
-use Rattle.any_lock.proofs.Stands.{answered_in}
+use Rattle.any_lock.proofs.RepliesInHistory.{answered_in}
 use Rattle.any_lock.proofs.Steps.{own-mine}
-use Rattle.any_lock.proofs.Whole.{one_alone, stands_whole}
+use Rattle.any_lock.proofs.Whole.{one_alone, whole_applied}
 
 -- The commands that marks take.
 
@@ -81,7 +81,7 @@ call_plain s past p o ms none plain before =
         (one.0, ap (λ l. all_takings (its_call p past) ++ l) rest.0 ∙ append-nil (all_takings (its_call p past)) ∙ one.1)
 
 -- with a mark that must be alone
-call_alone : (past : Past) (p : ℕ) (m : Mark) → stands_alone m ≡ true → CallTakes p past → CallTakes p (with_marks p None (m ∷ []) ∷ past)
+call_alone : (past : Past) (p : ℕ) (m : Mark) → must_be_alone m ≡ true → CallTakes p past → CallTakes p (with_marks p None (m ∷ []) ∷ past)
 call_alone past p (mark.Called c) h before = subst (λ l. Takes (reply_in (since is_called l)) (all_takings (since is_called l))) (sym (own-mine p (with_marks p None (mark.Called c ∷ [])) past refl)) refl
 call_alone past p mark.Failed h before = subst (λ l. Takes (reply_in (since is_called l)) (all_takings (since is_called l))) (sym (own-mine p (with_marks p None (mark.Failed ∷ [])) past refl))
     (subst (λ l. Takes (reply_in (its_call p past)) l) (sym (append-nil (all_takings (its_call p past)))) before)
@@ -92,12 +92,12 @@ call_alone past p mark.Restarted h before = subst (λ l. Takes (reply_in (since 
 call_alone past p _ h before = absurd (true≢false (sym h))
 
 call_mine : (s : Setup) (past : Past) (p : ℕ) (o : Option Access) (ms : List Mark) → Keeps s past (with_marks p o ms) → CallTakes p past → CallTakes p (with_marks p o ms ∷ past)
-call_mine s past p o ms kept before = go (list_any stands_alone ms) refl
+call_mine s past p o ms kept before = go (list_any must_be_alone ms) refl
   where
     fine : Orderly o p ms
     fine = orderly s past p o ms kept.marks
 
-    go : (b : Bool) → list_any stands_alone ms ≡ b → CallTakes p (with_marks p o ms ∷ past)
+    go : (b : Bool) → list_any must_be_alone ms ≡ b → CallTakes p (with_marks p o ms ∷ past)
     go false plain = call_plain s past p o ms (unrefused_on s past p o ms kept.marks) plain before
     go true any = let one = one_alone o ms p any fine.apart in
         subst (λ x. CallTakes p (with_marks p x ms ∷ past)) (sym one.1) (subst (λ x. CallTakes p (with_marks p None x ∷ past)) (sym one.2) (call_alone past p one.0 one.3 before))
@@ -115,12 +115,12 @@ all_take s (e ∷ past) all p = go (cases_eq e.process p) (all_take s past all.1
 -- no mark follows at rest
 pub at_rest_none : (s : Setup) (n : ℕ) (k : ProcessView) (ms : List Mark) → k.stage ≡ stage.Idle → k.passage.inside ≡ false → refusal_on s n k ms ≡ None → ArePlain ms → ms ≡ []
 at_rest_none s n k [] idle out none plain = refl
-at_rest_none s n k (m ∷ ms) idle out none plain = absurd (by m (first_unrefused s n k m ms none) (or_left (stands_alone m) (list_any stands_alone ms) plain))
+at_rest_none s n k (m ∷ ms) idle out none plain = absurd (by m (first_unrefused s n k m ms none) (or_left (must_be_alone m) (list_any must_be_alone ms) plain))
   where
     clashes : (b : Bool) → b ≡ false → b ≡ true → ⊥
     clashes b f t = true≢false (sym t ∙ f)
 
-    by : (m : Mark) → mark_refusal k m ≡ None → stands_alone m ≡ false → ⊥
+    by : (m : Mark) → mark_refusal k m ≡ None → must_be_alone m ≡ false → ⊥
     by (mark.Waiting t) h apart = clashes (not (is_in_doorway k.stage)) (none_if (not (is_in_doorway k.stage)) refusal.NotInDoorway _ h) (ap (λ x. not (is_in_doorway x)) idle)
     by mark.Entered h apart = clashes (not (is_waiting_stage k.stage)) (none_if (not (is_waiting_stage k.stage)) refusal.NotWaiting _ h) (ap (λ x. not (is_waiting_stage x)) idle)
     by (mark.Taken j q) h apart = clashes (not k.passage.inside) (none_if (not k.passage.inside) refusal.NotInside _ h) (ap not out)
@@ -155,11 +155,11 @@ answered_none s n (m ∷ ms) k cut zero a none sound plain within is not_reply =
     let reply : k.reply ≡ None = unreplied k.reply a not_reply (none_if (has_other_reply k.reply a) refusal.OtherReply _ d) in
     let out : k.passage.inside ≡ false = outside k cut sound (answers_not k.stage (none_if (not (is_in_doorway k.stage || is_leaving k.stage)) refusal.NotLeaving _ first)).0 in
     let rest : refusal_on s n (marked s n k (mark.Answered a)) ms ≡ None = subst (λ x. refusal_on s n (marked s n k x) ms ≡ None) is (rest_unrefused s n k m ms none) in
-    let last : ms ≡ [] = at_rest_none s n (marked s n k (mark.Answered a)) ms refl out rest (or_right (stands_alone m) (list_any stands_alone ms) plain) in
+    let last : ms ≡ [] = at_rest_none s n (marked s n k (mark.Answered a)) ms refl out rest (or_right (must_be_alone m) (list_any must_be_alone ms) plain) in
     ap (λ x. (marked_all s n (marked s n k x) ms).reply) is ∙ ap (λ l. (marked_all s n (marked s n k (mark.Answered a)) l).reply) last ∙ reply
 answered_none s n (m ∷ ms) k cut (suc i) a none sound plain within is not_reply =
     answered_none s n ms (marked s n k m) (cut_after cut m) i a (rest_unrefused s n k m ms none) (sound_marked s n k m cut (first_unrefused s n k m ms none) sound)
-    (or_right (stands_alone m) (list_any stands_alone ms) plain) (omega arith) is not_reply
+    (or_right (must_be_alone m) (list_any must_be_alone ms) plain) (omega arith) is not_reply
 
 pub answers_what_it_took : (s : Setup) (past : Past) (e : Entry) → AllKeep s past → Keeps s past e → AnswersWhatItTook past e
 answers_what_it_took s past e all kept a among = by a among (all_take s (e ∷ past) (kept, all) e.process)
@@ -174,7 +174,7 @@ answers_what_it_took s past e all kept a among = by a among (all_take s (e ∷ p
     none = unrefused_on s past e.process e.access e.marks kept.marks
 
     whole : marked_all s (length past) (accessed_by (length past) (process_view s e.process past) e.access) e.marks ≡ process_view s e.process (e ∷ past)
-    whole = stands_whole s e.process past e.access e.marks fine.apart none
+    whole = whole_applied s e.process past e.access e.marks fine.apart none
 
     sound : IsSound (accessed_by (length past) (process_view s e.process past) e.access) (is_cut e.process past)
     sound = sound_accessed (length past) (process_view s e.process past) e.access (is_cut e.process past) (all_sound s past all e.process)

@@ -11,7 +11,7 @@ use Rattle.any_lock.proofs.Steps.{bare, process_view-access}
 pub unmarked_on : (k : LockRunState) (past : Past) (e : Entry) (a : Access) (before : ProcessView) → e.process < k.setup.processes → e.access ≡ Some a → e.marks ≡ [] → slice_get k.process_views e.process ≡ Some before → Knows k past →
     Knows (kept_with k e.process before (accessed k.entries before a) false) (e ∷ past)
 unmarked_on k past e a before below acc none there knows =
-    knows_on k past e before (accessed k.entries before a) false below there (ap (list_any is_taken) none) view_of knows
+    knows_on k past e before (accessed k.entries before a) false below there (ap (list_any is_taken) none) same_view knows
   where
     is : e ≡ bare e.process (Some a)
     is = λ i. record { process = e.process; access = acc i; marks = none i }
@@ -19,8 +19,8 @@ unmarked_on k past e a before below acc none there knows =
     was : before ≡ process_view k.setup e.process past
     was = let both : Some before ≡ Some (process_view k.setup e.process past) = sym there ∙ knows.process_views e.process below in cc
 
-    view_of : accessed k.entries before a ≡ process_view k.setup e.process (e ∷ past)
-    view_of = (λ i. accessed (knows.entries i) (was i) a) ∙ sym (process_view-access k.setup e.process (Some a) past) ∙ ap (λ (x : Entry). process_view k.setup e.process (x ∷ past)) (sym is)
+    same_view : accessed k.entries before a ≡ process_view k.setup e.process (e ∷ past)
+    same_view = (λ i. accessed (knows.entries i) (was i) a) ∙ sym (process_view-access k.setup e.process (Some a) past) ∙ ap (λ (x : Entry). process_view k.setup e.process (x ∷ past)) (sym is)
 
 -- a list of length below 1 is empty
 pub no_marks : (ms : List Mark) → length ms < 1 → ms ≡ []

@@ -17,7 +17,7 @@ pub use Judging.{AreReasonsAt, AreReasonsIf, AreReasonsOf, BothObserved, HasJudg
 pub use Keeping.{LockRunState, Knows, accessed, accessed_by, at_rest, is_taken, is_taken_as, marked, marked_all, refusal_on}
 pub use Laws.{breaks_access, breaks_history, breaks_marks, breaks_overtaken, breaks_safe, breaks_together, broken_inside, broken_later, ends_wrongly, first_broken, is_that, right_reply}
 pub use Reasons.{AreReasons, change_of, doorway_with, ends_with, entered, entry_of, inside_by, part_of_view, opened_by, other_value, stage_of, view_of, torn_by, value_in, wait_ahead, wait_by, with_value}
-pub use Refusals.{access_refusal, first_that, has_nothing, has_one_mark, has_other_reply, is_end_of, is_of_bit, is_reply, is_there, is_withdrawn, maker_refusals, mark_refusal, may_move, move_refusals, refusal_behind, refusal_of_access, refusal_of_marks, same_reply, same_truth, stands_alone}
+pub use Refusals.{access_refusal, first_that, has_nothing, has_one_mark, has_other_reply, is_end_of, is_of_bit, is_reply, is_there, is_withdrawn, maker_refusals, mark_refusal, may_move, move_refusals, refusal_behind, refusal_of_access, refusal_of_marks, same_reply, same_truth, must_be_alone}
 pub use Shown.{access_refusal_text, law_text, mark_refusal_text}
 pub use ProcessViews.{begun_by, has_access, is_withdrawal, its_call, left_open, opened, passage_in, reply_in, process_view, torn, torn_after, write_of}
 pub use Verdicts.{IsVerdict, verdict_after, verdict_of}

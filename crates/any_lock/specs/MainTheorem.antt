@@ -23,7 +23,7 @@ pub record KeepsMainTheorem (s : Setup) (past : Past) (e : Entry) : Type 0 where
   pub alone : IsAlone (e ∷ past)  -- no two processes are inside together
   pub overtakes : OvertakesNobody past e  -- no process enters while another is ahead
   pub place : TakesItsPlace s past e  -- a command is taken at its position, with the sequential store's reply there
-  pub view_of : IsInHistory s past e  -- a reply that is answered belongs to a command in the history
+  pub in_history : IsInHistory s past e  -- a reply that is answered belongs to a command in the history
   pub answers : AnswersWhatItTook past e  -- an answered reply is that of the one command of its call, and after another answer none was taken
   pub once : CallsTakeOnce (e ∷ past)  -- each call, cut or not, takes effect at most once
   pub cut : AnswersNoCutCall past e  -- a call that was cut is never answered

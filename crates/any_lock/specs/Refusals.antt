@@ -142,12 +142,12 @@ mark_refusal k Down = first_that (
     ∷ [])
 
 -- the mark must be alone: without an access and without another mark
-abbrev pub stands_alone : Mark → Bool
-stands_alone (Called c) = true
-stands_alone Failed = true
-stands_alone Withdrew = true
-stands_alone Restarted = true
-stands_alone _ = false
+abbrev pub must_be_alone : Mark → Bool
+must_be_alone (Called c) = true
+must_be_alone Failed = true
+must_be_alone Withdrew = true
+must_be_alone Restarted = true
+must_be_alone _ = false
 
 -- an entry has neither an access nor a mark
 abbrev pub has_nothing : Entry → Bool
@@ -159,7 +159,7 @@ has_one_mark e = is_none e.access && (length e.marks == 1)
 
 -- one of its marks must be alone, and is not
 abbrev pub is_crowded : Entry → Bool
-is_crowded e = list_any stands_alone e.marks && not (has_one_mark e)
+is_crowded e = list_any must_be_alone e.marks && not (has_one_mark e)
 
 -- The refusals of an entry, after a past.
 

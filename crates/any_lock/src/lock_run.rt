@@ -7,10 +7,10 @@ ghost use Rattle.safe_monitor.specs.{entry_by};
 ghost use Rattle.lock_stages.specs.{AreSince, ahead_since as wait_ahead, other_ahead as lowest_ahead, other_inside as lowest_inside};
 ghost use Rattle.any_lock.specs.Keeping.{IsOfAccess, Knows, KnowsOn, KnowsOnAt, OfEntry, OfPast, ViewAfter, TakesInto, made_at, is_taken, with_view};
 ghost use Rattle.any_lock.specs.Laws.{right_reply};
-ghost use Rattle.any_lock.specs.Refusals.{has_nothing, is_crowded, refusal_of_access, refusal_of_marks, stands_alone as is_alone};
-ghost use Rattle.any_lock.specs.ProcessViews.{passage_in, process_view as standing_of};
+ghost use Rattle.any_lock.specs.Refusals.{has_nothing, is_crowded, refusal_of_access, refusal_of_marks, must_be_alone as is_alone};
+ghost use Rattle.any_lock.specs.ProcessViews.{passage_in, process_view as process_view_of};
 
-use crate::mark_rules::stands_alone;
+use crate::mark_rules::must_be_alone;
 use crate::process_views::ProcessView;
 use crate::refusals::{AccessRefusal, MarkRefusal};
 use lock_stages::{MOST_PROCESSES, ahead_since, other_ahead, other_inside};
@@ -85,7 +85,7 @@ impl LockRun {
     /// Returns the state of a process that exists.
     pub fn view_of(&self, process: u8) -> ProcessView
         requires { process < self.now.setup.processes }
-        ensures { OfPast self.now (λ s past. result ≡ standing_of s process past) }
+        ensures { OfPast self.now (λ s past. result ≡ process_view_of s process past) }
     {
         self.process_views[usize::from(process)]
     }
@@ -213,7 +213,7 @@ impl LockRun {
     {
         self.count();
         self.take(process, takes(marks));
-        self.stand(process, process_view);
+        self.set_view(process, process_view);
     }
 
     /// Counts one more entry.
@@ -249,7 +249,7 @@ impl LockRun {
     }
 
     /// Sets the state of a process.
-    fn stand(&mut self, process: u8, process_view: &ProcessView)
+    fn set_view(&mut self, process: u8, process_view: &ProcessView)
         requires { process < self.old.setup.processes }
         ensures { self.new ≡ with_view process process_view.now self.old }
     {
@@ -268,14 +268,14 @@ fn has_nothing(access: &Option<Access>, marks: &[Mark]) -> bool
 fn is_crowded(access: &Option<Access>, marks: &[Mark]) -> bool
     ensures { (p : ℕ) → result ≡ is_crowded (entry_by p access.now marks.now) }
 {
-    any_stands_alone(marks) && !(access.is_none() && marks.len() == 1)
+    any_must_be_alone(marks) && !(access.is_none() && marks.len() == 1)
 }
 
 /// Returns whether one of the marks must be alone.
-fn any_stands_alone(marks: &[Mark]) -> bool
+fn any_must_be_alone(marks: &[Mark]) -> bool
     ensures { result ≡ list_any is_alone marks.now }
 {
-    marks.iter().any(stands_alone)
+    marks.iter().any(must_be_alone)
 }
 
 /// Returns whether a command is taken with these marks.

@@ -4,7 +4,7 @@ ghost use Rattle.plain_store.specs.declared.Command.{Command as Asked};
 ghost use Rattle.plain_store.specs.declared.Reply.{Reply as Replied};
 ghost use Rattle.model.specs.declared.marks.Mark.TheVariants.{Answered, Called, Down, Settled, Taken};
 ghost use Rattle.model.specs.{is_down, is_settling};
-ghost use Rattle.any_lock.specs.Refusals.{first_that, has_other_reply, is_reply as answers_reply, is_withdrawn, mark_refusal, same_reply, stands_alone as is_alone};
+ghost use Rattle.any_lock.specs.Refusals.{first_that, has_other_reply, is_reply as answers_reply, is_withdrawn, mark_refusal, same_reply, must_be_alone as is_alone};
 
 use crate::process_views::ProcessView;
 use crate::refusals::MarkRefusal;
@@ -135,7 +135,7 @@ fn refused_if(holds: bool, refusal: MarkRefusal) -> Option<MarkRefusal>
 }
 
 /// Returns whether a mark must be alone: without an access and without another mark.
-pub(crate) fn stands_alone(mark: &Mark) -> bool
+pub(crate) fn must_be_alone(mark: &Mark) -> bool
     ensures { result ≡ is_alone mark.now }
 {
     matches!(

@@ -8,9 +8,9 @@ use Rattle.model.specs.{Access, Call, Closing, Entry, Event, Next, Past, Place, 
 use Rattle.plain_store.specs.{Setup}
 use Rattle.model.specs.declared.events.Event.TheVariants as event
 use Rattle.model.specs.declared.stages.Stage.TheVariants as stages
-use Rattle.model.proofs.ClosingStanding.{chosen-after, flick-free, unit_stands, withdrawn_stands, IsChosen}
+use Rattle.model.proofs.ClosingAccesses.{chosen-after, flick-free, unit_corresponds, withdrawn_corresponds, IsChosen}
 use Rattle.model.proofs.Local.{View, rests, down, runs, withdraws, fails, option_map-some}
-use Rattle.model.proofs.Standing.{running_next}
+use Rattle.model.proofs.NextAccesses.{running_next}
 use Rattle.model.proofs.Width.{IsGood}
 use Rattle.model.proofs.World.{view}
 use Rattle.auditor.specs.{flick_in}
@@ -108,7 +108,7 @@ reported_again s g events p flick e ok h = go (view s g events p)
         ∙ ap Some (ap (λ (a : Access). let x : Entry = record { process = p; access = Some a; marks = map (placed (length (history s past))) (marks_of c at (value_of a.how)) } in x) (valued-again s past flick a) ∙ is)
     go (withdraws b st) =
         let at : Closing = closing_of c (withdrawing c) (map value_written (since starts mine)) in
-        closes-again s past p flick c at e (withdrawn_stands s g events p b st).1 (λ n k. flick-free c at (withdrawing-chosen c (map value_written (since starts mine))) _ flick ∙ k) h
+        closes-again s past p flick c at e (withdrawn_corresponds s g events p b st).1 (λ n k. flick-free c at (withdrawing-chosen c (map value_written (since starts mine))) _ flick ∙ k) h
     go (fails b st) =
         let at : Closing = closing_of c (failing c (before is_failed mine)) (map value_written (since is_failed mine)) in
-        closes-again s past p flick c at e (unit_stands s g events p b st).1 (unit-again s past c (before is_failed mine) (map value_written (since is_failed mine)) flick) h
+        closes-again s past p flick c at e (unit_corresponds s g events p b st).1 (unit-again s past c (before is_failed mine) (map value_written (since is_failed mine)) flick) h

@@ -10,7 +10,7 @@ use crate::door_progress::DoorProgress;
 use crate::lock::Locks;
 use model::{Access, TornBit};
 use plain_store::{Command, Setup};
-use process::{Process, given};
+use process::{Process, value_returned};
 use std::alloc::{AllocError, Global};
 use std::marker::Model;
 
@@ -82,7 +82,7 @@ impl Door {
         locks.apply(access);
         let ticket = self.place.ticket();
         let full = self.place.full();
-        let _reported = self.place.advance(flick, given(access.how));
+        let _reported = self.place.advance(flick, value_returned(access.how));
         (access, DoorProgress::at(self.place.stage(), ticket, full))
     }
 

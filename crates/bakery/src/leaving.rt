@@ -9,7 +9,7 @@ ghost use Rattle.bakery.specs.Locks.{CanAccess, lock_after};
 use crate::lock::Lock;
 use model::{Access, TornBit};
 use plain_store::Setup;
-use process::{Process, given};
+use process::{Process, value_returned};
 use reader_copies::Progress;
 use std::marker::Model;
 
@@ -58,7 +58,7 @@ impl Leaving {
     {
         let access = self.place.next(false);
         lock.apply(access);
-        let _reported = self.place.advance(false, given(access.how));
+        let _reported = self.place.advance(false, value_returned(access.how));
         if self.place.goes() {
             (access, Progress::Going)
         } else {

@@ -9,7 +9,7 @@ use crate::data_row::DataRow;
 use crate::section_progress::SectionProgress;
 use model::{Access, Field, Move, TornBit};
 use plain_store::{Command, Reply, Setup};
-use process::{Process, given};
+use process::{Process, value_returned};
 use std::alloc::{AllocError, Global};
 use std::marker::Model;
 
@@ -106,7 +106,7 @@ impl Section {
     {
         let access = row.answered(self.place.next(false), flick);
         row.apply(access);
-        (access, self.advance(given(access.how)))
+        (access, self.advance(value_returned(access.how)))
     }
 
     /// Returns, while a change is written, the reply, the greatest stamp that was read, and the new value of the commit

@@ -13,7 +13,7 @@ use Rattle.model.proofs.Width.{IsGood}
 use Rattle.laws.specs.{IsThere, cell_held, doing, is_inside}
 use Rattle.laws.proofs.Frame.{own-other, doing-other}
 use Rattle.laws.proofs.FrameInside.{inside-is}
-use Rattle.history_laws.proofs.ReadStamps.{history_stands}
+use Rattle.history_laws.proofs.ReadStamps.{history_unchanged}
 use Rattle.history_laws.proofs.CountedChanges.{history-none, history-takes, taken_at, then}
 use Rattle.board.specs.{IsIn, IsPrefix, IsQuiet, Knows, KnowsSeats, OwnView, Shows, ViewState, calls_after, calls_of, changes_of, changing, counted_at, entries_of, own_view, shown, word_of, words_in}
 use Rattle.history_laws.specs.{changes_taken}
@@ -73,7 +73,7 @@ pub record Along (s : Setup) (p : ℕ) (past past' : Past) : Type 0 where
   pub others : (q : ℕ) → p ≢ q → own_view s past' q ≡ own_view s past q
   pub owns : (q : ℕ) → p ≢ q → own q past' ≡ own q past
   pub changed : IsPrefix (changes_of s past) (changes_of s past')
-  pub stands : (q : ℕ) → p ≢ q → is_inside (doing s q past) ≡ true → changes_of s past' ≡ changes_of s past
+  pub fits : (q : ℕ) → p ≢ q → is_inside (doing s q past) ≡ true → changes_of s past' ≡ changes_of s past
 
 pub along_entry : (s : Setup) → IsGood s → (events : List Event) (event : Event) (e : Entry) → entry_of s (past_of s events) event ≡ Some e → (p : ℕ) → e.process ≡ p → Along s p (past_of s events) (e ∷ past_of s events)
 along_entry s g events event e added p is = let past = past_of s events in record {
@@ -89,7 +89,7 @@ along_entry s g events event e added p is = let past = past_of s events in recor
       };
   owns = λ q ne. own-other q e past (λ h. ne (sym is ∙ h));
   changed = changes_entry s past e;
-  stands = λ q ne inside_. ap (changing (opening_store s)) (history_stands s g events event e added q (inside-is s g events q ∙ inside_) (λ same. ne (sym is ∙ sym same)));
+  fits = λ q ne inside_. ap (changing (opening_store s)) (history_unchanged s g events event e added q (inside-is s g events q ∙ inside_) (λ same. ne (sym is ∙ sym same)));
 }
 
 pub seen_along : (s : Setup) (p : ℕ) (past past' : Past) (seen : List Taken) → Along s p past past' → IsPrefix seen (changes_of s past) → IsPrefix seen (changes_of s past')
@@ -100,7 +100,7 @@ knows_along s p past past' x along ne k = record {
   below = k.below;
   own = k.own ∙ sym (along.others x.own.process ne);
   seen = seen_along s p past past' x.seen along k.seen;
-  inside = λ h. k.inside h ∙ sym (along.stands x.own.process ne (ap (λ (o : OwnView). is_inside o.doing) (sym k.own) ∙ h));
+  inside = λ h. k.inside h ∙ sym (along.fits x.own.process ne (ap (λ (o : OwnView). is_inside o.doing) (sym k.own) ∙ h));
 }
 
 -- Lists of views.

@@ -33,9 +33,9 @@ use Rattle.history_laws.proofs.Sounding.{after_is_same}
 use Rattle.process.specs.{newest_version}
 use Rattle.process.proofs.NewestSteps.{newest-below}
 use Rattle.board.proofs.Doings.{stage_known}
-use Rattle.board.specs.{Agree, IsIn, IsQuiet, IsStill, KnowsSeats, Leaves, OwnView, Shows, StandsIn, ViewState, bits_shown, bytes_shown, own_view, shown, spent_view, stage_in, version_shown, versions_shown, with_joined, word_of}
+use Rattle.board.specs.{Agree, IsIn, IsQuiet, IsStill, KnowsSeats, Leaves, OwnView, Shows, FitsChanges, ViewState, bits_shown, bytes_shown, own_view, shown, spent_view, stage_in, version_shown, versions_shown, with_joined, word_of}
 use Rattle.board.specs.Calls.{Calls, changes_of, changing}
-use Rattle.board.proofs.CallsStand.{calls_in_the_changes}
+use Rattle.board.proofs.CallsFit.{calls_in_the_changes}
 use Rattle.board.proofs.Seats.{is_first, joins, some_processes}
 
 -- Processes that are still.
@@ -163,7 +163,7 @@ closes s id v words t image agree at same live zero_ still joined is = record {
   quiet = quiet;
   calls = ap (λ (o : OwnView). o.calls) mine;
   seen = k.seen;
-  stands = subst (λ (calls : Calls). StandsIn s 0 calls.done (changes_of s past)) (sym (ap (λ (o : OwnView). o.calls) mine)) (calls_in_the_changes s f.good events f.given 0).0;
+  fits = subst (λ (calls : Calls). FitsChanges s 0 calls.done (changes_of s past)) (sym (ap (λ (o : OwnView). o.calls) mine)) (calls_in_the_changes s f.good events f.given 0).0;
   store =
       is
       ∙ ap (λ ws. store_in s.slots (callers_of s) (bytes_shown s ws)) (sym same)

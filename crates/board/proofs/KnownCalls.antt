@@ -11,7 +11,7 @@ use Rattle.history_laws.proofs.HistoryItems.{calls-uncalled}
 use Rattle.history_laws.proofs.Reported.{since-uncalled}
 use Rattle.board.specs.Calls.{Calls, calls_after, calls_of, changes_of}
 use Rattle.board.proofs.Along.{changes_entry}
-use Rattle.board.proofs.Standing.{Standing, standing_longer}
+use Rattle.board.proofs.StageFits.{StageFits, stage_fits_longer}
 
 -- The state of the calls of a process, in one record.
 pub record Known : Type 0 where
@@ -22,8 +22,8 @@ pub record Known : Type 0 where
   pub list : List Taken
   pub calls : Calls
 
-abbrev pub Stands : Setup → ℕ → Known → Type 0
-Stands s p k = Standing s p k.stage k.number k.command k.taken k.list k.calls.done k.calls.now
+abbrev pub KnownCallsFit : Setup → ℕ → Known → Type 0
+KnownCallsFit s p k = StageFits s p k.stage k.number k.command k.taken k.list k.calls.done k.calls.now
 
 -- that state in a past
 abbrev pub known : Setup → Past → ℕ → Known
@@ -108,9 +108,9 @@ known-other s past e p apart = λ i. record {
   calls = cond (ne_eqb e.process p apart i) (fold (calls_after (changes_taken s past)) (calls_of s p past) e.marks) (calls_of s p past);
 }
 
-pub other_entry : (s : Setup) (past : Past) (e : Entry) (p : ℕ) → e.process ≢ p → Stands s p (known s past p) → Stands s p (known s (e ∷ past) p)
+pub other_entry : (s : Setup) (past : Past) (e : Entry) (p : ℕ) → e.process ≢ p → KnownCallsFit s p (known s past p) → KnownCallsFit s p (known s (e ∷ past) p)
 other_entry s past e p apart h =
     let k : Known = known s past p in
     let more = changes_entry s past e in
-    subst (Stands s p) (sym (known-other s past e p apart))
-    (subst (λ (list : List Taken). Stands s p (record k { list = list })) (sym more.1) (standing_longer s p k.stage k.number k.command k.taken k.list more.0 k.calls.done k.calls.now h))
+    subst (KnownCallsFit s p) (sym (known-other s past e p apart))
+    (subst (λ (list : List Taken). KnownCallsFit s p (record k { list = list })) (sym more.1) (stage_fits_longer s p k.stage k.number k.command k.taken k.list more.0 k.calls.done k.calls.now h))

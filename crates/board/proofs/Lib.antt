@@ -2,7 +2,7 @@ pub use Rattle.laws.proofs as laws
 pub mod Accesses
 pub mod Along
 pub mod Begins
-pub mod CallsStand
+pub mod CallsFit
 pub mod Changes
 pub mod Closings
 pub mod Doings
@@ -22,10 +22,10 @@ pub mod PortLists
 pub mod ReadBegins
 pub mod Reached
 pub mod Seats
-pub mod SeenStands
+pub mod SeenCallsFit
 pub mod ShownBits
-pub mod Standing
-pub mod Stands
+pub mod StageFits
+pub mod FittingCalls
 pub mod StillSeats
 pub mod Ties
 pub mod WordNumbers

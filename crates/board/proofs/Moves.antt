@@ -24,7 +24,7 @@ use Rattle.board.proofs.Reached.{known_where}
 use Rattle.board.specs.{Agree, GoesOn, IsPrefix, Knows, Loads, Makes, MayAllHappen, OwnView, Shows, Stores, ViewState, are_neighbours, at_events, changes_of, closed_word, is_pair, loaded, own_view, shown, stage_in, stored, with_events, with_step, word_of}
 use Rattle.history_laws.specs.{changes_taken, stamp_read}
 use Rattle.board.proofs.Along.{changes_entry, changes_none, prefix-trans, set_at, set_set, so_many_changes}
-use Rattle.board.proofs.CallsStand.{calls_in_the_changes}
+use Rattle.board.proofs.CallsFit.{calls_in_the_changes}
 use Rattle.board.proofs.ReadBegins.{begin_inside, begin_untaken, ending, reads_on}
 use Rattle.board.proofs.Happenings.{events_apart, events_show, same_process_all}
 use Rattle.board.proofs.Neighbours.{one_more, read_more, written_reads}
@@ -68,7 +68,7 @@ goes_on s good events given v below seen = record {
   at = known_where s (is_good s good) events v.own.process;
   seen = seen;
   stamped = λ stamp h. so_many_changes s (past_of s events) ∙ sym (stamps_count s good events given v.own.process stamp below h);
-  stands = record { stands = (calls_in_the_changes s good events given v.own.process).1; seen = record { events = events; given = given; first = ([], sym (append-nil (changes_of s (past_of s events)))) } };
+  fits = record { fits = (calls_in_the_changes s good events given v.own.process).1; seen = record { events = events; given = given; first = ([], sym (append-nil (changes_of s (past_of s events)))) } };
 }
 
 -- the next access of a seat whose process had these events

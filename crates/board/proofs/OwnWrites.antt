@@ -9,7 +9,7 @@ use Rattle.plain_store.specs.declared.Reply.TheVariants as reply
 use Rattle.plain_store.proofs.Changes.{value_at-put}
 use Rattle.model.specs.{Placed, Taken, store_after}
 use Rattle.history_laws.proofs.CountedChanges.{then}
-use Rattle.board.specs.{PlacedAsAnswered, StandsIn, caller_of, change_at, store_at}
+use Rattle.board.specs.{PlacedAsAnswered, FitsChanges, caller_of, change_at, store_at}
 
 -- the store at the next position is the store after the change
 take-next : {X : Type 0} (xs : List X) (k : ℕ) (x : X) → slice_get xs k ≡ Some x → take (suc k) xs ≡ take k xs ++ x ∷ []
@@ -41,7 +41,7 @@ value_then store t name x is new =
 read_then : (store : Contents) (name : List ℕ) (x : Value) (caller : Caller) → value_at store.pairs name ≡ Some x → reply_to store (Read name) caller ≡ reply.Value x
 read_then store name x caller h = ap (λ (v : Option Value). (outcome v (nat_lt (length store.pairs) store.slots) (number_of store.numbers caller.process) (Read name)).reply) h
 
-pub own_writes_are_read : (s : Setup) (p : ℕ) (calls : List Placed) (list : List Taken) → StandsIn s p calls list → (j k place : ℕ) (write read : Placed) (name : List ℕ) (x : Value) → slice_get calls j ≡ Some write → slice_get calls k ≡ Some read →
+pub own_writes_are_read : (s : Setup) (p : ℕ) (calls : List Placed) (list : List Taken) → FitsChanges s p calls list → (j k place : ℕ) (write read : Placed) (name : List ℕ) (x : Value) → slice_get calls j ≡ Some write → slice_get calls k ≡ Some read →
     write.command ≡ Write name x → read.command ≡ Read name → write.place ≡ Some place → read.place ≡ Some (place + 1) → changes (store_at s list place) write.command ≡ true → (a : Answer) → read.answer ≡ Some a → a ≡ answer.Reply (reply.Value x)
 own_writes_are_read s p calls list h j k place write read name x at_write at_read writes reads is_write is_read new a answered =
     go a answered (subst (λ (o : Option Answer). PlacedAsAnswered o read.place) answered (h.answered k read at_read))

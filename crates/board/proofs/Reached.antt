@@ -3,7 +3,7 @@ use Rattle.std.proofs.Common.{◌≡◌, ℕ, List, refl, sym, ap, subst, ◌∙
 use Rattle.plain_store.specs.{Setup}
 use Rattle.model.specs.{Event, Past, accesses_of, call_number, is_over, last_command, own, past_of, since, stage, starts}
 use Rattle.model.proofs.OpenSteps.{failing_at, leaving_at, place_at}
-use Rattle.model.proofs.Standing.{at_place}
+use Rattle.model.proofs.NextAccesses.{at_place}
 use Rattle.model.proofs.Width.{IsGood}
 use Rattle.laws.specs.{Closes, Doing, IsCallOf, IsLive, IsReached, Lies, Rests, Runs, doing}
 use Rattle.laws.proofs.Frame.{Does, at_rest, lying, running, leaving, settling}

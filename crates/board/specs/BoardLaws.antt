@@ -14,7 +14,7 @@ use Rattle.process.specs.registers.{BitCopy}
 use Rattle.board.specs.Driving.{Drives}
 use Rattle.board.specs.declared.driving.Driven.{Driven}
 use Rattle.board.specs.Calls.{IsPrefix, and_then, calls_of, changes_of}
-use Rattle.board.specs.Lists.{StandsIn, store_at}
+use Rattle.board.specs.Lists.{FitsChanges, store_at}
 use Rattle.board.specs.Views.{MayAllHappen, ViewState, refusal_in, stage_in, with_events}
 use Rattle.board.specs.Words.{access_to, copy_of, word_of_copy, words_in}
 
@@ -53,15 +53,15 @@ AllChangesMakeTheStore = (s : Setup) (past : Past) → store_after s (changes_of
 
 -- The finished calls of each process are consistent with the list of changes, and so are these calls followed by the unfinished one.
 abbrev pub CallsAreInTheChanges : Type 0
-CallsAreInTheChanges = EachPastGiven λ s past. (p : ℕ) → let calls = calls_of s p past in StandsIn s p calls.done (changes_of s past) × StandsIn s p (and_then calls.done calls.now) (changes_of s past)
+CallsAreInTheChanges = EachPastGiven λ s past. (p : ℕ) → let calls = calls_of s p past in FitsChanges s p calls.done (changes_of s past) × FitsChanges s p (and_then calls.done calls.now) (changes_of s past)
 
 -- Calls that are consistent with a list of changes are consistent with each longer one.
 abbrev pub IsInLonger : Type 0
-IsInLonger = (s : Setup) (p : ℕ) (calls : List Placed) (first all : List Taken) → IsPrefix first all → StandsIn s p calls first → StandsIn s p calls all
+IsInLonger = (s : Setup) (p : ℕ) (calls : List Placed) (first all : List Taken) → IsPrefix first all → FitsChanges s p calls first → FitsChanges s p calls all
 
 -- A process reads what it wrote: if its write of a name changed the store, then its read of that name at the next position returns the value.
 abbrev pub OwnWritesAreRead : Type 0
-OwnWritesAreRead = (s : Setup) (p : ℕ) (calls : List Placed) (list : List Taken) → StandsIn s p calls list → (j k place : ℕ) (write read : Placed) (name : List ℕ) (x : Value) →
+OwnWritesAreRead = (s : Setup) (p : ℕ) (calls : List Placed) (list : List Taken) → FitsChanges s p calls list → (j k place : ℕ) (write read : Placed) (name : List ℕ) (x : Value) →
     slice_get calls j ≡ Some write → slice_get calls k ≡ Some read → write.command ≡ Write name x → read.command ≡ Read name → write.place ≡ Some place → read.place ≡ Some (place + 1) →
     changes (store_at s list place) write.command ≡ true → (a : Answer) → read.answer ≡ Some a → a ≡ answer.Reply (reply.Value x)
 

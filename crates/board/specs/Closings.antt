@@ -17,7 +17,7 @@ use Rattle.board.specs.Agreement.{IsIn, IsQuiet}
 use Rattle.board.specs.Boards.{BoardState, IsOf}
 use Rattle.board.specs.declared.closing.Closing.{Closing}
 use Rattle.board.specs.Calls.{Calls, IsPrefix, calls_of, changes_of}
-use Rattle.board.specs.Lists.{StandsIn}
+use Rattle.board.specs.Lists.{FitsChanges}
 use Rattle.board.specs.Ports.{PortState}
 use Rattle.board.specs.Views.{OwnView, ViewState, stage_in}
 use Rattle.board.specs.Words.{word_of}
@@ -120,7 +120,7 @@ pub record Leaves (s : Setup) (its_calls : Calls) (has_seen : List Taken) (image
   pub quiet : (p : ℕ) → p < s.processes → IsQuiet (doing s p (past_of s events))
   pub calls : its_calls ≡ calls_of s 0 (past_of s events)
   pub seen : IsPrefix has_seen (changes_of s (past_of s events))
-  pub stands : StandsIn s 0 its_calls.done (changes_of s (past_of s events))
+  pub fits : FitsChanges s 0 its_calls.done (changes_of s (past_of s events))
   pub store : image ≡ store_after s (changes_of s (past_of s events))
 
 -- the finished calls of each of these ports
@@ -156,7 +156,7 @@ FirstLeaves s ports image = (k : ℕ) (port : PortState) → slice_get ports k �
 pub record AreInRecord (s : Setup) (p : ℕ) (calls : List Placed) : Type 0 where
   pub events : List Event
   pub given : AreGiven s events
-  pub stands : StandsIn s p calls (changes_of s (past_of s events))
+  pub fits : FitsChanges s p calls (changes_of s (past_of s events))
 
 -- each of these lists is consistent with the changes of such a record, list p as that of process p
 abbrev pub EachIsInRecord : Setup → List (List Placed) → Type 0

@@ -21,7 +21,7 @@ pub use Calls.{IsPrefix, and_then, called, calls_after, calls_of, changes_of, ch
 pub use Closings.{AreFirstPortsOf, AreInOrder, AreListsOf, AreMadeWith, AreOfAll, AreOthers, AreQuiet, EachIsInRecord, FirstLeaves, IsPlaceOf, IsStill, Leaves, AreInRecord, bits_shown, bytes_shown, done_calls, lists_in, version_shown, versions_shown}
 pub use Driving.{Drives, EndsWith, Walks, WalksTo, flicks_after}
 pub use Listing.{IsPlace, KnowsPlace, may_take}
-pub use Lists.{AreFirstChanges, PlacedAsAnswered, StandsAt, StandsIn, AreInSeen, caller_of, change_at, place_after, store_at}
+pub use Lists.{AreFirstChanges, PlacedAsAnswered, FitsAt, FitsChanges, AreInSeen, caller_of, change_at, place_after, store_at}
 pub use Pending.{events_of, nothing}
 pub use Ports.{IsBegun, IsNext, IsTied, IsUnended, PortState, SamePort, answer_to, port_after, with_pending}
 pub use Views.{MayAllHappen, MayHappen, OwnView, ViewState, at_events, counted_at, entries_of, entry_marked, entry_stepped, first_view, new_own, new_view, own_view, process_at, refusal_in, spent_view, stage_in, with_event, with_events, with_joined, with_made, with_step}

@@ -19,7 +19,7 @@ abbrev pub change_at : Setup → List Taken → Caller → Command → ℕ → T
 change_at s list caller command place = record { process = caller.process; command = command; reply = reply_to (store_at s list place) command caller; number = caller.number }
 
 -- a call that was taken at this position: the store at the position gives the reply, if the call has a reply; if its command changes that store, it is the change at the position
-pub record StandsAt (s : Setup) (list : List Taken) (caller : Caller) (call : Placed) (place : ℕ) : Type 0 where
+pub record FitsAt (s : Setup) (list : List Taken) (caller : Caller) (call : Placed) (place : ℕ) : Type 0 where
   pub within : place ≤ length list
   pub reply : (r : Reply) → call.answer ≡ Some (answer.Reply r) → r ≡ reply_to (store_at s list place) call.command caller
   pub change : changes (store_at s list place) call.command ≡ true → slice_get list place ≡ Some (change_at s list caller call.command place)
@@ -35,8 +35,8 @@ abbrev pub place_after : Setup → List Taken → Command → ℕ → ℕ
 place_after s list command place = cond (changes (store_at s list place) command) (place + 1) place
 
 -- The calls of process p are consistent with a list of changes.
-pub record StandsIn (s : Setup) (p : ℕ) (calls : List Placed) (list : List Taken) : Type 0 where
-  pub taken : (k place : ℕ) (call : Placed) → slice_get calls k ≡ Some call → call.place ≡ Some place → StandsAt s list (caller_of s p k) call place  -- each taken call agrees with the list at its position
+pub record FitsChanges (s : Setup) (p : ℕ) (calls : List Placed) (list : List Taken) : Type 0 where
+  pub taken : (k place : ℕ) (call : Placed) → slice_get calls k ≡ Some call → call.place ≡ Some place → FitsAt s list (caller_of s p k) call place  -- each taken call agrees with the list at its position
   pub answered : (k : ℕ) (call : Placed) → slice_get calls k ≡ Some call → PlacedAsAnswered call.answer call.place  -- each call answered with a reply was taken
   pub order : (j k place next : ℕ) (call later : Placed) → j < k → slice_get calls j ≡ Some call → slice_get calls k ≡ Some later → call.place ≡ Some place → later.place ≡ Some next →
       place_after s list call.command place ≤ next  -- positions never fall, and after a change they are above its position
@@ -49,7 +49,7 @@ pub record AreFirstChanges (s : Setup) (list : List Taken) : Type 0 where
 
 -- The calls of process p are consistent with these changes, which are the first changes of a record.
 pub record AreInFirst (s : Setup) (p : ℕ) (calls : List Placed) (list : List Taken) : Type 0 where
-  pub stands : StandsIn s p calls list
+  pub fits : FitsChanges s p calls list
   pub seen : AreFirstChanges s list
 
 -- The calls that a view knows are consistent with the changes that it has seen.

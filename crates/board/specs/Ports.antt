@@ -10,7 +10,7 @@ use Rattle.process.specs.{ProcessState}
 use Rattle.board.specs.declared.pending.Pending.{Pending}
 use Rattle.board.specs.Calls.{Calls}
 use Rattle.board.specs.Listing.{KnowsPlace}
-use Rattle.board.specs.Lists.{StandsIn, AreInSeen}
+use Rattle.board.specs.Lists.{FitsChanges, AreInSeen}
 use Rattle.board.specs.Pending.{events_of}
 use Rattle.board.specs.Views.{MayAllHappen, ViewState, at_events, process_at, refusal_in}
 use Rattle.board.specs.Words.{word_of}
@@ -67,12 +67,12 @@ pub record KeepsPort (s : Setup) (pending : Pending) (process : ProcessState) (v
   pub tied : IsTied s pending process value v
   pub calls : list ≡ (with_pending s pending v).own.calls
   pub place : KnowsPlace stamp (with_pending s pending v)
-  pub stands : AreInSeen s (with_pending s pending v)
+  pub fits : AreInSeen s (with_pending s pending v)
   pub none : held ≡ []
 
 -- these calls of its process are consistent with the changes that the port has seen
 abbrev pub CallsAreInSeen : PortState → List Placed → Type 0
-CallsAreInSeen port calls = StandsIn port.setup port.view.own.process calls port.view.seen
+CallsAreInSeen port calls = FitsChanges port.setup port.view.own.process calls port.view.seen
 
 -- the next access of a process is this one, to this word
 pub record IsNext (s : Setup) (process : ProcessState) (flick : Bool) (word : ℕ) (access : Access) : Type 0 where

@@ -36,7 +36,7 @@ pub record GoesOn (s : Setup) (v w : ViewState) : Type 0 where
   pub at : IsWhere s w.own
   pub seen : IsPrefix v.seen w.seen
   pub stamped : (stamp : ℕ) → stamp_read w.own.doing ≡ Some stamp → length w.seen ≡ stamp
-  pub stands : AreInSeen s w
+  pub fits : AreInSeen s w
 
 -- a load that found this word: the begin and the end of a read, which returns the loaded value
 pub record Loads (s : Setup) (flick : Bool) (v : ViewState) (word : ℕ) (w : ViewState) : Type 0 where

@@ -38,7 +38,7 @@ impl Board {
         ensures quiet { IsOk result ↔ CanClose self.setup ports.items }
         ensures leaves { IfOk result (λ closing. FirstLeaves self.setup ports.items closing.image) }
         ensures answers { IfOk result (λ closing. AreListsOf ports.items (lists_in closing)) }
-        ensures stand { IfOk result (λ closing. EachIsInRecord self.setup (lists_in closing)) }
+        ensures fit { IfOk result (λ closing. EachIsInRecord self.setup (lists_in closing)) }
         ensures board { IfErr result (λ back. back.board ≡ self) }
         ensures back { IfErr result (λ back. back.ports.items ≡ ports.items) }
     {
@@ -57,7 +57,7 @@ impl Board {
         requires quiet { AreQuiet ports.items }
         ensures leaves { HeadLeaves self.setup ports.items result.image }
         ensures answers { lists_in result ≡ done_calls ports.items }
-        ensures stand { EachIsInRecord self.setup (lists_in result) }
+        ensures fit { EachIsInRecord self.setup (lists_in result) }
     {
         let (first, calls) = ports.remove(0).into_parts();
         self.shut(first, calls, ports)
@@ -75,7 +75,7 @@ impl Board {
         requires calls { AreInRecord self.setup 0 calls.items }
         ensures leaves { Leaves self.setup first.me.0.own.calls first.me.0.seen result.image }
         ensures answers { lists_in result ≡ calls.items ∷ done_calls others.items }
-        ensures stand { EachIsInRecord self.setup (lists_in result) }
+        ensures fit { EachIsInRecord self.setup (lists_in result) }
     {
         let Board {
             table,
@@ -117,12 +117,12 @@ fn join_all(
     requires order { AreOthers words.now.table_id words.now.key (vec_len answers.old) others.items }
     requires quiet { AreQuiet others.items }
     requires answers { vec_len answers.old ≡ 1 }
-    requires stand { EachIsInRecord words.now.key (lists_of answers.old.items) }
+    requires fit { EachIsInRecord words.now.key (lists_of answers.old.items) }
     requires room { vec_len answers.old + vec_len others ≤ vec_capacity answers.old }
     ensures seat { (first.new.table_id ≡ first.old.table_id) × (first.new.id ≡ first.old.id) }
     ensures joined { HasJoined (vec_len others) first.old.me.0 first.new.me.0 }
     ensures answers { AddsCallsOf others.items answers.old.items answers.new.items }
-    ensures stand { EachIsInRecord words.now.key (lists_of answers.new.items) }
+    ensures fit { EachIsInRecord words.now.key (lists_of answers.new.items) }
 {
     while !others.is_empty() {
         let (seat, calls) = others.remove(0).into_parts();

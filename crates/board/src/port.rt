@@ -78,7 +78,7 @@ impl Port {
         ensures holds { result.0.me.1 ≡ [] }
         ensures seat { IsSeatOf self result.0.me.0 }
         ensures calls { result.1.items ≡ self.view.own.calls.done }
-        ensures stands { AreInRecord self.setup self.view.own.process result.1.items }
+        ensures fits { AreInRecord self.setup self.view.own.process result.1.items }
     {
         let Port { seat, calls, .. } = self;
         (seat, calls.into_done())
@@ -102,7 +102,7 @@ impl Port {
     /// changes of some record.
     pub fn answers(&self) -> &[Placed]
         ensures list { result.now ≡ self.now.view.own.calls.done }
-        ensures stands { CallsAreInSeen self.now result.now }
+        ensures fits { CallsAreInSeen self.now result.now }
         ensures seen { AreFirstChanges self.now.setup self.now.view.seen }
     {
         self.calls.done()

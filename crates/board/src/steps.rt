@@ -98,7 +98,7 @@ fn read(
     ensures step { SeatSteps words.now.key pending flick seat.old seat.new }
     ensures leads { SeatLeads words.now.key pending result seat.old seat.new }
     ensures lists { SeatLists words.now.key pending result seat.old seat.new }
-    ensures stands { AreInSeen words.now.key seat.new.me.0 }
+    ensures fits { AreInSeen words.now.key seat.new.me.0 }
 {
     let found = load::<Brand>(words, seat, word, flick, pending);
     let _begun = process.advance(flick, false);
@@ -124,7 +124,7 @@ fn write(
     ensures step { SeatSteps words.now.key pending flick seat.old seat.new }
     ensures leads { SeatLeads words.now.key pending result seat.old seat.new }
     ensures lists { SeatLists words.now.key pending result seat.old seat.new }
-    ensures stands { AreInSeen words.now.key seat.new.me.0 }
+    ensures fits { AreInSeen words.now.key seat.new.me.0 }
 {
     store::<Brand>(words, seat, word, new, flick, pending);
     briefly(process.advance(flick, false))
@@ -171,7 +171,7 @@ pub(crate) fn word_step(
     ensures step { SeatSteps words.now.key pending flick seat.old seat.new }
     ensures leads { SeatLeads words.now.key pending result seat.old seat.new }
     ensures lists { SeatLists words.now.key pending result seat.old seat.new }
-    ensures stands { AreInSeen words.now.key seat.new.me.0 }
+    ensures fits { AreInSeen words.now.key seat.new.me.0 }
 {
     let access = process.next(flick);
     let word = layout.word_of(setup, BitCopy::of(&access));

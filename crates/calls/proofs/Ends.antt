@@ -11,7 +11,7 @@ use Rattle.model.specs.safe_bit.{Move, is_begin, is_begin_of_read, is_end, is_of
 use Rattle.model.specs.safe_bit.declared.Move.TheVariants.{BeginWrite, EndWrite, BeginRead, EndRead, Settle}
 use Rattle.world.specs.{ends_overlapped, ends_overlapped_read}
 use Rattle.calls.specs.{begins_read_of, ends_own_overlapped, goes_on_after, is_calling, is_there, last_access, later_access, overlaps_in}
-use Rattle.judge.specs.any_lock.{BegunAccess, ProcessView, access_refusal, accessed_by, begun_by, is_end_of, left_open, mark_refusal, marked, marked_all, may_move, opened, refusal_of_access, refusal_on, same_truth, process_view, stands_alone}
+use Rattle.judge.specs.any_lock.{BegunAccess, ProcessView, access_refusal, accessed_by, begun_by, is_end_of, left_open, mark_refusal, marked, marked_all, may_move, opened, refusal_of_access, refusal_on, same_truth, process_view, must_be_alone}
 use Rattle.judge.specs.any_lock.declared.refusals.AccessRefusal.TheVariants as access
 use Rattle.judge.specs.any_lock.declared.refusals.MarkRefusal.TheVariants as refusal
 use Rattle.judge.proofs.any_lock.Alone.{AllKeep, Keeps, not_not}
@@ -19,7 +19,7 @@ use Rattle.judge.proofs.any_lock.Breaks.{none_else, none_if, process_there}
 use Rattle.judge.proofs.any_lock.Cuts.{Orderly, first_unrefused, orderly, rest_unrefused, unrefused_on}
 use Rattle.judge.proofs.any_lock.Markings.{or_false, with_marks}
 use Rattle.judge.proofs.any_lock.Steps.{process_view-other}
-use Rattle.judge.proofs.any_lock.Whole.{one_alone, stands_whole}
+use Rattle.judge.proofs.any_lock.Whole.{one_alone, whole_applied}
 
 -- What a process has open is its last access.
 
@@ -187,7 +187,7 @@ uncalled calling (mark.Withdrew ∷ ms) none = uncalled calling ms none
 uncalled calling (mark.Restarted ∷ ms) none = uncalled calling ms none
 
 -- a call stands alone
-called_alone : (ms : List Mark) → list_any is_called ms ≡ true → list_any stands_alone ms ≡ true
+called_alone : (ms : List Mark) → list_any is_called ms ≡ true → list_any must_be_alone ms ≡ true
 called_alone [] some = some
 called_alone (mark.Called c ∷ ms) some = refl
 called_alone (mark.Waiting t ∷ ms) some = called_alone ms some
@@ -236,7 +236,7 @@ all_at_call s (e ∷ past) all p = go (cases_eq e.process p) (all_at_call s past
     mine before =
         let fine = orderly s past q e.access e.marks all.0.marks in
         let none = unrefused_on s past q e.access e.marks all.0.marks in
-        subst (λ (k : ProcessView). IsAtCall (is_calling q (e ∷ past)) k.stage) (stands_whole s q past e.access e.marks fine.apart none)
+        subst (λ (k : ProcessView). IsAtCall (is_calling q (e ∷ past)) k.stage) (whole_applied s q past e.access e.marks fine.apart none)
         (subst (λ b. IsAtCall b (marked_all s (length past) (accessed_by (length past) (process_view s q past) e.access) e.marks).stage) (sym (calling_on q e.access e.marks past fine))
         (call_all s (length past) e.marks (accessed_by (length past) (process_view s q past) e.access) (is_calling q past) none (at_accessed (length past) (process_view s q past) e.access (is_calling q past) before)))
 

@@ -1,4 +1,4 @@
-pub use Rattle.scenario_run.proofs as course_proofs
+pub use Rattle.scenario_run.proofs as scenario_run_proofs
 pub use Rattle.scenario.proofs as scenario_proofs
 pub use Rattle.world.proofs as world_proofs
 pub mod Loops

@@ -129,7 +129,7 @@ observes_passing t p (suc m) newest overlapped past after then some below room b
     all = passes m s p newest overlapped past after none by
 
     now : then ≡ call_state s p after
-    now = on (has_room_for s p past (suc m) newest.how overlapped (subst (λ n. n + suc m < 2 ^ 64) h.entries room) all.few) ∙ ap (λ k. passed_by k (suc m) newest.how overlapped (call_state s p past)) h.entries ∙ sym all.standing_is
+    now = on (has_room_for s p past (suc m) newest.how overlapped (subst (λ n. n + suc m < 2 ^ 64) h.entries room) all.few) ∙ ap (λ k. passed_by k (suc m) newest.how overlapped (call_state s p past)) h.entries ∙ sym all.call_state_is
 
     each : (q : ℕ) → q < s.processes → slice_get (slice_set t.call_states p then) q ≡ Some (call_state s q after)
     each q inside = elim (cases_eq q p) [

@@ -145,7 +145,7 @@ module _ (s : Setup) (p : ℕ) (a : Access) (past : Past) where
 
 -- the state of p after them, the number of entries then, and a bound: no more reads ended than there were accesses
 pub record HasPassed (s : Setup) (p n : ℕ) (newest : Access) (overlapped : ℕ) (past after : Past) : Type 0 where
-  pub standing_is : call_state s p after ≡ passed_by (length past) n newest.how overlapped (call_state s p past)
+  pub call_state_is : call_state s p after ≡ passed_by (length past) n newest.how overlapped (call_state s p past)
   pub long : length after ≡ length past + n
   pub few : overlapped ≤ n
   pub others : (q : ℕ) → (p == q) ≡ false → call_state s q after ≡ call_state s q past
@@ -154,7 +154,7 @@ pub passes : (n : ℕ) (s : Setup) (p : ℕ) (newest : Access) (overlapped : ℕ
 passes zero s p newest overlapped past after failed (mid, before, count, (same, none), follow, ends, is, counts) =
     let all : overlapped ≡ more_if (ends_overlapped_read past (quiet_entry p newest)) 0 = counts ∙ (λ i. more_if (ends_overlapped_read (same i) (quiet_entry p newest)) (none i)) in
     subst (λ (after : Past). HasPassed s p 1 newest overlapped past after) (sym (is ∙ ap (λ (mid : Past). quiet_entry p newest ∷ mid) same)) (record {
-      standing_is = once s p newest past overlapped failed ends all;
+      call_state_is = once s p newest past overlapped failed ends all;
       long = omega arith;
       few = let few = more-few (ends_overlapped_read past (quiet_entry p newest)) 0 0 (omega arith) in omega (arith, all, few);
       others = λ q apart. call_state-other s q (quiet_entry p newest) past apart;
@@ -162,7 +162,7 @@ passes zero s p newest overlapped past after failed (mid, before, count, (same, 
 passes (suc n) s p newest overlapped past after failed (mid, before, count, more, follow, ends, is, counts) =
     let h : HasPassed s p (suc n) before count past mid = passes n s p before count past mid failed more in
     subst (λ (after : Past). HasPassed s p (suc (suc n)) newest overlapped past after) (sym is) (record {
-      standing_is = again s p newest mid n (length past) before.how count overlapped (call_state s p past) failed h.standing_is (follow (omega arith)) ends counts;
+      call_state_is = again s p newest mid n (length past) before.how count overlapped (call_state s p past) failed h.call_state_is (follow (omega arith)) ends counts;
       long = let long = h.long in omega (arith, long);
       few = let few = more-few (ends_overlapped_read mid (quiet_entry p newest)) count (suc n) h.few in omega (arith, counts, few);
       others = λ q apart. call_state-other s q (quiet_entry p newest) mid apart ∙ h.others q apart;

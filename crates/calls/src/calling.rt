@@ -21,7 +21,7 @@ use std::alloc::Global;
 
 /// Reads a whole scenario file, and then writes the table of the calls of its run: a line of comma-separated values for each
 /// call, as it ends. It takes at most `INPUT_LIMIT` bytes from the start of the input, even if it fails. It reports its
-/// progress to the onlooker; `NoObserver` ignores the reports.
+/// progress to the progress observer; `NoObserver` ignores the reports.
 ///
 /// # Errors
 ///

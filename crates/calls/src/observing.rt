@@ -1,4 +1,4 @@
-//! A listener that tabulates the calls of a run. It writes the line of each call that ends before the next event is made.
+//! An observer that tabulates the calls of a run. It writes the line of each call that ends before the next event is made.
 ghost use Rattle.std.specs.Prelude.{◌≡◌, ◌+◌, ◌-◌, ◌^◌, ◌<◌, ◌∷◌, [], IfErr, OnErr, OnOk, Some, length, refl, false};
 ghost use Rattle.std.proofs.Common.{◌∙◌};
 ghost use Rattle.std.specs.Io.KnownBytes.{Appends};
@@ -33,7 +33,7 @@ impl<'a, W: Sink> RunObserver for CallsWriter<'a, W> {
         false
     }
 
-    fn events(&self) -> u64 {
+    fn event_count(&self) -> u64 {
         self.table.entries()
     }
 

@@ -2,7 +2,7 @@ ghost use Rattle.std.specs.Prelude.{◌≡◌, ◌+◌, ◌-◌, ◌^◌, ◌<�
 ghost use Rattle.plain_store.specs.{checked};
 ghost use Rattle.model.specs.{Entry as Noted, Past, called_in as command_in, calls_in, own};
 ghost use Rattle.model.specs.declared.access.Access.{Access as AccessMade};
-ghost use Rattle.calls.specs.declared.call_state.CallState.{CallState as Stood};
+ghost use Rattle.calls.specs.declared.call_state.CallState.{CallState as Tracked};
 ghost use Rattle.calls.specs.Passing.{HasNotFailed, Passes};
 ghost use Rattle.calls.specs.Observing.{ComesInTurn, GoesBy, GoesOn, HasObserved, ended_call, open_call};
 ghost use Rattle.calls.specs.Recorded.{HasListed, Lists, call_kept, entry_with, open_recorded};
@@ -25,7 +25,7 @@ pub struct CallTable {
 }
 
 impl Model for CallTable {
-    ghost use Rattle.calls.specs.declared.call_state.CallState.{CallState as Stood};
+    ghost use Rattle.calls.specs.declared.call_state.CallState.{CallState as Tracked};
     ghost use Rattle.calls.specs.Observing.{IsTable, TableState};
 
     ghost Value = { TableState };
@@ -110,7 +110,7 @@ impl CallTable {
         requires { self.old.entries + steps < 2 ^ 64 }
         ensures setup { self.new.setup ≡ self.old.setup }
         ensures count { self.new.entries ≡ self.old.entries + steps }
-        ensures passed { (before : Stood) → slice_get self.old.call_states process ≡ Some before →
+        ensures passed { (before : Tracked) → slice_get self.old.call_states process ≡ Some before →
             GoesBy self.old process reads writes overlapped before self.new.call_states }
     {
         let _nested: NestedTypes = None;
@@ -135,7 +135,7 @@ impl CallTable {
         requires { self.old.entries < 2 ^ 64 - 1 }
         ensures setup { self.new.setup ≡ self.old.setup }
         ensures count { self.new.entries ≡ self.old.entries + 1 }
-        ensures step { (before : Stood) → slice_get self.old.call_states process ≡ Some before →
+        ensures step { (before : Tracked) → slice_get self.old.call_states process ≡ Some before →
             GoesOn self.old process known.now access.now marks.now before result
             self.new.call_states }
         ensures stray { self.old.setup.processes ≤ process →

@@ -54,7 +54,7 @@ impl<'a, T: Clock + Eprint> ProgressObserver for ProgressPrinter<'a, T> {
 
 /// Shows that a line of the file is run, after this number of milliseconds.
 fn show_line<T: Eprint>(rt: &T, place: LinePosition<'_>, millis: u128) {
-    let (events, number) = (place.events(), place.number());
+    let (events, number) = (place.event_count(), place.number());
     let speed = in_a_second(events, millis);
     let again = if place.is_again() {
         ", for the second time"

@@ -10,7 +10,7 @@ use Rattle.draw.specs.{Canvas, Drawing, DrawsMarks, DrawsOn, DrawsPart, Gives, H
 use Rattle.draw.proofs.AccessItems.{neither, none_given, still_monitors}
 use Rattle.draw.proofs.Drawn.{draws_on_both, draws_on_none}
 use Rattle.draw.proofs.Giving.{waiting_says}
-use Rattle.draw.proofs.Overhearing.{observes_all_nothing}
+use Rattle.draw.proofs.ObservedReads.{observes_all_nothing}
 use Rattle.draw.proofs.StoresBefore.{before_on}
 
 -- One part.

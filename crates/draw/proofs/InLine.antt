@@ -26,7 +26,7 @@ use Rattle.scenario_run.proofs.laws.FirstInLine.{first_inside}
 use Rattle.scenario_run.proofs.laws.HeldTickets.{insiders}
 use Rattle.draw.specs.{IsFirstInLine, WaitsNoMore, WhoEntersIsFirst, WhoIsInsideIsDrawnFirst, WhoIsInsideIsFirst, state_of_lines}
 use Rattle.draw.proofs.Insides as insides
-use Rattle.draw.proofs.LineOrder.{Below, HasTicket, stands_before}
+use Rattle.draw.proofs.LineOrder.{Below, HasTicket, comes_before_in_line}
 use Rattle.draw.proofs.SeatTickets.{lines_processes, lines_stages, tickets_are}
 use Rattle.draw.proofs.TicketsShown.{ShownAt, record_shown, shown_reported, shows, ticket_shown}
 
@@ -119,7 +119,7 @@ inside_first are s good events lines say p pN at q before =
         omega (arith, none, reported, positive, shown)
 
     found : HasTicket state s.processes q × Below state q p
-    found = stands_before state s.processes p pN holds q (subst (λ n. Contains (before_in p (line_of_first state n)) q) (lines_processes (at_first s.processes) lines) before)
+    found = comes_before_in_line state s.processes p pN holds q (subst (λ n. Contains (before_in p (line_of_first state n)) q) (lines_processes (at_first s.processes) lines) before)
 
     qN : q < s.processes
     qN = found.0.0

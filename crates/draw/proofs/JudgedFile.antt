@@ -13,11 +13,11 @@ use Rattle.judge.specs.record_file.scenario.{Progress as Head}
 use Rattle.judge.specs.{IsInputFault, IsOfRecord, Reporting, number_in, say_entry}
 use Rattle.judge.specs.Trials.{ObservesAt, good_in}
 use Rattle.judge.specs.Trials.{GoesOn as ObservesOn}
-use Rattle.judge.specs.Trials.{Stands as ObserverStands}
+use Rattle.judge.specs.Trials.{Corresponds as ObserverCorresponds}
 use Rattle.judge.proofs.Ends.{GoesOnTo, Onwards, at_end, goes_on_at_first, of_input, onwards_fault, onwards_on}
 use Rattle.judge.proofs.Trials.{unless_then}
 use Rattle.judge.proofs.Lines.{later_remaining}
-use Rattle.draw.specs.{All, DrawnEntry, DrawsBandsOf, EndsAsked, GoesOn, HasRead, HasStopped, IsDrawFault, IsJudged, IsShown, LineStops, SaysAll, RecordPicture, Stands, ReportsOfLines, UpTo, entries_of}
+use Rattle.draw.specs.{All, DrawnEntry, DrawsBandsOf, EndsAsked, GoesOn, HasRead, HasStopped, IsDrawFault, IsJudged, IsShown, LineStops, SaysAll, RecordPicture, Corresponds, ReportsOfLines, UpTo, entries_of}
 use Rattle.draw.proofs.RecordEnds.{drawn_count}
 use Rattle.draw.proofs.Lines.{head_stays}
 use Rattle.draw.proofs.Whole.{if_some}
@@ -64,10 +64,10 @@ module _ {H : Type 0} (HasObserved : H → Setup → List Entry → List ℕ →
   -- what was read of the file is shown
   shown_read : (shows : Bool) (j : Option H) (t : RecordPicture) (before : Option Progress) (entries : List Entry) (first now : Option (List ℕ)) (p : Progress) → before ≡ Some p → IsShown Keeps finds_good shows j t before entries first now → t.reader ≡ None → ⊥
   shown_read true j t before entries first now p is shown none = let no : None ≡ Some p = sym none ∙ shown.1.reader ∙ is in cc
-  shown_read false j t before entries first now p is shown none = let no : None ≡ Some shown.drawn = sym none ∙ shown.stands.reader in cc
+  shown_read false j t before entries first now p is shown none = let no : None ≡ Some shown.drawn = sym none ∙ shown.corresponds.reader in cc
 
   -- where all entries so far are shown
-  all_shown : (j : Option H) (t : RecordPicture) (before : Option Progress) (entries : List Entry) (first now : Option (List ℕ)) (b : Bool) → b ≡ true → IsShown Keeps finds_good b j t before entries first now → Stands t before (reverse entries) first now
+  all_shown : (j : Option H) (t : RecordPicture) (before : Option Progress) (entries : List Entry) (first now : Option (List ℕ)) (b : Bool) → b ≡ true → IsShown Keeps finds_good b j t before entries first now → Corresponds t before (reverse entries) first now
   all_shown j t before entries first now true shows shown = shown.1
   all_shown j t before entries first now false shows shown = absurd (cc)
 
@@ -75,18 +75,18 @@ module _ {H : Type 0} (HasObserved : H → Setup → List Entry → List ℕ →
   pub shown_few : (to_come rest : Option (List ℕ)) (taken : ℕ) (reader : Option Progress) (j : Option H) (t : RecordPicture) (first now : Option (List ℕ)) (b : Bool) → b ≡ true → Judged HasObserved Keeps finds_good to_come rest taken reader j b t first now → entries_of t.entries ≤ taken
   shown_few to_come rest taken reader j t first now b shows u =
       let v = u.onwards in
-      let stands = all_shown j t v.before v.entries first now b shows u.shown in
+      let corresponds = all_shown j t v.before v.entries first now b shows u.shown in
       let few : length v.entries ≤ taken = v.few in
-      let count = drawn_count t.options t.form t.entries.drawing t.entries.stored.items v.before (reverse v.entries) first now stands.draws in
+      let count = drawn_count t.options t.form t.entries.drawing t.entries.stored.items v.before (reverse v.entries) first now corresponds.draws in
       omega (arith, few, count, length-reverse v.entries)
 
   -- before the first line, where no bytes have come yet
-  pub judged_start : (to_come : Option (List ℕ)) (ahead : Given) (taken : ℕ) (reader : Option Progress) (j : Option H) (t : RecordPicture) (first : Option (List ℕ)) → ahead.bytes ≡ [] → ahead.ended ≡ false → taken ≡ 0 → ObserverStands HasObserved reader j None [] [] → Stands t None [] first first →
+  pub judged_start : (to_come : Option (List ℕ)) (ahead : Given) (taken : ℕ) (reader : Option Progress) (j : Option H) (t : RecordPicture) (first : Option (List ℕ)) → ahead.bytes ≡ [] → ahead.ended ≡ false → taken ≡ 0 → ObserverCorresponds HasObserved reader j None [] [] → Corresponds t None [] first first →
       Judged HasObserved Keeps finds_good to_come (coming ahead to_come) taken reader j true t first first
-  judged_start to_come ahead taken reader j t first fresh open_yet none stands begun =
+  judged_start to_come ahead taken reader j t first fresh open_yet none corresponds begun =
       subst (λ (l : List ℕ). Judged HasObserved Keeps finds_good to_come (prepend_known l (unless_ended ahead.ended to_come)) taken reader j true t first first) (sym fresh)
       (subst (λ (b : Bool). Judged HasObserved Keeps finds_good to_come (prepend_known [] (unless_ended b to_come)) taken reader j true t first first) (sym open_yet)
-      (record { onwards = record { before = None; entries = []; numbers = []; view_of = stands; few = omega arith; goes_on = goes_on_at_first to_come taken none }; shown = (nobody j stands.observed, begun) }))
+      (record { onwards = record { before = None; entries = []; numbers = []; corresponds = corresponds; few = omega arith; goes_on = goes_on_at_first to_come taken none }; shown = (nobody j corresponds.observed, begun) }))
     where
       nobody : (j : Option H) → ObservesAt HasObserved j None [] [] → good_in finds_good j ≡ true
       nobody None observed = refl
@@ -111,7 +111,7 @@ module _ {H : Type 0} (HasObserved : H → Setup → List Entry → List ℕ →
         front = shown.front;
         entry = shown.entry;
         later = shown.later ++ entry_in on.now;
-        stands = shown.stands;
+        corresponds = shown.corresponds;
         splits = ap (λ l. l ++ entry_in on.now) shown.splits ∙ append_assoc (shown.front ++ shown.entry ∷ []) shown.later (entry_in on.now);
         keeps = shown.keeps;
         breaks = shown.breaks;
@@ -119,10 +119,10 @@ module _ {H : Type 0} (HasObserved : H → Setup → List Entry → List ℕ →
 
   -- or one that is heard alone
   pub judged_observed : (to_come mid rest : Option (List ℕ)) (l l' : LineState) (n : ℕ) (line : List ℕ) (reader reader' : Option Progress) (j j' : Option H) (t : RecordPicture) (first now : Option (List ℕ)) (b : Bool) → b ≡ false → (u : Judged HasObserved Keeps finds_good to_come mid l.taken reader j b t first now) → TakesNext l l' mid rest → n ≡ l'.taken → line ≡ l'.line →
-      ((before : Option Progress) (entries : List Entry) (numbers : List ℕ) → ObserverStands HasObserved reader j before entries numbers → ObservesOn HasObserved n line before reader' j' entries numbers) → Judged HasObserved Keeps finds_good to_come rest l'.taken reader' j' b t first now
+      ((before : Option Progress) (entries : List Entry) (numbers : List ℕ) → ObserverCorresponds HasObserved reader j before entries numbers → ObservesOn HasObserved n line before reader' j' entries numbers) → Judged HasObserved Keeps finds_good to_come rest l'.taken reader' j' b t first now
   judged_observed to_come mid rest l l' n line reader reader' j j' t first now b stopped u takes number is observes =
       let v = u.onwards in
-      let on = observed_at n line l' v.before reader' j' v.entries v.numbers number is (observes v.before v.entries v.numbers v.view_of) in
+      let on = observed_at n line l' v.before reader' j' v.entries v.numbers number is (observes v.before v.entries v.numbers v.corresponds) in
       record {
         onwards = onwards_on HasObserved to_come mid rest l l' reader reader' j j' v takes on;
         shown = subst (λ b. IsShown Keeps finds_good b j' t (cleared on.now) (v.entries ++ entry_in on.now) first now) (sym stopped)
@@ -134,9 +134,9 @@ module _ {H : Type 0} (HasObserved : H → Setup → List Entry → List ℕ →
       LineStops e n (λ kind. (before : Option Progress) → t.reader ≡ before → line_read line before ≡ Err kind) → IsDrawFault e to_come
   read_fault to_come mid rest l l' n line reader j t first now b (fault.Line f) shows u takes number is why =
       let v = u.onwards in
-      let stands = all_shown j t v.before v.entries first now b shows u.shown in
+      let corresponds = all_shown j t v.before v.entries first now b shows u.shown in
       subst (λ (n : ℕ). IfSome to_come (λ text. UnlessMemory f.kind (record_of text ≡ Err (record { line = n; kind = f.kind })))) (sym (why.0 ∙ number))
-      (onwards_fault HasObserved to_come mid rest l l' reader j f.kind v takes (unless_then f.kind (λ (is_so : (before : Option Progress) → t.reader ≡ before → line_read line before ≡ Err f.kind). ap (λ (line : List ℕ). line_read line v.before) (sym is) ∙ is_so v.before stands.reader) why.1))
+      (onwards_fault HasObserved to_come mid rest l l' reader j f.kind v takes (unless_then f.kind (λ (is_so : (before : Option Progress) → t.reader ≡ before → line_read line before ≡ Err f.kind). ap (λ (line : List ℕ). line_read line v.before) (sym is) ∙ is_so v.before corresponds.reader) why.1))
   read_fault to_come mid rest l l' n line reader j t first now b e shows u takes number is why = tt
 
   -- The end.
@@ -150,7 +150,7 @@ module _ {H : Type 0} (HasObserved : H → Setup → List Entry → List ℕ →
         entries = v.entries;
         numbers = v.numbers;
         says = subst (λ n. IfSome to_come (SaysAll v.before v.entries v.numbers n)) (sym same) (of_input to_come mid (GoesOnTo v.before v.entries v.numbers taken) (λ y. y ≡ []) (SaysAll v.before v.entries v.numbers taken) (says_all v.before v.entries v.numbers taken) v.goes_on (at_end mid end));
-        stands = v.view_of;
+        corresponds = v.corresponds;
         shows = b;
         shown = u.shown;
       }
@@ -188,10 +188,10 @@ module _ {H : Type 0} (HasObserved : H → Setup → List Entry → List ℕ →
       subst (λ s. Keeps s entries) (sym stays.3 ∙ ap (λ (p : Progress). p.head.setup) same) (good i q.head.setup entries numbers observed.1 found)
 
   -- the first entry that breaks a law was drawn
-  stops : (t : RecordPicture) (before : Option Progress) (entries : List Entry) (o : Option Entry) (first after : Option (List ℕ)) (p : Progress) → before ≡ Some p → p.ended ≡ true → Keeps p.head.setup entries → (Keeps p.head.setup (entries ++ option_to_list o) → ⊥) → Stands t (Some p) (reverse (entries ++ option_to_list o)) first after →
+  stops : (t : RecordPicture) (before : Option Progress) (entries : List Entry) (o : Option Entry) (first after : Option (List ℕ)) (p : Progress) → before ≡ Some p → p.ended ≡ true → Keeps p.head.setup entries → (Keeps p.head.setup (entries ++ option_to_list o) → ⊥) → Corresponds t (Some p) (reverse (entries ++ option_to_list o)) first after →
       HasStopped Keeps t before (entries ++ option_to_list o) first after
-  stops t before entries None first after p is ended keeps breaks stands = absurd (breaks (subst (λ (l : List Entry). Keeps p.head.setup l) (sym (append-nil entries)) keeps))
-  stops t before entries (Some e) first after p is ended keeps breaks stands = record {
+  stops t before entries None first after p is ended keeps breaks corresponds = absurd (breaks (subst (λ (l : List Entry). Keeps p.head.setup l) (sym (append-nil entries)) keeps))
+  stops t before entries (Some e) first after p is ended keeps breaks corresponds = record {
     last = p;
     read = is;
     ended = ended;
@@ -200,52 +200,52 @@ module _ {H : Type 0} (HasObserved : H → Setup → List Entry → List ℕ →
     front = entries;
     entry = e;
     later = [];
-    stands = stands;
+    corresponds = corresponds;
     splits = sym (append-nil (entries ++ e ∷ []));
     keeps = keeps;
     breaks = breaks;
   }
 
-  stops_at : (t : RecordPicture) (before now : Option Progress) (entries : List Entry) (first after : Option (List ℕ)) (p : Progress) → before ≡ Some p → p.ended ≡ true → Keeps p.head.setup entries → (Keeps p.head.setup (entries ++ entry_in now) → ⊥) → Stands t (Some p) (reverse (entries ++ entry_in now)) first after →
+  stops_at : (t : RecordPicture) (before now : Option Progress) (entries : List Entry) (first after : Option (List ℕ)) (p : Progress) → before ≡ Some p → p.ended ≡ true → Keeps p.head.setup entries → (Keeps p.head.setup (entries ++ entry_in now) → ⊥) → Corresponds t (Some p) (reverse (entries ++ entry_in now)) first after →
       HasStopped Keeps t before (entries ++ entry_in now) first after
-  stops_at t before None entries first after p is ended keeps breaks stands = stops t before entries None first after p is ended keeps breaks stands
-  stops_at t before (Some q) entries first after p is ended keeps breaks stands = stops t before entries q.entry first after p is ended keeps breaks stands
+  stops_at t before None entries first after p is ended keeps breaks corresponds = stops t before entries None first after p is ended keeps breaks corresponds
+  stops_at t before (Some q) entries first after p is ended keeps breaks corresponds = stops t before entries q.entry first after p is ended keeps breaks corresponds
 
   -- a line that was heard and drawn
   shown_on : (n : ℕ) (line : List ℕ) (j j' : Option H) (t t' : RecordPicture) (before reader : Option Progress) (entries : List Entry) (numbers : List ℕ) (first now after : Option (List ℕ)) → IsShown Keeps finds_good true j t before entries first now → ObservesAt HasObserved j before entries numbers →
       (on : ObservesOn HasObserved n line before reader j' entries numbers) → GoesOn (line_read line before) t' (reverse entries) first after → (b : Bool) → b ≡ good_in finds_good j' → IsShown Keeps finds_good b j' t' (cleared on.now) (entries ++ entry_in on.now) first after
-  shown_on n line j j' t t' before reader entries numbers first now after shown observed on drawn b is = by b j' on.view_of.observed is
+  shown_on n line j j' t t' before reader entries numbers first now after shown observed on drawn b is = by b j' on.corresponds.observed is
     where
       same : drawn.now ≡ on.now
       same = let both : (let r : Result (Option Progress) FaultKind = Ok drawn.now in r) ≡ Ok on.now = sym drawn.says ∙ on.says in cc
 
-      stands : Stands t' (cleared on.now) (reverse (entries ++ entry_in on.now)) first after
-      stands = subst (λ (l : List Entry). Stands t' (cleared on.now) l first after) (newest_first entries on.now)
-          (subst (λ (o : Option Progress). Stands t' (cleared o) (entry_in o ++ reverse entries) first after) same drawn.stands)
+      corresponds : Corresponds t' (cleared on.now) (reverse (entries ++ entry_in on.now)) first after
+      corresponds = subst (λ (l : List Entry). Corresponds t' (cleared on.now) l first after) (newest_first entries on.now)
+          (subst (λ (o : Option Progress). Corresponds t' (cleared o) (entry_in o ++ reverse entries) first after) same drawn.corresponds)
 
       found : (h : H) (o : Option Progress) → cleared on.now ≡ o → ObservesAt HasObserved (Some h) o (entries ++ entry_in on.now) (numbers ++ number_in n line) → finds_good h ≡ false → HasStopped Keeps t' (cleared on.now) (entries ++ entry_in on.now) first after
       found h None is observed' broken = absurd observed'
       found h (Some p) is observed' broken =
           stops_at t' (cleared on.now) on.now entries first after p is observed'.0 (kept_before line j before on.now entries numbers p on.says shown.0 observed is)
           (bad h p.head.setup (entries ++ entry_in on.now) (numbers ++ number_in n line) observed'.1 broken)
-          (subst (λ (o : Option Progress). Stands t' o (reverse (entries ++ entry_in on.now)) first after) is stands)
+          (subst (λ (o : Option Progress). Corresponds t' o (reverse (entries ++ entry_in on.now)) first after) is corresponds)
 
       by : (b : Bool) (j' : Option H) → ObservesAt HasObserved j' (cleared on.now) (entries ++ entry_in on.now) (numbers ++ number_in n line) → b ≡ good_in finds_good j' → IsShown Keeps finds_good b j' t' (cleared on.now) (entries ++ entry_in on.now) first after
-      by true j' observed' is = (sym is, stands)
+      by true j' observed' is = (sym is, corresponds)
       by false None observed' is = absurd (cc)
       by false (Some h) observed' is = found h (cleared on.now) refl observed' (sym is)
 
   -- a line more, which is shown
   pub judged_shown : (to_come mid rest : Option (List ℕ)) (l l' : LineState) (n : ℕ) (line : List ℕ) (reader reader' : Option Progress) (j j' : Option H) (t t' : RecordPicture) (first now after : Option (List ℕ)) (b b' : Bool) → b ≡ true → (u : Judged HasObserved Keeps finds_good to_come mid l.taken reader j b t first now) → TakesNext l l' mid rest → n ≡ l'.taken → line ≡ l'.line →
-      ((before : Option Progress) (entries : List Entry) (numbers : List ℕ) → ObserverStands HasObserved reader j before entries numbers → ObservesOn HasObserved n line before reader' j' entries numbers) →
-      ((before : Option Progress) (past : Past) (first : Option (List ℕ)) → Stands t before past first now → GoesOn (line_read line before) t' past first after) → b' ≡ good_in finds_good j' → Judged HasObserved Keeps finds_good to_come rest l'.taken reader' j' b' t' first after
+      ((before : Option Progress) (entries : List Entry) (numbers : List ℕ) → ObserverCorresponds HasObserved reader j before entries numbers → ObservesOn HasObserved n line before reader' j' entries numbers) →
+      ((before : Option Progress) (past : Past) (first : Option (List ℕ)) → Corresponds t before past first now → GoesOn (line_read line before) t' past first after) → b' ≡ good_in finds_good j' → Judged HasObserved Keeps finds_good to_come rest l'.taken reader' j' b' t' first after
   judged_shown to_come mid rest l l' n line reader reader' j j' t t' first now after b b' shows u takes number is observes draws good =
       let v = u.onwards in
       let shown : IsShown Keeps finds_good true j t v.before v.entries first now = subst (λ b. IsShown Keeps finds_good b j t v.before v.entries first now) shows u.shown in
-      let on = observed_at HasObserved Keeps finds_good n line l' v.before reader' j' v.entries v.numbers number is (observes v.before v.entries v.numbers v.view_of) in
+      let on = observed_at HasObserved Keeps finds_good n line l' v.before reader' j' v.entries v.numbers number is (observes v.before v.entries v.numbers v.corresponds) in
       record {
         onwards = onwards_on HasObserved to_come mid rest l l' reader reader' j j' v takes on;
-        shown = shown_on l'.taken l'.line j j' t t' v.before reader' v.entries v.numbers first now after shown v.view_of.observed on (subst (λ (line : List ℕ). GoesOn (line_read line v.before) t' (reverse v.entries) first after) is (draws v.before (reverse v.entries) first shown.1)) b' good;
+        shown = shown_on l'.taken l'.line j j' t t' v.before reader' v.entries v.numbers first now after shown v.corresponds.observed on (subst (λ (line : List ℕ). GoesOn (line_read line v.before) t' (reverse v.entries) first after) is (draws v.before (reverse v.entries) first shown.1)) b' good;
       }
 
   -- The end.
@@ -253,10 +253,10 @@ module _ {H : Type 0} (HasObserved : H → Setup → List Entry → List ℕ →
   -- what is shown, and what the judge tells
   judged_bands : (Reports : Setup → List Entry → List ℕ → List ℕ → ℕ → Type 0) (shows : Bool) (j : Option H) (t : RecordPicture) (before : Option Progress) (entries : List Entry) (numbers : List ℕ) (first now after : Option (List ℕ)) (p : Progress) (drawn : DrawnEntry) (reported : List ℕ) (status : ℕ) →
       before ≡ Some p → ObservesAt HasObserved j before entries numbers → IsShown Keeps finds_good shows j t before entries first now → Reports p.head.setup entries numbers reported status →
-      ((p : Progress) (past : Past) (first : Option (List ℕ)) → t.reader ≡ Some p → Stands t (Some p) past first now → (drawn.setup ≡ p.head.setup) × EndsAsked t.options t.form p.head.setup past reported drawn.shows drawn.opening.items drawn.height first after) →
+      ((p : Progress) (past : Past) (first : Option (List ℕ)) → t.reader ≡ Some p → Corresponds t (Some p) past first now → (drawn.setup ≡ p.head.setup) × EndsAsked t.options t.form p.head.setup past reported drawn.shows drawn.opening.items drawn.height first after) →
       IsJudged Keeps Reports status (DrawsBandsOf t.options t.form drawn first after) p.head.setup entries numbers
   judged_bands Reports true j t before entries numbers first now after p drawn reported status is observed shown reports ends =
-      let both = ends p (reverse entries) first (shown.1.reader ∙ is) (subst (λ (o : Option Progress). Stands t o (reverse entries) first now) is shown.1) in
+      let both = ends p (reverse entries) first (shown.1.reader ∙ is) (subst (λ (o : Option Progress). Corresponds t o (reverse entries) first now) is shown.1) in
       record {
         reported = reported;
         reports = reports;
@@ -267,7 +267,7 @@ module _ {H : Type 0} (HasObserved : H → Setup → List Entry → List ℕ →
   judged_bands Reports false j t before entries numbers first now after p drawn reported status is observed shown reports ends =
       let q : Progress = shown.drawn in
       let entries' : List Entry = shown.front ++ shown.entry ∷ [] in
-      let both = ends q (reverse entries') first shown.stands.reader shown.stands in
+      let both = ends q (reverse entries') first shown.corresponds.reader shown.corresponds in
       let last : Progress = shown.last in
       let two : Some last ≡ Some p = sym shown.read ∙ is in
       let same : last ≡ p = cc in
@@ -282,11 +282,11 @@ module _ {H : Type 0} (HasObserved : H → Setup → List Entry → List ℕ →
 
   -- all that a text says was read
   pub read_judged : (to_come : Option (List ℕ)) (taken : ℕ) (reader : Option Progress) (j : Option H) (t : RecordPicture) (first now : Option (List ℕ)) (u : HasRead HasObserved Keeps finds_good to_come taken reader j t first now) (Reports : Setup → List Entry → List ℕ → List ℕ → ℕ → Type 0) (reported : Reporting) (drawn : DrawnEntry) (after : Option (List ℕ)) → ReportsOfLines Reports (Some reported) u.before u.entries u.numbers →
-      ((p : Progress) (past : Past) (first : Option (List ℕ)) → t.reader ≡ Some p → Stands t (Some p) past first now → (drawn.setup ≡ p.head.setup) × EndsAsked t.options t.form p.head.setup past reported.text.items drawn.shows drawn.opening.items drawn.height first after) →
+      ((p : Progress) (past : Past) (first : Option (List ℕ)) → t.reader ≡ Some p → Corresponds t (Some p) past first now → (drawn.setup ≡ p.head.setup) × EndsAsked t.options t.form p.head.setup past reported.text.items drawn.shows drawn.opening.items drawn.height first after) →
       IfSome to_come (IsOfRecord (IsJudged Keeps Reports reported.status (DrawsBandsOf t.options t.form drawn first after)))
   read_judged to_come taken reader j t first now u Reports reported drawn after is ends =
       let p : Progress = is.0 in
-      let judged = judged_bands Reports u.shows j t u.before u.entries u.numbers first now after p drawn reported.text.items reported.status is.1 u.stands.observed u.shown is.2 ends in
+      let judged = judged_bands Reports u.shows j t u.before u.entries u.numbers first now after p drawn reported.text.items reported.status is.1 u.corresponds.observed u.shown is.2 ends in
       if_some to_come (SaysAll (Some p) u.entries u.numbers taken) (IsOfRecord (IsJudged Keeps Reports reported.status (DrawsBandsOf t.options t.form drawn first after)))
       (λ text says. record {
         said = record { setup = p.head.setup; entries = u.entries };

@@ -5,7 +5,7 @@ pub mod Shown
 pub mod TakenStores
 pub mod StoresBefore
 -- The reads that writes overlap
-pub mod Overhearing
+pub mod ObservedReads
 -- What is drawn, and written piece by piece
 pub mod Written
 pub mod Giving

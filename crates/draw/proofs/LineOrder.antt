@@ -128,6 +128,6 @@ before_is P state p (x ∷ line) all h is = go (x == p) refl is (before_is P sta
     go false other (inl same) rest = absurd (eqb-false x p other same)
     go false other (inr later) rest = ((all.0, each_in (Below state x) line p h.0 later), rest later)
 
-pub stands_before : (state : State) (n p : ℕ) → p < n → ticket_in state p ≢ 0 → (q : ℕ) → Contains (before_in p (line_of_first state n)) q → HasTicket state n q × Below state q p
-stands_before state n p is_process holds q before = each_contained (λ q. HasTicket state n q × Below state q p) (before_in p (line_of_first state n)) q
+pub comes_before_in_line : (state : State) (n p : ℕ) → p < n → ticket_in state p ≢ 0 → (q : ℕ) → Contains (before_in p (line_of_first state n)) q → HasTicket state n q × Below state q p
+comes_before_in_line state n p is_process holds q before = each_contained (λ q. HasTicket state n q × Below state q p) (before_in p (line_of_first state n)) q
     (before_is (HasTicket state n) state p (line_of_first state n) (line_is state n).0 (line_is state n).1 (line_has state n p is_process holds)) before

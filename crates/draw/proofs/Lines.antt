@@ -12,7 +12,7 @@ use Rattle.judge.specs.record_file.scenario.{Progress as Head, spaced}
 use Rattle.judge.proofs.record_file.EntryLines.{entry_of_line}
 use Rattle.judge.specs.{say_entry}
 use Rattle.judge.proofs.Lines.{Left, clear_twice, empty, first_left, later_remaining, short_read}
-use Rattle.draw.specs.{AreDrawn, AreReadBy, AreShownBy, AreStored, DrawsAt, DrawsPast, GoesOn, RecordDrawing, RecordEntries, RecordPicture, Stands}
+use Rattle.draw.specs.{AreDrawn, AreReadBy, AreShownBy, AreStored, DrawsAt, DrawsPast, GoesOn, RecordDrawing, RecordEntries, RecordPicture, Corresponds}
 
 -- behind an entry the head stays
 pub head_stays : (b : Bool) (p next : Progress) → p.ended ≡ true → Left b p next → (next.ended ≡ true) × (next.head ≡ p.head)
@@ -68,40 +68,40 @@ module _ (asked : PictureOptions) (form : Form) (old : Option (List ℕ)) where
 
 -- Behind a line, where it ends well.
 
-module _ (line : List ℕ) (before now : Option Progress) (old t : RecordPicture) (past : Past) (first taken after : Option (List ℕ)) (short : length line ≤ 128) (stands : Stands old before past first taken) (read : words_read record_grammar (words_of line) old.reader ≡ Ok now) where
+module _ (line : List ℕ) (before now : Option Progress) (old t : RecordPicture) (past : Past) (first taken after : Option (List ℕ)) (short : length line ≤ 128) (corresponds : Corresponds old before past first taken) (read : words_read record_grammar (words_of line) old.reader ≡ Ok now) where
   -- what its words say, by what was read before it
   read_at : words_read record_grammar (words_of line) before ≡ Ok now
-  read_at = ap (λ (o : Option Progress). words_read record_grammar (words_of line) o) (sym stands.reader) ∙ read
+  read_at = ap (λ (o : Option Progress). words_read record_grammar (words_of line) o) (sym corresponds.reader) ∙ read
 
   ends_well : t.reader ≡ cleared now → DrawsAt t.options t.form t.entries (cleared now) (entry_in now ++ past) first after → GoesOn (line_read line before) t past first after
   ends_well reader drawn = record {
     now = now;
     says = short_read line before short ∙ read_at;
-    stands = record { reader = reader; clear = clear_twice now; draws = drawn };
+    corresponds = record { reader = reader; clear = clear_twice now; draws = drawn };
   }
 
   -- it says no entry
   pub ends_quiet : t.reader ≡ cleared now → t.options ≡ old.options → t.form ≡ old.form → t.entries ≡ old.entries → after ≡ taken → entry_in now ≡ [] → GoesOn (line_read line before) t past first after
   ends_quiet reader options form same kept none =
-      ends_well reader (drawn_still t.options t.form first (words_of line) before now t.entries.drawing t.entries.stored.items past after read_at stands.clear none
+      ends_well reader (drawn_still t.options t.form first (words_of line) before now t.entries.drawing t.entries.stored.items past after read_at corresponds.clear none
       (subst (λ (m : PictureOptions). DrawsAt m t.form t.entries before past first after) (sym options) (subst (λ (f : Form). DrawsAt old.options f t.entries before past first after) (sym form)
-      (subst (λ (e : RecordEntries). DrawsAt old.options old.form e before past first after) (sym same) (subst (λ (w : Option (List ℕ)). DrawsAt old.options old.form old.entries before past first w) (sym kept) stands.draws)))))
+      (subst (λ (e : RecordEntries). DrawsAt old.options old.form e before past first after) (sym same) (subst (λ (w : Option (List ℕ)). DrawsAt old.options old.form old.entries before past first w) (sym kept) corresponds.draws)))))
 
 -- it says one, which was stored or drawn
-pub ends_drawn : (line : List ℕ) (before : Option Progress) (now : Progress) (e : Entry) (old t : RecordPicture) (past : Past) (first taken after : Option (List ℕ)) → length line ≤ 128 → Stands old before past first taken → words_read record_grammar (words_of line) old.reader ≡ Ok (Some now) → now.entry ≡ Some e →
+pub ends_drawn : (line : List ℕ) (before : Option Progress) (now : Progress) (e : Entry) (old t : RecordPicture) (past : Past) (first taken after : Option (List ℕ)) → length line ≤ 128 → Corresponds old before past first taken → words_read record_grammar (words_of line) old.reader ≡ Ok (Some now) → now.entry ≡ Some e →
     t.reader ≡ cleared (Some now) → t.options ≡ old.options → t.form ≡ old.form →
     ((past : Past) (first : Option (List ℕ)) → DrawsPast old.options old.form old.entries now.head.setup past first taken → DrawsPast old.options old.form t.entries now.head.setup (e ∷ past) first after) → GoesOn (line_read line before) t past first after
-ends_drawn line before now e old t past first taken after short stands read says reader options form draws =
-    ends_well line before (Some now) old t past first taken after short stands read reader
+ends_drawn line before now e old t past first taken after short corresponds read says reader options form draws =
+    ends_well line before (Some now) old t past first taken after short corresponds read reader
     (subst (λ (m : PictureOptions). DrawsAt m t.form t.entries (cleared (Some now)) (entry_in (Some now) ++ past) first after) (sym options) (subst (λ (f : Form). DrawsAt old.options f t.entries (cleared (Some now)) (entry_in (Some now) ++ past) first after) (sym form)
-    (drawn_more old.options old.form first (words_of line) before now e old.entries.drawing t.entries.drawing old.entries.stored.items t.entries.stored.items past taken after (read_at line before (Some now) old t past first taken after short stands read) stands.clear says (draws past first) stands.draws)))
+    (drawn_more old.options old.form first (words_of line) before now e old.entries.drawing t.entries.drawing old.entries.stored.items t.entries.stored.items past taken after (read_at line before (Some now) old t past first taken after short corresponds read) corresponds.clear says (draws past first) corresponds.draws)))
 
 -- it is as it is printed for a Step, which was drawn behind an entry that was drawn
 pub ends_stepped : (line : List ℕ) (old t : RecordPicture) (d d' : RecordDrawing) (process : ℕ) (access : Access) (before : Option Progress) (past : Past) (first now after : Option (List ℕ)) → length line ≤ 128 → line ≡ spaced (entry_words (step_entry process access)) → is_entry (step_entry process access) ≡ true → old.entries.drawing ≡ Some d →
     t.reader ≡ old.reader → t.options ≡ old.options → t.form ≡ old.form → t.entries.drawing ≡ Some d' →
-    ((s : Setup) → AreDrawn old.options old.form s past d first now → AreDrawn old.options old.form s (step_entry process access ∷ past) d' first after) → Stands old before past first now → GoesOn (line_read line before) t past first after
-ends_stepped line old t d d' process access before past first now after short printed sound some reader options form drawing draws stands =
-    by before stands.clear (subst (λ (o : Option RecordDrawing). AreReadBy o old.entries.stored.items old.options old.form before past first now) some stands.draws) (reader ∙ stands.reader)
+    ((s : Setup) → AreDrawn old.options old.form s past d first now → AreDrawn old.options old.form s (step_entry process access ∷ past) d' first after) → Corresponds old before past first now → GoesOn (line_read line before) t past first after
+ends_stepped line old t d d' process access before past first now after short printed sound some reader options form drawing draws corresponds =
+    by before corresponds.clear (subst (λ (o : Option RecordDrawing). AreReadBy o old.entries.stored.items old.options old.form before past first now) some corresponds.draws) (reader ∙ corresponds.reader)
   where
     e : Entry
     e = step_entry process access
@@ -111,7 +111,7 @@ ends_stepped line old t d d' process access before past first now after short pr
     by (Some p) clear drawn same = record {
       now = Some (record p { ended = true; entry = Some e });
       says = short_read line (Some p) short ∙ ap (λ (l : List ℕ). words_read record_grammar (words_of l) (Some p)) printed ∙ entry_of_line e p (record { sound = sound; few = omega arith });
-      stands = record {
+      corresponds = record {
         reader = same ∙ sym clear ∙ ap (λ (b : Bool). Some (record p { ended = b; entry = None })) drawn.0;
         clear = refl;
         draws = subst (λ (m : PictureOptions). DrawsAt m t.form t.entries (Some (record p { ended = true; entry = None })) (e ∷ past) first after) (sym options) (subst (λ (f : Form). DrawsAt old.options f t.entries (Some (record p { ended = true; entry = None })) (e ∷ past) first after) (sym form)

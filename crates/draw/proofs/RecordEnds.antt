@@ -10,7 +10,7 @@ use Rattle.picture.specs.declared.reads.PictureOptions.{PictureOptions}
 use Rattle.model.specs.{Entry, Past}
 use Rattle.judge.specs.record_file.{Progress, cleared, entry_in, line_read, record_of, rest_read}
 use Rattle.draw.specs.{failed_write}
-use Rattle.draw.specs.{AreReadBy, DrawnEntry, DrawsAllBands, EndsAsked, GoesOn, IsDrawFault, LineStops, RecordDrawing, RecordPicture, Stands, count_by, entries_of, long_view}
+use Rattle.draw.specs.{AreReadBy, DrawnEntry, DrawsAllBands, EndsAsked, GoesOn, IsDrawFault, LineStops, RecordDrawing, RecordPicture, Corresponds, count_by, entries_of, long_view}
 use Rattle.judge.proofs.Ends.{at_end, line_fault, line_then, of_input, reported_on}
 use Rattle.judge.proofs.Lines.{few_in, long_read}
 use Rattle.judge.proofs.Trials.{unless_then}
@@ -27,7 +27,7 @@ GoesOnTo before entries taken text remaining = rest_read (taken + 1) remaining b
 pub record Onwards (to_come rest : Option (List ℕ)) (taken : ℕ) (t : RecordPicture) (old new : Option (List ℕ)) : Type 0 where
   pub before : Option Progress
   pub past : Past
-  pub stands : Stands t before past old new
+  pub corresponds : Corresponds t before past old new
   pub few : length past ≤ taken
   pub goes_on : Reported to_come rest (GoesOnTo before (reverse past) taken)
 
@@ -39,14 +39,14 @@ drawn_count asked form (Some d) stored (Some p) past old new drawn = drawn_as_ma
 
 pub onwards_few : (to_come rest : Option (List ℕ)) (taken : ℕ) (t : RecordPicture) (old new : Option (List ℕ)) → Onwards to_come rest taken t old new → entries_of t.entries ≤ taken
 onwards_few to_come rest taken t old new u =
-    let few : length u.past ≤ taken = u.few in let count = drawn_count t.options t.form t.entries.drawing t.entries.stored.items u.before u.past old new u.stands.draws in omega (arith, few, count)
+    let few : length u.past ≤ taken = u.few in let count = drawn_count t.options t.form t.entries.drawing t.entries.stored.items u.before u.past old new u.corresponds.draws in omega (arith, few, count)
 
 -- before the first line, where no bytes have come yet
-pub onwards_start : (to_come : Option (List ℕ)) (ahead : Given) (taken : ℕ) (t : RecordPicture) (old : Option (List ℕ)) → ahead.bytes ≡ [] → ahead.ended ≡ false → taken ≡ 0 → Stands t None [] old old → Onwards to_come (coming ahead to_come) taken t old old
-onwards_start to_come ahead taken t old fresh open_yet none stands =
+pub onwards_start : (to_come : Option (List ℕ)) (ahead : Given) (taken : ℕ) (t : RecordPicture) (old : Option (List ℕ)) → ahead.bytes ≡ [] → ahead.ended ≡ false → taken ≡ 0 → Corresponds t None [] old old → Onwards to_come (coming ahead to_come) taken t old old
+onwards_start to_come ahead taken t old fresh open_yet none corresponds =
     subst (λ (l : List ℕ). Onwards to_come (prepend_known l (unless_ended ahead.ended to_come)) taken t old old) (sym fresh)
     (subst (λ (b : Bool). Onwards to_come (prepend_known [] (unless_ended b to_come)) taken t old old) (sym open_yet)
-    (record { before = None; past = []; stands = stands; few = omega arith; goes_on = by to_come }))
+    (record { before = None; past = []; corresponds = corresponds; few = omega arith; goes_on = by to_come }))
   where
     by : (to_come : Option (List ℕ)) → Reported to_come (prepend_known [] to_come) (GoesOnTo None [] taken)
     by None = tt
@@ -54,13 +54,13 @@ onwards_start to_come ahead taken t old fresh open_yet none stands =
 
 -- a line more
 pub onwards_on : (to_come mid rest : Option (List ℕ)) (l l' : LineState) (line : List ℕ) (t t' : RecordPicture) (old new then : Option (List ℕ)) (u : Onwards to_come mid l.taken t old new) → TakesNext l l' mid rest → line ≡ l'.line →
-    ((before : Option Progress) (past : Past) (first : Option (List ℕ)) → Stands t before past first new → GoesOn (line_read line before) t' past first then) → Onwards to_come rest l'.taken t' old then
+    ((before : Option Progress) (past : Past) (first : Option (List ℕ)) → Corresponds t before past first new → GoesOn (line_read line before) t' past first then) → Onwards to_come rest l'.taken t' old then
 onwards_on to_come mid rest l l' line t t' old new then u takes is draws =
-    let on = subst (λ (line : List ℕ). GoesOn (line_read line u.before) t' u.past old then) is (draws u.before u.past old u.stands) in
+    let on = subst (λ (line : List ℕ). GoesOn (line_read line u.before) t' u.past old then) is (draws u.before u.past old u.corresponds) in
     record {
       before = cleared on.now;
       past = entry_in on.now ++ u.past;
-      stands = on.stands;
+      corresponds = on.corresponds;
       few = let had : length u.past ≤ l.taken = u.few in let one = few_in on.now in let taken : l'.taken ≡ l.taken + 1 = takes.taken in omega (arith, had, one, taken, length-append (entry_in on.now) u.past);
       goes_on = reported_on to_come mid rest (GoesOnTo u.before (reverse u.past) l.taken) (λ text remaining. TakesLine text l'.line remaining) (GoesOnTo (cleared on.now) (reverse (entry_in on.now ++ u.past)) l'.taken)
           (λ x y z before takes_line. ap (rest_read (l'.taken + 1) z (cleared on.now)) (reverse_in on.now u.past) ∙ ap (λ n. rest_read (n + 1) z (cleared on.now) (reverse u.past ++ entry_in on.now)) takes.taken ∙ sym (line_then (l.taken + 1) y l'.line z u.before on.now (reverse u.past) takes_line on.says) ∙ before) u.goes_on takes.line;
@@ -76,7 +76,7 @@ onwards_fault to_come mid rest l l' n line t old new fault.Write u takes number 
 onwards_fault to_come mid rest l l' n line t old new fault.Memory u takes number same stops = tt
 onwards_fault to_come mid rest l l' n line t old new (fault.Line f) u takes number same stops =
     of_input to_come mid (GoesOnTo u.before (reverse u.past) l.taken) (λ y. (z : List ℕ) × TakesLine y l'.line z) (λ text. UnlessMemory f.kind (record_of text ≡ Err f)) (λ x y before next. unless_then f.kind
-    (λ (is : (before : Option Progress) → t.reader ≡ before → line_read line before ≡ Err f.kind). sym before ∙ line_fault (l.taken + 1) y l'.line (lines next.0) u.before (reverse u.past) f.kind next.1 (ap (λ (line : List ℕ). line_read line u.before) (sym same) ∙ is u.before u.stands.reader) ∙ ap (λ n. Err (record { line = n; kind = f.kind })) (sym takes.taken ∙ sym number ∙ sym stops.0)) stops.1)
+    (λ (is : (before : Option Progress) → t.reader ≡ before → line_read line before ≡ Err f.kind). sym before ∙ line_fault (l.taken + 1) y l'.line (lines next.0) u.before (reverse u.past) f.kind next.1 (ap (λ (line : List ℕ). line_read line u.before) (sym same) ∙ is u.before u.corresponds.reader) ∙ ap (λ n. Err (record { line = n; kind = f.kind })) (sym takes.taken ∙ sym number ∙ sym stops.0)) stops.1)
     u.goes_on (some_rest mid rest takes.line)
   where
     some_rest : (mid rest : Option (List ℕ)) → Reported mid rest (λ text remaining. TakesLine text l'.line remaining) → IfSome mid (λ y. (z : List ℕ) × TakesLine y l'.line z)
@@ -92,21 +92,21 @@ onwards_long to_come mid taken t old new u long =
 -- all lines were skipped
 pub onwards_none : (to_come mid : Option (List ℕ)) (taken : ℕ) (t : RecordPicture) (old new : Option (List ℕ)) (u : Onwards to_come mid taken t old new) → t.reader ≡ None → IsAtEnd mid → IfSome to_come (λ text. record_of text ≡ Err (record { line = taken + 1; kind = NotFirst }))
 onwards_none to_come mid taken t old new u none end =
-    of_input to_come mid (GoesOnTo u.before (reverse u.past) taken) (λ y. y ≡ []) (λ text. record_of text ≡ Err (record { line = taken + 1; kind = NotFirst })) (λ x y before is. sym before ∙ ap (λ (l : List ℕ). rest_read (taken + 1) l u.before (reverse u.past)) is ∙ ap (λ b. rest_read (taken + 1) [] b (reverse u.past)) (sym u.stands.reader ∙ none) ∙ ap (λ n. Err (record { line = n; kind = NotFirst })) {y = taken + 1} (omega arith)) u.goes_on (at_end mid end)
+    of_input to_come mid (GoesOnTo u.before (reverse u.past) taken) (λ y. y ≡ []) (λ text. record_of text ≡ Err (record { line = taken + 1; kind = NotFirst })) (λ x y before is. sym before ∙ ap (λ (l : List ℕ). rest_read (taken + 1) l u.before (reverse u.past)) is ∙ ap (λ b. rest_read (taken + 1) [] b (reverse u.past)) (sym u.corresponds.reader ∙ none) ∙ ap (λ n. Err (record { line = n; kind = NotFirst })) {y = taken + 1} (omega arith)) u.goes_on (at_end mid end)
 
 -- the picture of the whole
 pub onwards_drawn : (to_come mid : Option (List ℕ)) (taken : ℕ) (t : RecordPicture) (old new then : Option (List ℕ)) (u : Onwards to_come mid taken t old new) (p : Progress) (drawn : DrawnEntry) → t.reader ≡ Some p → IsAtEnd mid →
-    ((p : Progress) (past : Past) (first : Option (List ℕ)) → t.reader ≡ Some p → Stands t (Some p) past first new → (drawn.setup ≡ p.head.setup) × EndsAsked t.options t.form p.head.setup past [] drawn.shows drawn.opening.items drawn.height first then) →
+    ((p : Progress) (past : Past) (first : Option (List ℕ)) → t.reader ≡ Some p → Corresponds t (Some p) past first new → (drawn.setup ≡ p.head.setup) × EndsAsked t.options t.form p.head.setup past [] drawn.shows drawn.opening.items drawn.height first then) →
     IfSome to_come (DrawsAllBands t.options t.form drawn old then)
 onwards_drawn to_come mid taken t old new then u p drawn some end ends =
     of_input to_come mid (GoesOnTo u.before (reverse u.past) taken) (λ y. y ≡ []) (DrawsAllBands t.options t.form drawn old then) (λ x y before is. record {
       said = record { setup = p.head.setup; entries = reverse u.past };
-      says = sym before ∙ ap (λ (l : List ℕ). rest_read (taken + 1) l u.before (reverse u.past)) is ∙ ap (λ b. rest_read (taken + 1) [] b (reverse u.past)) (sym u.stands.reader ∙ some);
+      says = sym before ∙ ap (λ (l : List ℕ). rest_read (taken + 1) l u.before (reverse u.past)) is ∙ ap (λ b. rest_read (taken + 1) [] b (reverse u.past)) (sym u.corresponds.reader ∙ some);
       holds = record { setup = both.0; ends = subst (λ (past : Past). EndsAsked t.options t.form p.head.setup past [] drawn.shows drawn.opening.items drawn.height old then) (sym (reverse-reverse u.past)) both.1 };
     }) u.goes_on (at_end mid end)
   where
     both : (drawn.setup ≡ p.head.setup) × EndsAsked t.options t.form p.head.setup u.past [] drawn.shows drawn.opening.items drawn.height old then
-    both = ends p u.past old some (subst (λ (o : Option Progress). Stands t o u.past old new) (sym u.stands.reader ∙ some) u.stands)
+    both = ends p u.past old some (subst (λ (o : Option Progress). Corresponds t o u.past old new) (sym u.corresponds.reader ∙ some) u.corresponds)
 
 -- what was read, where something was
 pub read_some : (o : Option Progress) → IsSome o → (p : Progress) × (o ≡ Some p)

@@ -5,8 +5,8 @@ use Rattle.scenario.specs.files.declared.faults.FaultKind.TheVariants.{NotFirst}
 use Rattle.model.specs.{Entry}
 use Rattle.judge.specs.record_file.{Progress, record_of}
 use Rattle.judge.specs.{Reporting, good_in, numbers_of}
-use Rattle.judge.specs.Trials.{Stands as ObserverStands}
-use Rattle.draw.specs.Sheets.{Stands}
+use Rattle.judge.specs.Trials.{Corresponds as ObserverCorresponds}
+use Rattle.draw.specs.Sheets.{Corresponds}
 use Rattle.draw.specs.declared.records.sheet.RecordPicture.{RecordPicture}
 
 -- what is drawn ends with the first entry that breaks a law
@@ -19,14 +19,14 @@ pub record HasStopped (Keeps : Setup → List Entry → Type 0) (t : RecordPictu
   pub front : List Entry
   pub entry : Entry
   pub later : List Entry
-  pub stands : Stands t (Some drawn) (reverse (front ++ entry ∷ [])) first now
+  pub corresponds : Corresponds t (Some drawn) (reverse (front ++ entry ∷ [])) first now
   pub splits : entries ≡ (front ++ entry ∷ []) ++ later
   pub keeps : Keeps drawn.head.setup front
   pub breaks : Keeps drawn.head.setup (front ++ entry ∷ []) → ⊥
 
 -- all entries so far are drawn, or those up to the first that breaks a law
 abbrev pub IsShown : {H : Type 0} → (Setup → List Entry → Type 0) → (H → Bool) → Bool → Option H → RecordPicture → Option Progress → List Entry → Option (List ℕ) → Option (List ℕ) → Type 0
-IsShown Keeps finds_good true j t before entries first now = (good_in finds_good j ≡ true) × Stands t before (reverse entries) first now
+IsShown Keeps finds_good true j t before entries first now = (good_in finds_good j ≡ true) × Corresponds t before (reverse entries) first now
 IsShown Keeps finds_good false j t before entries first now = HasStopped Keeps t before entries first now
 
 -- a text of so many lines says this, and no more
@@ -40,7 +40,7 @@ pub record HasRead {H : Type 0} (HasObserved : H → Setup → List Entry → Li
   pub entries : List Entry
   pub numbers : List ℕ
   pub says : IfSome to_come (SaysAll before entries numbers taken)
-  pub stands : ObserverStands HasObserved reader j before entries numbers
+  pub corresponds : ObserverCorresponds HasObserved reader j before entries numbers
   pub shows : Bool
   pub shown : IsShown Keeps finds_good shows j t before entries first now
 

@@ -50,7 +50,7 @@ pub use RecordDrawings.{DrawsEntry, RecordRecalls}
 pub use RecordItems.{entry_parts, record_end, record_gives, record_lines, source_of}
 pub use Judges.{DrewJudgedBy}
 pub use Judgings.{HasRead, HasStopped, IsShown, SaysAll, ReportsOfLines}
-pub use Sheets.{All, AreDrawn, AreReadBy, AreShownBy, AreStored, DrawsAllBands, DrawsAsked, DrawsAt, DrawsBandsOf, DrawsPast, DrawsRecord, DrawsSaid, DrewRecord, DrewAs, EndsAsked, EndsAt, GoesOn, Heads, IsDrawFault, IsDrawn, IsJudged, IsRecordPicture, LeavesNone, LineStops, Stands, UpTo, count_by, entries_of, listed, picture_of, without_write}
+pub use Sheets.{All, AreDrawn, AreReadBy, AreShownBy, AreStored, DrawsAllBands, DrawsAsked, DrawsAt, DrawsBandsOf, DrawsPast, DrawsRecord, DrawsSaid, DrewRecord, DrewAs, EndsAsked, EndsAt, GoesOn, Heads, IsDrawFault, IsDrawn, IsJudged, IsRecordPicture, LeavesNone, LineStops, Corresponds, UpTo, count_by, entries_of, listed, picture_of, without_write}
 pub use declared.records.sheet.DrawnEntry.{DrawnEntry}
 pub use declared.records.drawing.RecordDrawing.{RecordDrawing}
 pub use declared.records.sheet.RecordPicture.{RecordPicture}

@@ -134,7 +134,7 @@ abbrev pub DrawsAt : PictureOptions → Form → RecordEntries → Option Progre
 DrawsAt asked form e before past old new = AreReadBy e.drawing e.stored.items asked form before past old new
 
 -- this was read, these entries were said, the newest first, each was taken, and they were drawn
-pub record Stands (t : RecordPicture) (before : Option Progress) (past : Past) (old new : Option (List ℕ)) : Type 0 where
+pub record Corresponds (t : RecordPicture) (before : Option Progress) (past : Past) (old new : Option (List ℕ)) : Type 0 where
   pub reader : t.reader ≡ before
   pub clear : cleared before ≡ before
   pub draws : DrawsAt t.options t.form t.entries before past old new
@@ -143,7 +143,7 @@ pub record Stands (t : RecordPicture) (before : Option Progress) (past : Past) (
 pub record GoesOn (line : Result (Option Progress) FaultKind) (t : RecordPicture) (past : Past) (old new : Option (List ℕ)) : Type 0 where
   pub now : Option Progress
   pub says : line ≡ Ok now
-  pub stands : Stands t (cleared now) (entry_in now ++ past) old new
+  pub corresponds : Corresponds t (cleared now) (entry_in now ++ past) old new
 
 -- why a line is not drawn: its fault, a call that failed, or want of memory
 abbrev pub LineStops : Fault → ℕ → (FaultKind → Type 0) → Type 0

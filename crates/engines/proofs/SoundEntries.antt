@@ -21,7 +21,7 @@ use Rattle.sweeper.proofs.laws.Always.{inv_of}
 use Rattle.sweeper.proofs.laws.Frame.{Happens, a_call, a_withdrawal, a_failure, a_restart, a_step, a_closing}
 use Rattle.sweeper.proofs.laws.FrameEvents.{Accepted, accepted}
 use Rattle.sweeper.proofs.laws.HeldThere.{access_there}
-use Rattle.sweeper.proofs.laws.Invariant.{Own, StandsAt, Wires, next_time, wires}
+use Rattle.sweeper.proofs.laws.Invariant.{Own, PartCorresponds, Wires, next_time, wires}
 use Rattle.sweeper.proofs.laws.Notes.{Notes, notes}
 use Rattle.scenario_run.proofs.history_laws.CountedChanges.{history-none, history-takes, taken_at}
 use Rattle.judge.specs.record_file.{is_access, is_entry, is_mark}
@@ -45,15 +45,15 @@ few_bits s h = by (s.version == 1) (good-checked s h).ticket_bits
 
 -- a ticket that is held fits the ticket bits
 ticket_fits : (s : Setup) → s.ticket_bits ≤ 32 → (p now : ℕ) (n : Notes) (m : Wires) (command : Command) (number : ℕ) (at : Place) → Own s p now (Runs command number at) n m → TicketFits at.part
-ticket_fits s few p now n m command number at mine = by at.part (is_fresh at.run) mine.stands.1
+ticket_fits s few p now n m command number at mine = by at.part (is_fresh at.run) mine.corresponds.1
   where
-    by : (x : Part) (fresh : Bool) → StandsAt s p n x fresh → TicketFits x
-    by (part.Lowers t) fresh stands =
-        let held : n.ticket < 2 ^ s.ticket_bits = mine.senior.fits stands.0 in
+    by : (x : Part) (fresh : Bool) → PartCorresponds s p n x fresh → TicketFits x
+    by (part.Lowers t) fresh corresponds =
+        let held : n.ticket < 2 ^ s.ticket_bits = mine.senior.fits corresponds.0 in
         let most : 2 ^ s.ticket_bits ≤ 2 ^ 32 = pow_mono {i = s.ticket_bits} {j = 32} few in
-        let is : n.ticket ≡ t = stands.1 in
+        let is : n.ticket ≡ t = corresponds.1 in
         grind (arith, nat_tests)
-    by _ fresh stands = tt
+    by _ fresh corresponds = tt
 
 -- One entry.
 

@@ -49,7 +49,7 @@ impl RunObserver for EventLister {
         true
     }
 
-    fn events(&self) -> u64 {
+    fn event_count(&self) -> u64 {
         self.events.len() as u64
     }
 

@@ -103,7 +103,7 @@ impl<'a, W: Sink> RunObserver for RecordWriter<'a, W> {
         true
     }
 
-    fn events(&self) -> u64 {
+    fn event_count(&self) -> u64 {
         self.room.events
     }
 

@@ -94,7 +94,7 @@ impl<'a, W: Sink> RunObserver for ReplayWriter<'a, W> {
         false
     }
 
-    fn events(&self) -> u64 {
+    fn event_count(&self) -> u64 {
         self.summary.events
     }
 

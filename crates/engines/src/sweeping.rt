@@ -123,7 +123,7 @@ fn calls_of(alloc: Global, scenario: &Scenario) -> Result<Calls, AllocError>
     Ok(observed)
 }
 
-/// Makes the same sweep by a course and a sweeper that have just begun. It borrows them, because a value that is dropped at
+/// Makes the same sweep by a scenario run and a sweeper that have just begun. It borrows them, because a value that is dropped at
 /// each way out of a function takes long to prove.
 fn sweep_lines<L: ProgressObserver>(
     scenario: &Scenario,
@@ -159,7 +159,7 @@ impl RunObserver for Calls {
         false
     }
 
-    fn events(&self) -> u64 {
+    fn event_count(&self) -> u64 {
         self.events
     }
 
@@ -211,7 +211,7 @@ fn keep_reported(reported: &TurnReport, calls: &mut Vec<(u8, Command)>) -> Resul
     Ok(())
 }
 
-/// A sweep that goes along a run as it is made, and reports to an onlooker the number of its events that it has passed.
+/// A sweep that goes along a run as it is made, and reports to a progress observer the number of its events that it has passed.
 #[derive(Drop)]
 struct SweepObserver<'a, L: ProgressObserver> {
     sweeper: Sweeper,
@@ -230,7 +230,7 @@ impl<'a, L: ProgressObserver> SweepObserver<'a, L> {
             → CanSweep self.old.calls.now more self.new.sweeper }
     {
         self.progress_observer.reached(ProgressPoint::Swept {
-            events: self.sweeper.events(),
+            events: self.sweeper.event_count(),
             of: self.of,
         });
         self.sweeper.event(event, self.calls);
@@ -245,8 +245,8 @@ impl<'a, L: ProgressObserver> RunObserver for SweepObserver<'a, L> {
         true
     }
 
-    fn events(&self) -> u64 {
-        self.sweeper.events()
+    fn event_count(&self) -> u64 {
+        self.sweeper.event_count()
     }
 
     ghost HasRoom = { λ along more. CanSweep along.calls.now more along.sweeper };

@@ -1,4 +1,4 @@
-//! The progress of an engine: it is reported to an onlooker, which does not change the output, and is in no contract.
+//! The progress of an engine: it is reported to a progress observer, which does not change the output, and is in no contract.
 //!
 //! ```rust
 //! progress_observer.reached(place.begin_line(summary.events));
@@ -98,7 +98,7 @@ impl<'a> LinePosition<'a> {
     }
 
     /// Returns the number of events that were accepted before the line, including those of an earlier run of the file.
-    pub fn events(&self) -> u64 {
+    pub fn event_count(&self) -> u64 {
         self.events
     }
 

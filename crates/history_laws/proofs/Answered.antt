@@ -15,7 +15,7 @@ use Rattle.laws.proofs.Frame.{own-other, own-own}
 use Rattle.history_laws.proofs.CallSpans.{Older, older, whole, OneMore, outside, belongs, one_more, since-whole}
 use Rattle.history_laws.proofs.CountedChanges.{history-none, history-takes, taken_at}
 use Rattle.history_laws.proofs.HistoryItems.{HasItsReply, calls-uncalled, each_has_its_reply}
-use Rattle.history_laws.proofs.Order.{answers_report, in-append, stands}
+use Rattle.history_laws.proofs.Order.{answers_report, in-append, keeps_takings}
 use Rattle.history_laws.proofs.Places.{at_its_place}
 use Rattle.history_laws.proofs.Reported.{SaysAfter, says, since-called, since-uncalled}
 use Rattle.history_laws.proofs.Took.{EachAnswer, answer-at, begins, goes}
@@ -44,10 +44,10 @@ answered_whole s g (e ∷ later) events x y earlier a h c among reported = go (a
     Reports call = IsAnswerTo a (all_takings call)
 
     -- the answer was among its entries before: the call takes no more
-    stood : Contains (entries_of_call p later) y → Reports (entries_of_call p later) → Reports (entries_of_call p (e ∷ later))
-    stood there so_far =
+    as_reported : Contains (entries_of_call p later) y → Reports (entries_of_call p later) → Reports (entries_of_call p (e ∷ later))
+    as_reported there so_far =
         let ended = any_at (has ends_span) (entries_of_call p later) y there (any_at ends_span y.marks (Answered a) reported refl) in
-        subst (IsAnswerTo a) (sym (stands s g (e ∷ []) events later x earlier h c ended).1) so_far
+        subst (IsAnswerTo a) (sym (keeps_takings s g (e ∷ []) events later x earlier h c ended).1) so_far
 
     -- the new entry has it
     answers : e.process ≡ p → list_any (has is_called) (own p (e ∷ later)) ≡ false → Contains e.marks (Answered a) → Reports (entries_of_call p (e ∷ later))
@@ -63,7 +63,7 @@ answered_whole s g (e ∷ later) events x y earlier a h c among reported = go (a
         at (zero, l, is) = answers i none (subst (λ (f : Entry). Contains f.marks (Answered a)) (sym is) reported)
         at (suc k, l, is) =
             let there : Contains (entries_of_call p later) y = subst (λ (call : Past). Contains call y) (sym (whole (own p later) n)) (k, omega (arith, l), is) in
-            stood there (ih there reported)
+            as_reported there (ih there reported)
 
 -- A command that a call took is in the history.
 
@@ -72,8 +72,8 @@ abbrev with_reply : Call → Reply → Taken
 with_reply c r = record { process = c.process; command = c.command; reply = r; number = c.number }
 
 -- a command that the present call of a process took is at its place
-abbrev Stood : Setup → Past → ℕ → Type 0
-Stood s past p = (k : ℕ) (r : Reply) → Contains (all_takings (since is_called (own p past))) (k, r) → slice_get (history s past) k ≡ Some (with_reply (last_call s p (own p past)) r)
+abbrev IsAsReported : Setup → Past → ℕ → Type 0
+IsAsReported s past p = (k : ℕ) (r : Reply) → Contains (all_takings (since is_called (own p past))) (k, r) → slice_get (history s past) k ≡ Some (with_reply (last_call s p (own p past)) r)
 
 -- the history keeps what it has
 still : (s : Setup) (past : Past) (e : Entry) (k : ℕ) (t : Taken) → slice_get (history s past) k ≡ Some t → slice_get (history s (e ∷ past)) k ≡ Some t
@@ -109,18 +109,18 @@ call-uncalled s p e mine h = λ i. record {
   number = cond (s.version == 2) (calls-uncalled e mine h i) 0;
 }
 
-stood : (s : Setup) → IsGood s → (events : List Event) (p : ℕ) → Stood s (past_of s events) p
-stood s g = own-induction s (Stood s) none others own_entry
+as_reported : (s : Setup) → IsGood s → (events : List Event) (p : ℕ) → IsAsReported s (past_of s events) p
+as_reported s g = own-induction s (IsAsReported s) none others own_entry
   where
-    none : (p : ℕ) → Stood s [] p
+    none : (p : ℕ) → IsAsReported s [] p
     none p k r (i, l, e) = absurd (omega (arith, l))
 
-    others : (past : Past) (e : Entry) (p : ℕ) → e.process ≢ p → Stood s past p → Stood s (e ∷ past) p
+    others : (past : Past) (e : Entry) (p : ℕ) → e.process ≢ p → IsAsReported s past p → IsAsReported s (e ∷ past) p
     others past e p apart h k r =
         subst (λ (mine : Past). Contains (all_takings (since is_called mine)) (k, r) → slice_get (history s (e ∷ past)) k ≡ Some (with_reply (last_call s p mine) r)) (sym (own-other p e past apart))
         (λ took. still s past e k (with_reply (last_call s p (own p past)) r) (h k r took))
 
-    own_entry : (events : List Event) (event : Event) (e : Entry) → entry_of s (past_of s events) event ≡ Some e → Stood s (past_of s events) e.process → Stood s (e ∷ past_of s events) e.process
+    own_entry : (events : List Event) (event : Event) (e : Entry) → entry_of s (past_of s events) event ≡ Some e → IsAsReported s (past_of s events) e.process → IsAsReported s (e ∷ past_of s events) e.process
     own_entry events event e is h k r =
         subst (λ (all : Past). Contains (all_takings (since is_called all)) (k, r) → slice_get (history s (e ∷ past)) k ≡ Some (with_reply (last_call s p all) r)) (sym (own-own p e past refl)) (go (says s g events event e is))
       where
@@ -151,9 +151,9 @@ stood s g = own-induction s (Stood s) none others own_entry
             (λ before. still s past e k (with_reply (last_call s p mine) r) (h k r before)) (now t.one))
 
 -- A store answer is in the history, with the sequential store's reply at its place.
-pub answers_stand : TakenInHistory → (s : Setup) → checked s ≡ Ok tt → (events : List Event) (event : Event) (e : Entry) → AreGiven s (event ∷ events) → entry_of s (past_of s events) event ≡ Some e →
+pub answers_in_history : TakenInHistory → (s : Setup) → checked s ≡ Ok tt → (events : List Event) (event : Event) (e : Entry) → AreGiven s (event ∷ events) → entry_of s (past_of s events) event ≡ Some e →
     IsInHistory s (past_of s events) e
-answers_stand law s ok events event e given is r answered = (reported.0, record { there = there; reply = reply })
+answers_in_history law s ok events event e given is r answered = (reported.0, record { there = there; reply = reply })
   where
     g : IsGood s
     g = is_good s ok
@@ -179,7 +179,7 @@ answers_stand law s ok events event e given is r answered = (reported.0, record 
 
     there : slice_get (history s (e ∷ past)) reported.0 ≡ Some (with_reply c r)
     there = subst (λ d. slice_get (history s (e ∷ past)) reported.0 ≡ Some (with_reply d r)) same
-        (subst (λ (p : Past). Stood s p e.process) after (stood s g (event ∷ events) e.process) reported.0 r (subst (λ l. Contains l (reported.0, r)) (sym reported.1) (0, omega arith, refl)))
+        (subst (λ (p : Past). IsAsReported s p e.process) after (as_reported s g (event ∷ events) e.process) reported.0 r (subst (λ l. Contains l (reported.0, r)) (sym reported.1) (0, omega arith, refl)))
 
     reply : r ≡ reply_to (store_after s (take reported.0 (history s (e ∷ past)))) c.command (caller c)
     reply = subst (λ (p : Past). (k : ℕ) (t : Taken) → slice_get (history s p) k ≡ Some t → HasItsReply s (take k (history s p)) t) after (each_has_its_reply law s ok (event ∷ events) given) reported.0 (with_reply c r) there

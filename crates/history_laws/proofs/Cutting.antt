@@ -21,7 +21,7 @@ use Rattle.laws.proofs.FrameEvents.{does_all}
 use Rattle.laws.proofs.FrameInside.{inside-is}
 use Rattle.laws.proofs.FrameSteps.{remaining-is, step_of}
 use Rattle.laws.proofs.FrameWires.{wires-kept}
-use Rattle.laws.proofs.Invariant.{Wires, Touches, wires, touches, Stands, StandsRun}
+use Rattle.laws.proofs.Invariant.{Wires, Touches, wires, touches, Corresponds, RunCorresponds}
 use Rattle.laws.proofs.Notes.{notes}
 use Rattle.history_laws.proofs.Versions.{Versions, versions, store_of}
 use Rattle.history_laws.proofs.Kept.{Kept, KnowsAt, KnowsClosing, Pending, HasImage, HasStamp, Data, is_busy, is_commit_field, is_committing}
@@ -92,26 +92,26 @@ reading-idle _ fresh h = refl
 -- at each part that works on versions
 cut-part : (s : Setup) (past : Past) (p : ℕ) (command : Command) (number : ℕ) (v : Versions) (store : Contents) (m : Wires) (t : ℕ → Touches) (torn : Option Access) (x : Part) (run : Run)
     → let c : Call = call s p command number in
-    p < s.processes → is_inside_at x false ≡ true → StandsRun c m x run → LeftRun c torn x run → KnowsAt s past c v store m t x run →
+    p < s.processes → is_inside_at x false ≡ true → RunCorresponds c m x run → LeftRun c torn x run → KnowsAt s past c v store m t x run →
     UnitKnows s c v store m (is_committing x (is_fresh run)) (cut_at c (record { part = x; run = run }) true)
-cut-part s past p command number v store m t torn x (Reading bits begun) low is stands l h = record { knows = tt; busy_is = reading-idle x (is_fresh (Reading bits begun)) stands.0 }
-cut-part s past p command number v store m t torn (WritesImage vs st) (Writing w) low is stands l h =
+cut-part s past p command number v store m t torn x (Reading bits begun) low is corresponds l h = record { knows = tt; busy_is = reading-idle x (is_fresh (Reading bits begun)) corresponds.0 }
+cut-part s past p command number v store m t torn (WritesImage vs st) (Writing w) low is corresponds l h =
     let c : Call = call s p command number in
     cut-register s c v store m (image_field (not (version_of vs p))) _ _ (torn_bit w) (image-other (not (version_of vs p))) (inl (ap (λ b. image_field (not b)) (own_commit s c v store vs st low h)))
-cut-part s past p command number v store m t torn (WritesStamp vs st) (Writing w) low is stands l h =
+cut-part s past p command number v store m t torn (WritesStamp vs st) (Writing w) low is corresponds l h =
     let c : Call = call s p command number in
     cut-register s c v store m (stamp_field (not (version_of vs p))) _ _ (torn_bit w) (stamp-other (not (version_of vs p))) (inr (ap (λ b. stamp_field (not b)) (own_commit s c v store vs st low h.0)))
-cut-part s past p command number v store m t torn (WritesCommit vs st) (Writing w) low is stands l h = cut-commit s (call s p command number) v store st m vs w.bit w.run low first on h.0 h.1 h.2
+cut-part s past p command number v store m t torn (WritesCommit vs st) (Writing w) low is corresponds l h = cut-commit s (call s p command number) v store st m vs w.bit w.run low first on h.0 h.1 h.2
   where
     first : w.bit ≡ 0
-    first = let inside = stands.1.below in let one : w.width ≡ 1 = stands.1.width_is in omega (arith, inside, one)
+    first = let inside = corresponds.1.below in let one : w.width ≡ 1 = corresponds.1.width_is in omega (arith, inside, one)
 
     on : (r : copies.Writing) → w.run ≡ Some r → (0 < r.made) × (r.ended ≡ false)
-    on r e = (l.1.begun r e, ap (λ (o : Option copies.Writing). (unwrap_or o (record { value = slice_index_or (not (version_of vs p) ∷ []) w.bit false; made = 0; ended = false })).ended) (sym e) ∙ stands.1.going)
-cut-part s past p command number v store m t torn (AsksCommit k ks vs) (Writing w) low is stands l h = absurd (true≢false stands.0)
-cut-part s past p command number v store m t torn (AsksStamp k ks vs b) (Writing w) low is stands l h = absurd (true≢false stands.0)
-cut-part s past p command number v store m t torn (AsksImage vs) (Writing w) low is stands l h = absurd (true≢false stands.0)
-cut-part s past p command number v store m t torn _ (Writing w) low is stands l h = absurd (false≢true is)
+    on r e = (l.1.begun r e, ap (λ (o : Option copies.Writing). (unwrap_or o (record { value = slice_index_or (not (version_of vs p) ∷ []) w.bit false; made = 0; ended = false })).ended) (sym e) ∙ corresponds.1.going)
+cut-part s past p command number v store m t torn (AsksCommit k ks vs) (Writing w) low is corresponds l h = absurd (true≢false corresponds.0)
+cut-part s past p command number v store m t torn (AsksStamp k ks vs b) (Writing w) low is corresponds l h = absurd (true≢false corresponds.0)
+cut-part s past p command number v store m t torn (AsksImage vs) (Writing w) low is corresponds l h = absurd (true≢false corresponds.0)
+cut-part s past p command number v store m t torn _ (Writing w) low is corresponds l h = absurd (false≢true is)
 
 -- The entry of a failure.
 
@@ -169,14 +169,14 @@ cut-of s g events p low may is h = go (does_all s g events p)
         working : is_inside_at at.part false ≡ true
         working = sym (ap is_working k) ∙ is
 
-        stands : Stands s p (notes s p past) (wires s past p) (Runs command number at)
-        stands = let inv = inv_of s g events in subst (Stands s p (notes s p past) (wires s past p)) k (inv.own p low).stands
+        corresponds : Corresponds s p (notes s p past) (wires s past p) (Runs command number at)
+        corresponds = let inv = inv_of s g events in subst (Corresponds s p (notes s p past) (wires s past p)) k (inv.own p low).corresponds
 
         was_inside : inside p past ≡ true
         was_inside = inside-is s g events p ∙ ap is_inside k ∙ working-inside at.part (is_fresh at.run) working
 
         begins : UnitKnows s c (versions s past) (store_of s past) (wires s past p) (is_committing at.part (is_fresh at.run)) (cut_at c at true)
-        begins = cut-part s past p command number (versions s past) (store_of s past) (wires s past p) (λ o. touches s past o p) (remaining s mine) at.part at.run low working stands.0
+        begins = cut-part s past p command number (versions s past) (store_of s past) (wires s past p) (λ o. touches s past o p) (remaining s mine) at.part at.run low working corresponds.0
             (subst (LeftIn s p (remaining s mine)) k (remaining-is s g events p)) (subst (Knows s past p) k h)
 
         unit : failing c mine ≡ cut_at c at true

@@ -16,7 +16,7 @@ use Rattle.laws.proofs.FrameEvents.{accepted}
 use Rattle.laws.proofs.FrameWires.{answer-untouched}
 use Rattle.laws.proofs.FullAnswers as full
 use Rattle.laws.proofs.FullAnswers.{knows, read_in_call}
-use Rattle.laws.proofs.Invariant.{Stands, touches, wires}
+use Rattle.laws.proofs.Invariant.{Corresponds, touches, wires}
 use Rattle.laws.proofs.Notes.{notes}
 use Rattle.laws.proofs.ReadSteps.{entry_reads}
 use Rattle.history_laws.proofs.Codec.{image_read}
@@ -91,11 +91,11 @@ ends_image s g events event e is a access image ends =
     field : is_image (read_at c x.part).1 ≡ true
     field = ap (λ (y : Access). is_image y.field) (sym x.is) ∙ image
 
-    stands : Stands s p (notes s p past) (wires s past p) (Runs x.command x.number (record { part = x.part; run = Reading x.bits true }))
-    stands = subst (Stands s p (notes s p past) (wires s past p)) x.step.does ((inv_of s g events).own p (accepted s g events event e is).below).stands
+    corresponds : Corresponds s p (notes s p past) (wires s past p) (Runs x.command x.number (record { part = x.part; run = Reading x.bits true }))
+    corresponds = subst (Corresponds s p (notes s p past) (wires s past p)) x.step.does ((inv_of s g events).own p (accepted s g events event e is).below).corresponds
 
     at : (vs : List Version) × (x.part ≡ AsksImage vs)
-    at = image_part c x.part (version-at s p c (notes s p past) x.part (Reading x.bits true) stands.1 (image_is_version (read_at c x.part).1 field)) field
+    at = image_part c x.part (version-at s p c (notes s p past) x.part (Reading x.bits true) corresponds.1 (image_is_version (read_at c x.part).1 field)) field
 
 last_pushed : (ns : Numbers) (n : List Bool) → last_read (ns ++ n ∷ []) ≡ n
 last_pushed [] n = refl

@@ -7,7 +7,7 @@ use Rattle.model.proofs.Width.{is_good}
 use Rattle.laws.proofs.Always.{inv_of}
 use Rattle.laws.proofs.Theorems as lock
 use Rattle.laws.proofs.DoorwayEnds.{full_names_the_lowest, waiters_read_none}
-use Rattle.history_laws.proofs.Answered.{answered_whole, answers_stand}
+use Rattle.history_laws.proofs.Answered.{answered_whole, answers_in_history}
 use Rattle.history_laws.proofs.Asked.{ask_answers, ask_reports}
 use Rattle.history_laws.proofs.CallSpans.{before}
 use Rattle.history_laws.proofs.DataMainTheorem.{full, taken, unoverlapped}
@@ -27,8 +27,8 @@ answers_are_taken s h events event e is a answered = history.answers_report s (i
 pub answered_take_no_more : AnsweredCallsTakeNoMore
 answered_take_no_more s h events later earlier e answering a is called among answered = answered_whole s (is_good s h) later events e answering earlier a is called among answered
 
-pub stand : AnswersAreInHistory
-stand s h events event e given is r answered = answers_stand taken s h events event e given is r answered
+pub in_history : AnswersAreInHistory
+in_history s h events event e given is r answered = answers_in_history taken s h events event e given is r answered
 
 pub taken_once : TakenOnce
 taken_once s h events later earlier e is called = history.once s (is_good s h) later events e earlier is called
@@ -44,7 +44,7 @@ history_is_one = record {
   taken = taken;
   answers = answers_are_taken;
   whole_calls = answered_take_no_more;
-  stand = stand;
+  in_history = in_history;
   once = taken_once;
   cut = cut_calls;
   order = keeps_order;
@@ -59,7 +59,7 @@ the_main_theorem s h events event e given is = record {
   alone = with-entry s IsAlone events event e is (alone s h (event ∷ events));
   overtakes = in_turn s h events event e is;
   place = taken s h events event e given is;
-  stands = stand s h events event e given is;
+  in_history = in_history s h events event e given is;
   answers = with-entry s CallsTakeWhatTheyAnswer events event e is (answered_take_no_more s h (event ∷ events));
   cut = cut_calls s h events event e is;
   once = with-entry s CallsTakeOnce events event e is (taken_once s h (event ∷ events));

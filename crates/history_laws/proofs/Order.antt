@@ -132,8 +132,8 @@ within s g (e ∷ later) events base p k r h at = go (within s g later o.events 
         (λ c. earlier (ih (subst (λ (call : Past). Contains (all_takings call) (k, r)) (sym (whole (own p later) n)) c))) (now low)
 
 -- A call whose span has ended takes nothing more.
-abbrev Stands : ℕ → Past → Past → Type 0
-Stands p between later = (has_ended p later ≡ true) × (takings_of_call p later ≡ takings_of_call p between)
+abbrev KeepsTakings : ℕ → Past → Past → Type 0
+KeepsTakings p between later = (has_ended p later ≡ true) × (takings_of_call p later ≡ takings_of_call p between)
 
 settled : (s : Setup) (x : Entry) (later earlier : Past) → ReportedOf s (later ++ x ∷ earlier) x.process → has is_called x ≡ true → list_any (has is_called) (own x.process later) ≡ false → has_ended x.process later ≡ true →
     is_done (doing s x.process (later ++ x ∷ earlier)) ≡ true
@@ -146,10 +146,10 @@ settled s x later earlier t c none ended = go (is_done d) refl
     go true h = refl
     go false h = sym (t.unended h) ∙ ap (list_any (has ends_span)) (since-whole later x earlier c none ∙ sym (whole (own x.process later) none)) ∙ ended
 
-pub stands : (s : Setup) → IsGood s → (newer : Past) (events : List Event) (between : Past) (x : Entry) (earlier : Past) → past_of s events ≡ newer ++ between ++ x ∷ earlier → has is_called x ≡ true →
-    has_ended x.process between ≡ true → Stands x.process between (newer ++ between)
-stands s g [] events between x earlier h c ended = (ended, refl)
-stands s g (e ∷ newer) events between x earlier h c ended = go (stands s g newer o.events between x earlier o.past c ended) (one_more p e later)
+pub keeps_takings : (s : Setup) → IsGood s → (newer : Past) (events : List Event) (between : Past) (x : Entry) (earlier : Past) → past_of s events ≡ newer ++ between ++ x ∷ earlier → has is_called x ≡ true →
+    has_ended x.process between ≡ true → KeepsTakings x.process between (newer ++ between)
+keeps_takings s g [] events between x earlier h c ended = (ended, refl)
+keeps_takings s g (e ∷ newer) events between x earlier h c ended = go (keeps_takings s g newer o.events between x earlier o.past c ended) (one_more p e later)
   where
     p : ℕ
     p = x.process
@@ -163,7 +163,7 @@ stands s g (e ∷ newer) events between x earlier h c ended = go (stands s g new
     a : Added s (later ++ x ∷ earlier) e
     a = added s g e (later ++ x ∷ earlier) o
 
-    go : Stands p between later → OneMore p e later → Stands p between (e ∷ later)
+    go : KeepsTakings p between later → OneMore p e later → KeepsTakings p between (e ∷ later)
     go ih (outside k) = (ap (list_any (has ends_span)) k ∙ ih.0, ap all_takings k ∙ ih.1)
     go ih (belongs i k none n) = (
       ap (list_any (has ends_span)) call ∙ or_right (has ends_span e) (list_any (has ends_span) (own p later)) (sym (ap (list_any (has ends_span)) (whole (own p later) n)) ∙ ih.0),
@@ -190,8 +190,8 @@ pub in_order : (s : Setup) → IsGood s → (events : List Event) (newer between
 in_order s g events newer between earlier x y h c ended k m q r takes_x takes_y =
     let after = before s newer events (y ∷ between ++ x ∷ earlier) split in
     let o = older s after.0 y (between ++ x ∷ earlier) after.1 in
-    let first = stands s g (y ∷ []) after.0 between x earlier after.1 c ended in
-    let all = stands s g newer events (y ∷ between) x earlier h c first.0 in
+    let first = keeps_takings s g (y ∷ []) after.0 between x earlier after.1 c ended in
+    let all = keeps_takings s g newer events (y ∷ between) x earlier h c first.0 in
     let own_x : Contains (takings_of_call x.process between) (k, q) = subst (λ l. Contains l (k, q)) (all.1 ∙ first.1) takes_x in
     let low = (within s g between o.events (x ∷ earlier) x.process k q o.past own_x).1 in
     let high = (within s g newer events (y ∷ between ++ x ∷ earlier) y.process m r split takes_y).0 in

@@ -11,7 +11,7 @@ use Rattle.laws.proofs.Alone.{closes_inside}
 use Rattle.laws.specs.{Runs, call, doing, runs, is_inside, is_inside_at}
 use Rattle.laws.proofs.FrameSteps.{step_of}
 use Rattle.laws.proofs.FrameWires.{answer-untouched, wires-read}
-use Rattle.laws.proofs.Invariant.{Stands, StandsRun, Touches, Wires, touches, wires}
+use Rattle.laws.proofs.Invariant.{Corresponds, RunCorresponds, Touches, Wires, touches, wires}
 use Rattle.laws.proofs.Notes.{notes}
 use Rattle.laws.proofs.Reading.{ReadAccess}
 use Rattle.laws.proofs.ReadSteps.{entry_reads}
@@ -216,13 +216,13 @@ reads_keep s g events what e h command number part run flick does access marks t
     c : Call
     c = call s p command number
 
-    stands : (run : Run) → doing s p past ≡ Runs command number (record { part = part; run = run }) → StandsRun c (wires s past p) part run
-    stands run does = (subst (Stands s p (notes s p past) (wires s past p)) does ((inv_of s g events).own p (step_of s g events what e h).1).stands).0
+    corresponds : (run : Run) → doing s p past ≡ Runs command number (record { part = part; run = run }) → RunCorresponds c (wires s past p) part run
+    corresponds run does = (subst (Corresponds s p (notes s p past) (wires s past p)) does ((inv_of s g events).own p (step_of s g events what e h).1).corresponds).0
 
     go : (run : Run) → let x : Access = valued s past flick (access_at c part run) in doing s p past ≡ Runs command number (record { part = part; run = run }) → e.access ≡ Some x →
         e.marks ≡ map (placed (length (history s past))) (marks_of c (record { part = part; run = run }) (value_of x.how)) →
         doing s p (e ∷ past) ≡ runs command number (place_after c (record { part = part; run = run }) (value_of x.how)) → Keeps s past e
     go (Reading read begun) does access marks to =
         reads_bit s events what e command number part read begun flick
-        (record { good = g; adds = h; data_read = is; small = (stands (Reading read begun) does).1; known = known; does = does; access = access }) marks to
-    go (Writing w) does access marks to = absurd (false≢true (sym (stands (Writing w) does).0 ∙ (reads_inside part false is).2))
+        (record { good = g; adds = h; data_read = is; small = (corresponds (Reading read begun) does).1; known = known; does = does; access = access }) marks to
+    go (Writing w) does access marks to = absurd (false≢true (sym (corresponds (Writing w) does).0 ∙ (reads_inside part false is).2))

@@ -60,8 +60,8 @@ none_taken (mark.Down ∷ marks) h = none_taken marks h
 none_taken (mark.Withdrew ∷ marks) h = none_taken marks h
 none_taken (mark.Restarted ∷ marks) h = none_taken marks h
 
-pub history_stands : (s : Setup) → IsGood s → (events : List Event) (event : Event) (e : Entry) → entry_of s (past_of s events) event ≡ Some e → (p : ℕ) → IsTrue (inside p (past_of s events)) → (p ≡ e.process → ⊥) → history s (e ∷ past_of s events) ≡ history s (past_of s events)
-history_stands s g events event e is p inside_ other = by (has is_taken e) refl
+pub history_unchanged : (s : Setup) → IsGood s → (events : List Event) (event : Event) (e : Entry) → entry_of s (past_of s events) event ≡ Some e → (p : ℕ) → IsTrue (inside p (past_of s events)) → (p ≡ e.process → ⊥) → history s (e ∷ past_of s events) ≡ history s (past_of s events)
+history_unchanged s g events event e is p inside_ other = by (has is_taken e) refl
   where
     by : (b : Bool) → has is_taken e ≡ b → history s (e ∷ past_of s events) ≡ history s (past_of s events)
     by true h = absurd (other (alone s g (inv_of s g) events e.process (taken_inside s g events event e is h) p inside_))

@@ -15,7 +15,7 @@ use Rattle.laws.proofs.Always.{inv_of}
 use Rattle.laws.specs.{Doing, Runs, call, doing}
 use Rattle.laws.proofs.Frame.{Happens, a_call, a_withdrawal, a_failure, a_restart, a_step, a_closing}
 use Rattle.laws.proofs.FrameEvents.{accepted}
-use Rattle.laws.proofs.Invariant.{Stands, Wires, wires, touches}
+use Rattle.laws.proofs.Invariant.{Corresponds, Wires, wires, touches}
 use Rattle.laws.proofs.Notes.{notes}
 use Rattle.history_laws.proofs.Codec.{store_is_read}
 use Rattle.history_laws.proofs.EntrySteps.{IsOfCall, of_call}
@@ -111,8 +111,8 @@ step_known s g events e below known command number (AsksImage vs) (Reading bits 
 step_known s g events e below known command number (AsksImage vs) (Writing w) flick does access last =
     let past : Past = past_of s events in
     let p : ℕ = e.process in
-    let stands : Stands s p (notes s p past) (wires s past p) (Runs command number (record { part = AsksImage vs; run = Writing w })) = subst (Stands s p (notes s p past) (wires s past p)) does ((inv_of s g events).own p below).stands in
-    absurd (true≢false stands.0.0)
+    let corresponds : Corresponds s p (notes s p past) (wires s past p) (Runs command number (record { part = AsksImage vs; run = Writing w })) = subst (Corresponds s p (notes s p past) (wires s past p)) does ((inv_of s g events).own p below).corresponds in
+    absurd (true≢false corresponds.0.0)
 step_known s g events e below known command number (WritesCommit vs st) run flick does access last = (knows_there s (past_of s events) e.process command number (record { part = WritesCommit vs st; run = run }) known below does).0.store_read
 step_known s g events e below known command number (Clears a) run flick does access last = knows_there s (past_of s events) e.process command number (record { part = Clears a; run = run }) known below does
 step_known s g events e below known command number _ run flick does access last = tt

@@ -23,7 +23,7 @@ use Rattle.laws.proofs.FrameEvents.{accepted}
 use Rattle.laws.proofs.FrameInside.{inside-is}
 use Rattle.laws.proofs.FrameSteps.{closing-writes, entry-by}
 use Rattle.laws.proofs.FrameWires.{touches-begun, touches-fields, touches-kept}
-use Rattle.laws.proofs.Invariant.{Stands, touches, wires, Touches}
+use Rattle.laws.proofs.Invariant.{Corresponds, touches, wires, Touches}
 use Rattle.laws.proofs.Notes.{notes}
 use Rattle.laws.proofs.Theorems.{insider, is_process, mutual_exclusion}
 use Rattle.history_laws.proofs.OpenVersions.{WritesInside, is_reading, open_inside}
@@ -159,9 +159,9 @@ others_untouched s g events event e is p other (Runs command number at) does h =
 
         mine : is_version f ≡ true → inside p past ≡ true
         mine v =
-            let stands : Stands s p (notes s p past) (wires s past p) (Runs command number (record { part = part; run = Reading bits begun })) =
-            subst (Stands s p (notes s p past) (wires s past p)) k ((inv_of s g events).own p there).stands in
-            inside-is s g events p ∙ ap is_inside k ∙ version-at s p c (notes s p past) part (Reading bits begun) stands.1 v
+            let corresponds : Corresponds s p (notes s p past) (wires s past p) (Runs command number (record { part = part; run = Reading bits begun })) =
+            subst (Corresponds s p (notes s p past) (wires s past p)) k ((inv_of s g events).own p there).corresponds in
+            inside-is s g events p ∙ ap is_inside k ∙ version-at s p c (notes s p past) part (Reading bits begun) corresponds.1 v
 
         kept : is_version f ≡ true → touches s (e ∷ past) o p f ≡ touches s past o p f
         kept v = by (entry-by s g events event e is)

@@ -11,7 +11,7 @@ use Rattle.laws.specs.{Doing, Runs, call, runs, doing}
 use Rattle.laws.proofs.Frame.{Happens, a_call, a_withdrawal, a_failure, a_restart, a_step, a_closing}
 use Rattle.laws.proofs.FrameEvents.{Accepted, accepted}
 use Rattle.laws.proofs.FrameSteps.{entry-by}
-use Rattle.laws.proofs.Invariant.{Inv, Stands, Touches, Wires, touches, wires}
+use Rattle.laws.proofs.Invariant.{Inv, Corresponds, Touches, Wires, touches, wires}
 use Rattle.laws.proofs.Notes.{notes}
 use Rattle.laws.proofs.Writing.{Advanced, advances}
 use Rattle.history_laws.proofs.DataWrites.{commit_goes_on, commit_written, image_kept, image_written, stamp_kept, stamp_written}
@@ -90,7 +90,7 @@ further : (s : Setup) (past : Past) (e : Entry) (command : Command) (number : �
 further s past e command number part w flick h =
     let c : Call = call s e.process command number in
     advances s past e.process e (written_at c part).0 (written_at c part).1 w flick h.works.access
-    (subst (Stands s e.process (notes s e.process past) (wires s past e.process)) h.works.was (h.inv.own e.process h.works.below).stands).0.1
+    (subst (Corresponds s e.process (notes s e.process past) (wires s past e.process)) h.works.was (h.inv.own e.process h.works.below).corresponds).0.1
 
 -- the entry writes the part's register alone
 one : (s : Setup) (past : Past) (e : Entry) (command : Command) (number : ℕ) (part : Part) (w : NumberWrite) (flick : Bool) → AtWrite s past e command number part w flick →
@@ -203,8 +203,8 @@ step_keeps s g events e command number part (Writing w) flick is works marks h =
 step_keeps s g events e command number part (Reading bits begun) flick is works marks h =
     let past : Past = past_of s events in
     let at : Place = record { part = part; run = Reading bits begun } in
-    let stands : Stands s e.process (notes s e.process past) (wires s past e.process) (Runs command number at) = subst (Stands s e.process (notes s e.process past) (wires s past e.process)) works.was ((inv_of s g events).own e.process works.below).stands in
-    absurd (false≢true (sym (writes_alone part is) ∙ stands.0.0))
+    let corresponds : Corresponds s e.process (notes s e.process past) (wires s past e.process) (Runs command number at) = subst (Corresponds s e.process (notes s e.process past) (wires s past e.process)) works.was ((inv_of s g events).own e.process works.below).corresponds in
+    absurd (false≢true (sym (writes_alone part is) ∙ corresponds.0.0))
 
 -- A step of a process that writes a register of versions keeps the data.
 pub write-keeps : (s : Setup) → IsGood s → (events : List Event) (what : Event) (e : Entry) → let past : Past = past_of s events in

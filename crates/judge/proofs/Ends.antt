@@ -9,7 +9,7 @@ use Rattle.files.specs.declared.faults.FaultKind.TheVariants.{NotFirst, TooLong}
 use Rattle.model.specs.{Entry}
 use Rattle.record_file.specs.{Progress, cleared, entry_in, line_read, lines_read, record_of, rest_read, said_by}
 use Rattle.judge.specs.{IsInputFault, IsOfRecord, number_in, numbers_from, numbers_of}
-use Rattle.judge.specs.Trials.{GoesOn, ObservesAt, IsObserved, Stands, count_in}
+use Rattle.judge.specs.Trials.{GoesOn, ObservesAt, IsObserved, Corresponds, count_in}
 use Rattle.judge.proofs.Lines.{few_in, long_read}
 use Rattle.judge.proofs.Trials.{unless_then}
 
@@ -87,7 +87,7 @@ module _ {H : Type 0} (HasObserved : H → Setup → List Entry → List ℕ →
     pub before : Option Progress
     pub entries : List Entry
     pub numbers : List ℕ
-    pub view_of : Stands HasObserved reader observer before entries numbers
+    pub corresponds : Corresponds HasObserved reader observer before entries numbers
     pub few : length entries ≤ taken
     pub goes_on : Reported to_come rest (GoesOnTo before entries numbers taken)
 
@@ -99,14 +99,14 @@ module _ {H : Type 0} (HasObserved : H → Setup → List Entry → List ℕ →
 
   pub onwards_few : (count : H → ℕ) → ((h : H) (s : Setup) (entries : List Entry) (numbers : List ℕ) → HasObserved h s entries numbers → count h ≡ length entries) → (to_come rest : Option (List ℕ)) (taken : ℕ) (reader : Option Progress) (j : Option H) → Onwards to_come rest taken reader j → count_in count j ≤ taken
   onwards_few count counts to_come rest taken reader j u =
-      let few : length u.entries ≤ taken = u.few in let same = observed_count count counts j u.before u.entries u.numbers u.view_of.observed in omega (arith, few, same)
+      let few : length u.entries ≤ taken = u.few in let same = observed_count count counts j u.before u.entries u.numbers u.corresponds.observed in omega (arith, few, same)
 
   -- before the first line no bytes have come
-  pub onwards_start : (to_come : Option (List ℕ)) (ahead : Given) (taken : ℕ) (reader : Option Progress) (j : Option H) → ahead.bytes ≡ [] → ahead.ended ≡ false → taken ≡ 0 → Stands HasObserved reader j None [] [] → Onwards to_come (coming ahead to_come) taken reader j
-  onwards_start to_come ahead taken reader j fresh open_yet none view_of =
+  pub onwards_start : (to_come : Option (List ℕ)) (ahead : Given) (taken : ℕ) (reader : Option Progress) (j : Option H) → ahead.bytes ≡ [] → ahead.ended ≡ false → taken ≡ 0 → Corresponds HasObserved reader j None [] [] → Onwards to_come (coming ahead to_come) taken reader j
+  onwards_start to_come ahead taken reader j fresh open_yet none corresponds =
       subst (λ (l : List ℕ). Onwards to_come (prepend_known l (unless_ended ahead.ended to_come)) taken reader j) (sym fresh)
       (subst (λ (b : Bool). Onwards to_come (prepend_known [] (unless_ended b to_come)) taken reader j) (sym open_yet)
-      (record { before = None; entries = []; numbers = []; view_of = view_of; few = omega arith; goes_on = goes_on_at_first to_come taken none }))
+      (record { before = None; entries = []; numbers = []; corresponds = corresponds; few = omega arith; goes_on = goes_on_at_first to_come taken none }))
 
   -- one more line
   abbrev pub onwards_on : (to_come mid rest : Option (List ℕ)) (l l' : LineState) (reader reader' : Option Progress) (j j' : Option H) (u : Onwards to_come mid l.taken reader j) → TakesNext l l' mid rest → GoesOn HasObserved l'.taken l'.line u.before reader' j' u.entries u.numbers → Onwards to_come rest l'.taken reader' j'
@@ -114,7 +114,7 @@ module _ {H : Type 0} (HasObserved : H → Setup → List Entry → List ℕ →
     before = cleared on.now;
     entries = u.entries ++ entry_in on.now;
     numbers = u.numbers ++ number_in l'.taken l'.line;
-    view_of = on.view_of;
+    corresponds = on.corresponds;
     few = let had : length u.entries ≤ l.taken = u.few in let one = few_in on.now in let taken : l'.taken ≡ l.taken + 1 = takes.taken in omega (arith, had, one, taken, length-append u.entries (entry_in on.now));
     goes_on = reported_on to_come mid rest (GoesOnTo u.before u.entries u.numbers l.taken) (λ text remaining. TakesLine text l'.line remaining) (GoesOnTo (cleared on.now) (u.entries ++ entry_in on.now) (u.numbers ++ number_in l'.taken l'.line) l'.taken)
         (λ x y z so_far line. goes_on u.before on.now u.entries u.numbers l.taken l'.taken l'.line x y z takes.taken on.says so_far line) u.goes_on takes.line;

@@ -13,7 +13,7 @@ use Rattle.record_file.specs.{Progress, cleared, entry_in, entry_words, is_entry
 use Rattle.record_file.specs.scenario.{spaced}
 use Rattle.judge.specs.{number_in}
 use Rattle.judge.specs.Firsts.{HasObservedFirsts, ReportsFirsts}
-use Rattle.judge.specs.Trials.{GoesOn, Observes, ObservesAt, IsObserved, LineEnds, Stands, count_in}
+use Rattle.judge.specs.Trials.{GoesOn, Observes, ObservesAt, IsObserved, LineEnds, Corresponds, count_in}
 use Rattle.judge.proofs.Ends.{Onwards}
 use Rattle.judge.proofs.Trials.{ends_stepped}
 use Rattle.judge.proofs.Lines.{few_in, long_read, number_of_none, number_of_some, short_read}
@@ -96,11 +96,11 @@ module _ {H : Type 0} (HasObserved : H → Setup → List Entry → List ℕ →
 
     -- a line as it is printed for a Step, which is passed over
     pub steps_by : (m : ℕ) (line : List ℕ) (reader : Option Progress) (j : Option H) (step : Option (ℕ × Access)) (before : Option Progress) (entries : List Entry) (numbers : List ℕ) → length line ≤ 128 → n ≤ count_in count j → is_some j ≡ true → is_some step ≡ true →
-        IfSome step (λ (r : ℕ × Access). line ≡ spaced (entry_words (step_entry r.0 r.1))) → IfSome step (λ (r : ℕ × Access). is_entry (step_entry r.0 r.1) ≡ true) → Stands (HasObservedFirsts (Some n) HasObserved) reader j before entries numbers → GoesOn (HasObservedFirsts (Some n) HasObserved) m line before reader j entries numbers
-    steps_by m line reader None step before entries numbers short full some is printed sound view_of = absurd (cc)
-    steps_by m line reader (Some h) None before entries numbers short full some is printed sound view_of = absurd (cc)
-    steps_by m line reader (Some h) (Some r) before entries numbers short full some is printed sound view_of =
-        ends_stepped (HasObservedFirsts (Some n) HasObserved) m line reader h h r.0 r.1 before entries numbers short printed sound (λ s es ns observed. firsts_stay h s es ns (step_entry r.0 r.1) m full observed) view_of
+        IfSome step (λ (r : ℕ × Access). line ≡ spaced (entry_words (step_entry r.0 r.1))) → IfSome step (λ (r : ℕ × Access). is_entry (step_entry r.0 r.1) ≡ true) → Corresponds (HasObservedFirsts (Some n) HasObserved) reader j before entries numbers → GoesOn (HasObservedFirsts (Some n) HasObserved) m line before reader j entries numbers
+    steps_by m line reader None step before entries numbers short full some is printed sound corresponds = absurd (cc)
+    steps_by m line reader (Some h) None before entries numbers short full some is printed sound corresponds = absurd (cc)
+    steps_by m line reader (Some h) (Some r) before entries numbers short full some is printed sound corresponds =
+        ends_stepped (HasObservedFirsts (Some n) HasObserved) m line reader h h r.0 r.1 before entries numbers short printed sound (λ s es ns observed. firsts_stay h s es ns (step_entry r.0 r.1) m full observed) corresponds
 
     -- Fewer than n entries were observed, so all were.
     all_observed : (j : Option H) (before : Option Progress) (entries : List Entry) (numbers : List ℕ) → count_in count j < n → ObservesAt (HasObservedFirsts (Some n) HasObserved) j before entries numbers → (length entries < n) × (length numbers ≡ length entries) × ObservesAt HasObserved j before entries numbers
@@ -128,37 +128,37 @@ module _ {H : Type 0} (HasObserved : H → Setup → List Entry → List ℕ →
         )
 
     -- the state of reading, if fewer than n entries were observed
-    pub stands_all : (reader : Option Progress) (j : Option H) (before : Option Progress) (entries : List Entry) (numbers : List ℕ) → count_in count j < n → Stands (HasObservedFirsts (Some n) HasObserved) reader j before entries numbers → Stands HasObserved reader j before entries numbers
-    stands_all reader j before entries numbers few view_of = record { read = view_of.read; clear = view_of.clear; observed = (all_observed j before entries numbers few view_of.observed).2 }
+    pub all_correspond : (reader : Option Progress) (j : Option H) (before : Option Progress) (entries : List Entry) (numbers : List ℕ) → count_in count j < n → Corresponds (HasObservedFirsts (Some n) HasObserved) reader j before entries numbers → Corresponds HasObserved reader j before entries numbers
+    all_correspond reader j before entries numbers few corresponds = record { read = corresponds.read; clear = corresponds.clear; observed = (all_observed j before entries numbers few corresponds.observed).2 }
 
     -- a line that was read and observed in this state
-    pub ends_all : (result : Result (Unit {0}) FaultKind) (m : ℕ) (line : List ℕ) (before reader reader' : Option Progress) (j j' : Option H) (entries : List Entry) (numbers : List ℕ) → count_in count j < n → Stands (HasObservedFirsts (Some n) HasObserved) reader j before entries numbers →
+    pub ends_all : (result : Result (Unit {0}) FaultKind) (m : ℕ) (line : List ℕ) (before reader reader' : Option Progress) (j j' : Option H) (entries : List Entry) (numbers : List ℕ) → count_in count j < n → Corresponds (HasObservedFirsts (Some n) HasObserved) reader j before entries numbers →
         LineEnds HasObserved result m line before reader' j' entries numbers → LineEnds (HasObservedFirsts (Some n) HasObserved) result m line before reader' j' entries numbers
-    ends_all (Err kind) m line before reader reader' j j' entries numbers few view_of ends = ends
-    ends_all (Ok done) m line before reader reader' j j' entries numbers few view_of on =
-        let had = all_observed j before entries numbers few view_of.observed in
-        let same : length (number_in m line) ≡ length (entry_in on.now) = as_many m line before on.now on.says view_of.clear in
+    ends_all (Err kind) m line before reader reader' j j' entries numbers few corresponds ends = ends
+    ends_all (Ok done) m line before reader reader' j j' entries numbers few corresponds on =
+        let had = all_observed j before entries numbers few corresponds.observed in
+        let same : length (number_in m line) ≡ length (entry_in on.now) = as_many m line before on.now on.says corresponds.clear in
         let one = few_in on.now in
         record {
           now = on.now;
           says = on.says;
-          view_of = record {
-            read = on.view_of.read;
-            clear = on.view_of.clear;
+          corresponds = record {
+            read = on.corresponds.read;
+            clear = on.corresponds.clear;
             observed = then_firsts j' (cleared on.now) (entries ++ entry_in on.now) (numbers ++ number_in m line) (omega (arith, had.0, one, length-append entries (entry_in on.now)))
-                (length-append numbers (number_in m line) ∙ (λ i. had.1 i + same i) ∙ sym (length-append entries (entry_in on.now))) on.view_of.observed;
+                (length-append numbers (number_in m line) ∙ (λ i. had.1 i + same i) ∙ sym (length-append entries (entry_in on.now))) on.corresponds.observed;
           };
         }
 
 -- before the first line there is no observer
-pub at_first : {H : Type 0} (HasObserved : H → Setup → List Entry → List ℕ → Type 0) (limit : Option ℕ) (reader : Option Progress) (j : Option H) → Stands HasObserved reader j None [] [] → Stands (HasObservedFirsts limit HasObserved) reader j None [] []
-at_first HasObserved limit reader None view_of = record { read = view_of.read; clear = view_of.clear; observed = view_of.observed }
-at_first HasObserved limit reader (Some h) view_of = absurd view_of.observed
+pub at_first : {H : Type 0} (HasObserved : H → Setup → List Entry → List ℕ → Type 0) (limit : Option ℕ) (reader : Option Progress) (j : Option H) → Corresponds HasObserved reader j None [] [] → Corresponds (HasObservedFirsts limit HasObserved) reader j None [] []
+at_first HasObserved limit reader None corresponds = record { read = corresponds.read; clear = corresponds.clear; observed = corresponds.observed }
+at_first HasObserved limit reader (Some h) corresponds = absurd corresponds.observed
 
 -- the number of entries observed is at most that of lines read
 pub few_observed : {H : Type 0} (HasObserved : H → Setup → List Entry → List ℕ → Type 0) (count : H → ℕ) (counts : (h : H) (s : Setup) (entries : List Entry) (numbers : List ℕ) → HasObserved h s entries numbers → count h ≡ length entries) (limit : Option ℕ)
     (to_come rest : Option (List ℕ)) (taken : ℕ) (reader : Option Progress) (j : Option H) → Onwards (HasObservedFirsts limit HasObserved) to_come rest taken reader j → count_in count j ≤ taken
-few_observed {H} HasObserved count counts limit to_come rest taken reader j u = by limit j u.before u.entries u.numbers u.few u.view_of.observed
+few_observed {H} HasObserved count counts limit to_come rest taken reader j u = by limit j u.before u.entries u.numbers u.few u.corresponds.observed
   where
     by : (limit : Option ℕ) (j : Option H) (before : Option Progress) (entries : List Entry) (numbers : List ℕ) → length entries ≤ taken → ObservesAt (HasObservedFirsts limit HasObserved) j before entries numbers → count_in count j ≤ taken
     by limit None before entries numbers few observed = omega (arith, few)

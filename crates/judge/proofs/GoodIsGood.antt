@@ -66,7 +66,7 @@ pub good_is_good : GoodIsGood
 good_is_good s good entries kept = good_past s good (reverse entries) kept
 
 pub doorways_are_one : DoorwaysAreOne
-doorways_are_one s good past all p runs = subst (λ l. number_in_call p has_access l ≡ doorway_begin p l) from.1 (by (doing s p (past_of s from.0)) (doorways s g from.0 p) view_of)
+doorways_are_one s good past all p runs = subst (λ l. number_in_call p has_access l ≡ doorway_begin p l) from.1 (by (doing s p (past_of s from.0)) (doorways s g from.0 p) is_running_now)
   where
     g : IsGood s
     g = is_good s good
@@ -74,8 +74,8 @@ doorways_are_one s good past all p runs = subst (λ l. number_in_call p has_acce
     from : (events : List Event) × (past_of s events ≡ past)
     from = of_events s past all
 
-    view_of : is_running (laws.stage_of (doing s p (past_of s from.0))) ≡ true
-    view_of = ap is_running (sym (stage-is s g from.0 p)) ∙ ap (λ l. is_running (stage p l)) from.1 ∙ runs
+    is_running_now : is_running (laws.stage_of (doing s p (past_of s from.0))) ≡ true
+    is_running_now = ap is_running (sym (stage-is s g from.0 p)) ∙ ap (λ l. is_running (stage p l)) from.1 ∙ runs
 
     by : (d : Doing) → DoorwayOf (past_of s from.0) p d → is_running (laws.stage_of d) ≡ true → number_in_call p has_access (past_of s from.0) ≡ doorway_begin p (past_of s from.0)
     by (Runs command number at) h run = h.same

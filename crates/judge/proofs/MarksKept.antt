@@ -20,7 +20,7 @@ use Rattle.any_lock.proofs.safe_monitor.laws.FrameInside.{inside-is, stage-is}
 use Rattle.any_lock.proofs.safe_monitor.laws.Steps.{step_is}
 use Rattle.judge.proofs.history_laws.Reported.{reported}
 use Rattle.judge.proofs.history_laws.Took.{TookBy}
-use Rattle.any_lock.specs.{BegunAccess, MarkRefusal, ProcessView, accessed, first_that, has_one_mark, its_call, mark_refusal, opened, refusal_of_marks, refusal_on, process_view, stands_alone, torn, torn_after}
+use Rattle.any_lock.specs.{BegunAccess, MarkRefusal, ProcessView, accessed, first_that, has_one_mark, its_call, mark_refusal, opened, refusal_of_marks, refusal_on, process_view, must_be_alone, torn, torn_after}
 use Rattle.any_lock.specs.declared.refusals.MarkRefusal.TheVariants as refusal
 use Rattle.any_lock.proofs.Markings.{ArePlain, no_failure, none_of, with_marks}
 use Rattle.any_lock.proofs.Steps.{torn-mine}
@@ -40,7 +40,7 @@ use Rattle.judge.proofs.Withdrawals.{WithdrawnIn, answers_withdrawn, never_withd
 alone_fine : (s : Setup) (past : Past) (e : Entry) (m : Mark) → e.access ≡ None → e.marks ≡ m ∷ [] → mark_refusal (process_view s e.process past) m ≡ None → refusal_of_marks s past e ≡ None
 alone_fine s past e m none marks allowed =
     let is : e ≡ with_marks e.process None (m ∷ []) = λ i. record { process = e.process; access = none i; marks = marks i } in
-    ap (refusal_of_marks s past) is ∙ refused s e.process past None (m ∷ []) refl (and_false (stands_alone m || false))
+    ap (refusal_of_marks s past) is ∙ refused s e.process past None (m ∷ []) refl (and_false (must_be_alone m || false))
     ∙ ap (λ r. elim r as (λ _. Option MarkRefusal) [ Some r ↦ Some r | None ↦ None ]) allowed
 
 -- an accepted call is not refused because of the number of calls

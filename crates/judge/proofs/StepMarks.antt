@@ -7,11 +7,11 @@ use Rattle.model.specs.{Call, Closing, Mark, Next, Place, Wait, bits_with, closi
 use Rattle.model.specs.declared.marks.Mark.TheVariants.{Taken}
 use Rattle.model.specs.Parts.{Part, Lowers, Waits, AsksImage, last_marks}
 use Rattle.model.proofs.Turns.{and_false}
-use Rattle.any_lock.specs.{stands_alone}
+use Rattle.any_lock.specs.{must_be_alone}
 use Rattle.any_lock.proofs.safe_monitor.laws.AtPlaces.{IsOfLock, any-closing, any-marks, any-placed}
 use Rattle.any_lock.proofs.Markings.{ArePlain}
 
-of_plain : IsOfLock stands_alone
+of_plain : IsOfLock must_be_alone
 of_plain = record { taken = λ k r. refl; remaining = refl; settled = λ v. refl; down = refl; withdrawn = refl }
 
 entered_plain : (ws : List Wait) → ArePlain (entered_if_none ws)
@@ -35,9 +35,9 @@ last_plain c _ bits = refl
 -- the marks at a place
 pub plain_step : (c : Call) (at : Place) (v : Bool) (place : ℕ) (ms : List Mark) → ms ≡ map (placed place) (marks_of c at v) → ArePlain ms
 plain_step c at v place ms is =
-    ap (list_any stands_alone) is ∙ any-placed stands_alone of_plain place (marks_of c at v) ∙ any-marks stands_alone refl c at v
+    ap (list_any must_be_alone) is ∙ any-placed must_be_alone of_plain place (marks_of c at v) ∙ any-marks must_be_alone refl c at v
     ∙ ap (λ b. is_last c at.part at.run && b) (last_plain c at.part (bits_with at.run v)) ∙ and_false (is_last c at.part at.run)
 
 -- the marks in a closing
 pub plain_closing : (c : Call) (at : Closing) (flick : Bool) (n : Next) → closing_next c at flick ≡ Some n → (place : ℕ) (ms : List Mark) → ms ≡ map (placed place) n.marks → ArePlain ms
-plain_closing c at flick n next place ms is = ap (list_any stands_alone) is ∙ any-placed stands_alone of_plain place n.marks ∙ any-closing stands_alone of_plain c at flick n next
+plain_closing c at flick n next place ms is = ap (list_any must_be_alone) is ∙ any-placed must_be_alone of_plain place n.marks ∙ any-closing must_be_alone of_plain c at flick n next

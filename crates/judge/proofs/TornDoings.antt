@@ -210,9 +210,9 @@ torn_is s g = own-induction s (λ (past : Past) (p : ℕ). IsTorn s past p (doin
   where
     others : (past : Past) (e : Entry) (p : ℕ) → e.process ≢ p → IsTorn s past p (doing s p past) → IsTorn s (e ∷ past) p (doing s p (e ∷ past))
     others past e p apart before =
-        let view_of : process_view s p (e ∷ past) ≡ process_view s p past = process_view-other s p e past (ne_eqb e.process p apart) in
-        let open_too : opened p (e ∷ past) ≡ opened p past = ap (λ (k : ProcessView). k.opened) view_of in
-        let torn_too : torn p (e ∷ past) ≡ torn p past = ap (λ (k : ProcessView). k.torn) view_of in
+        let same_view : process_view s p (e ∷ past) ≡ process_view s p past = process_view-other s p e past (ne_eqb e.process p apart) in
+        let open_too : opened p (e ∷ past) ≡ opened p past = ap (λ (k : ProcessView). k.opened) same_view in
+        let torn_too : torn p (e ∷ past) ≡ torn p past = ap (λ (k : ProcessView). k.torn) same_view in
         let mine : own p (e ∷ past) ≡ own p past = own-other p e past apart in
         subst (IsTorn s (e ∷ past) p) (sym (doing-other s p e past apart)) (record {
           open_last = subst (λ o. OpenIsLast s p o (last_write (own p (e ∷ past)))) (sym open_too) (subst (λ l. OpenIsLast s p (opened p past) (last_write l)) (sym mine) before.open_last);

@@ -9,7 +9,7 @@ use Rattle.record_file.specs.{Progress, cleared, entry_in, entry_words, is_entry
 use Rattle.record_file.specs.scenario.{Progress as Head, spaced}
 use Rattle.record_file.proofs.EntryLines.{entry_of_line}
 use Rattle.judge.specs.{number_in, say_entry}
-use Rattle.judge.specs.Trials.{GoesOn, Observes, ObservesAt, Stands}
+use Rattle.judge.specs.Trials.{GoesOn, Observes, ObservesAt, Corresponds}
 use Rattle.judge.proofs.Lines.{Left, clear_twice, empty, first_left, later_remaining, number_of_none, number_of_some, short_read}
 
 -- a consequence of a fact that is known unless memory ran out
@@ -74,42 +74,42 @@ module _ {H : Type 0} (HasObserved : H → Setup → List Entry → List ℕ →
           (both.0, observes (before_it j observed both.1))
 
   -- the words of a line are read in the state before it
-  read_at : (line : List ℕ) (reader : Option Progress) (j : Option H) (before : Option Progress) (entries : List Entry) (numbers : List ℕ) → Stands HasObserved reader j before entries numbers → words_read record_grammar (words_of line) reader ≡ words_read record_grammar (words_of line) before
-  read_at line reader j before entries numbers view_of = ap (λ (o : Option Progress). words_read record_grammar (words_of line) o) view_of.read
+  read_at : (line : List ℕ) (reader : Option Progress) (j : Option H) (before : Option Progress) (entries : List Entry) (numbers : List ℕ) → Corresponds HasObserved reader j before entries numbers → words_read record_grammar (words_of line) reader ≡ words_read record_grammar (words_of line) before
+  read_at line reader j before entries numbers corresponds = ap (λ (o : Option Progress). words_read record_grammar (words_of line) o) corresponds.read
 
   -- How a line ends.
 
   -- the line was read, and its entry, if any, was observed
-  ends_well : (n : ℕ) (line : List ℕ) (reader reader' now : Option Progress) (j j' : Option H) (before : Option Progress) (entries : List Entry) (numbers : List ℕ) → length line ≤ 128 → Stands HasObserved reader j before entries numbers → words_read record_grammar (words_of line) reader ≡ Ok now → reader' ≡ cleared now →
+  ends_well : (n : ℕ) (line : List ℕ) (reader reader' now : Option Progress) (j j' : Option H) (before : Option Progress) (entries : List Entry) (numbers : List ℕ) → length line ≤ 128 → Corresponds HasObserved reader j before entries numbers → words_read record_grammar (words_of line) reader ≡ Ok now → reader' ≡ cleared now →
       ObservesAt HasObserved j' (cleared now) (entries ++ entry_in now) (numbers ++ number_in n line) → GoesOn HasObserved n line before reader' j' entries numbers
-  ends_well n line reader reader' now j j' before entries numbers short view_of read same observed = record {
+  ends_well n line reader reader' now j j' before entries numbers short corresponds read same observed = record {
     now = now;
-    says = short_read line before short ∙ sym (read_at line reader j before entries numbers view_of) ∙ read;
-    view_of = record { read = same; clear = clear_twice now; observed = observed };
+    says = short_read line before short ∙ sym (read_at line reader j before entries numbers corresponds) ∙ read;
+    corresponds = record { read = same; clear = clear_twice now; observed = observed };
   }
 
   -- the line is not an entry
-  pub ends_quiet : (n : ℕ) (line : List ℕ) (reader reader' now : Option Progress) (j : Option H) (before : Option Progress) (entries : List Entry) (numbers : List ℕ) → length line ≤ 128 → Stands HasObserved reader j before entries numbers → words_read record_grammar (words_of line) reader ≡ Ok now → reader' ≡ cleared now →
+  pub ends_quiet : (n : ℕ) (line : List ℕ) (reader reader' now : Option Progress) (j : Option H) (before : Option Progress) (entries : List Entry) (numbers : List ℕ) → length line ≤ 128 → Corresponds HasObserved reader j before entries numbers → words_read record_grammar (words_of line) reader ≡ Ok now → reader' ≡ cleared now →
       entry_in now ≡ [] → GoesOn HasObserved n line before reader' j entries numbers
-  ends_quiet n line reader reader' now j before entries numbers short view_of read same none =
-      ends_well n line reader reader' now j j before entries numbers short view_of read same
-      (observed_still n line before now j entries numbers (sym (read_at line reader j before entries numbers view_of) ∙ read) view_of.clear none view_of.observed)
+  ends_quiet n line reader reader' now j before entries numbers short corresponds read same none =
+      ends_well n line reader reader' now j j before entries numbers short corresponds read same
+      (observed_still n line before now j entries numbers (sym (read_at line reader j before entries numbers corresponds) ∙ read) corresponds.clear none corresponds.observed)
 
   -- the line is an entry, which was observed
-  pub ends_observed : (n : ℕ) (line : List ℕ) (reader reader' : Option Progress) (now : Progress) (e : Entry) (j j' : Option H) (before : Option Progress) (entries : List Entry) (numbers : List ℕ) → length line ≤ 128 → Stands HasObserved reader j before entries numbers → words_read record_grammar (words_of line) reader ≡ Ok (Some now) → now.entry ≡ Some e →
+  pub ends_observed : (n : ℕ) (line : List ℕ) (reader reader' : Option Progress) (now : Progress) (e : Entry) (j j' : Option H) (before : Option Progress) (entries : List Entry) (numbers : List ℕ) → length line ≤ 128 → Corresponds HasObserved reader j before entries numbers → words_read record_grammar (words_of line) reader ≡ Ok (Some now) → now.entry ≡ Some e →
       reader' ≡ cleared (Some now) → IsSome j' → ((entries : List Entry) (numbers : List ℕ) → Observes HasObserved j now.head.setup entries numbers → Observes HasObserved j' now.head.setup (entries ++ e ∷ []) (numbers ++ n ∷ [])) → GoesOn HasObserved n line before reader' j' entries numbers
-  ends_observed n line reader reader' now e j j' before entries numbers short view_of read says same some observes =
-      let read' : words_read record_grammar (words_of line) before ≡ Ok (Some now) = sym (read_at line reader j before entries numbers view_of) ∙ read in
-      ends_well n line reader reader' (Some now) j j' before entries numbers short view_of read same
+  ends_observed n line reader reader' now e j j' before entries numbers short corresponds read says same some observes =
+      let read' : words_read record_grammar (words_of line) before ≡ Ok (Some now) = sym (read_at line reader j before entries numbers corresponds) ∙ read in
+      ends_well n line reader reader' (Some now) j j' before entries numbers short corresponds read same
       (subst (λ (l : List Entry). ObservesAt HasObserved j' (cleared (Some now)) (entries ++ l) (numbers ++ number_in n line)) (sym (ap option_to_list says))
-      (subst (λ (l : List ℕ). ObservesAt HasObserved j' (cleared (Some now)) (entries ++ e ∷ []) (numbers ++ l)) (sym (number_of_some n line before now e read' view_of.clear says))
-      (more_at (words_of line) before now e n j j' entries numbers read' view_of.clear says some (observes entries numbers) view_of.observed)))
+      (subst (λ (l : List ℕ). ObservesAt HasObserved j' (cleared (Some now)) (entries ++ e ∷ []) (numbers ++ l)) (sym (number_of_some n line before now e read' corresponds.clear says))
+      (more_at (words_of line) before now e n j j' entries numbers read' corresponds.clear says some (observes entries numbers) corresponds.observed)))
 
   -- the line is printed as a Step, and was observed after an entry
   pub ends_stepped : (n : ℕ) (line : List ℕ) (reader : Option Progress) (h h' : H) (process : ℕ) (access : Access) (before : Option Progress) (entries : List Entry) (numbers : List ℕ) → length line ≤ 128 → line ≡ spaced (entry_words (step_entry process access)) → is_entry (step_entry process access) ≡ true →
-      ((s : Setup) (entries : List Entry) (numbers : List ℕ) → HasObserved h s entries numbers → HasObserved h' s (entries ++ step_entry process access ∷ []) (numbers ++ n ∷ [])) → Stands HasObserved reader (Some h) before entries numbers → GoesOn HasObserved n line before reader (Some h') entries numbers
-  ends_stepped n line reader h h' process access before entries numbers short printed sound observes view_of =
-      by before view_of.clear view_of.observed view_of.read
+      ((s : Setup) (entries : List Entry) (numbers : List ℕ) → HasObserved h s entries numbers → HasObserved h' s (entries ++ step_entry process access ∷ []) (numbers ++ n ∷ [])) → Corresponds HasObserved reader (Some h) before entries numbers → GoesOn HasObserved n line before reader (Some h') entries numbers
+  ends_stepped n line reader h h' process access before entries numbers short printed sound observes corresponds =
+      by before corresponds.clear corresponds.observed corresponds.read
     where
       e : Entry
       e = step_entry process access
@@ -122,7 +122,7 @@ module _ {H : Type 0} (HasObserved : H → Setup → List Entry → List ℕ →
           record {
             now = Some now;
             says = short_read line (Some p) short ∙ read;
-            view_of = record {
+            corresponds = record {
               read = same ∙ sym clear ∙ ap (λ (b : Bool). Some (record p { ended = b; entry = None })) observed.0;
               clear = refl;
               observed = subst (λ (l : List ℕ). ObservesAt HasObserved (Some h') (Some (record p { ended = true; entry = None })) (entries ++ e ∷ []) (numbers ++ l)) (sym (number_of_some n line (Some p) now e read clear refl)) (refl, observes p.head.setup entries numbers observed.1);

@@ -34,8 +34,8 @@ writes_reasons a n e p stage old bad may why new of is_bad is_may is_why at is_s
     let mays = may_lines s past e.process in
     let refusal = refused_line s past e in
     let text : may ≡ (old ++ bad_lines n e) ++ mays = is_may past observed few ∙ ap (λ p. bad ++ may_lines s past p) of ∙ ap (λ (t : List ℕ). t ++ mays) is_bad in
-    let view_of : stage ≡ stage_in s past e.process = at past observed ∙ ap (stage_in s past) of in
-    is_stage ∙ ap (λ (stage : Option Stage). why ++ stage_line stage) view_of
+    let same_stage : stage ≡ stage_in s past e.process = at past observed ∙ ap (stage_in s past) of in
+    is_stage ∙ ap (λ (stage : Option Stage). why ++ stage_line stage) same_stage
     ∙ ap (λ (t : List ℕ). t ++ stage_line (stage_in s past e.process)) (is_why past observed few ∙ ap (λ (t : List ℕ). t ++ refusal) text)
     ∙ three (old ++ bad_lines n e) mays refusal (stage_line (stage_in s past e.process))
     ∙ append_assoc old (bad_lines n e) (mays ++ (refusal ++ stage_line (stage_in s past e.process)))

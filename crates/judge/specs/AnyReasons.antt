@@ -44,8 +44,8 @@ waits_from q [] = []
 waits_from q (wait ∷ waits) = wait_line q wait ++ waits_from (q + 1) waits
 
 -- the stage of the process, and the entries with its open access and its torn bit
-abbrev pub standing_lines : Reasons → List ℕ
-standing_lines r = stage_line r.stage ++ (entry_if (codes "open") r.opened ++ entry_if (codes "torn") r.torn)
+abbrev pub process_state_lines : Reasons → List ℕ
+process_state_lines r = stage_line r.stage ++ (entry_if (codes "open") r.opened ++ entry_if (codes "torn") r.torn)
 
 -- the processes that are inside or ahead, and the begin of the doorway
 abbrev pub others_lines : Reasons → List ℕ
@@ -53,7 +53,7 @@ others_lines r = inside_line r.inside ++ (waits_from 0 r.waits ++ entry_if (code
 
 -- The lines of the reasons of an entry in line n.
 abbrev pub any_reason_lines : ℕ → Entry → Reasons → List ℕ
-any_reason_lines n e r = bad_lines n e ++ (any_may_line e r.may ++ (any_refused_line r.refused ++ (standing_lines r ++ others_lines r)))
+any_reason_lines n e r = bad_lines n e ++ (any_may_line e r.may ++ (any_refused_line r.refused ++ (process_state_lines r ++ others_lines r)))
 
 -- These are the lines of the reasons of an entry that breaks this law first.
 abbrev pub AreAnyLockReasons : AnyLockLaw → Setup → Past → ℕ → Entry → List ℕ → Type 0

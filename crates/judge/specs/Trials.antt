@@ -29,7 +29,7 @@ module _ {H : Type 0} (HasObserved : H → Setup → List Entry → List ℕ →
   ObservesAt (Some h) (Some p) entries numbers = (p.ended ≡ true) × HasObserved h p.head.setup entries numbers
 
   -- this was read, its entry was taken, and these entries of the lines with these numbers were observed
-  pub record Stands (reader : Option Progress) (observer : Option H) (before : Option Progress) (entries : List Entry) (numbers : List ℕ) : Type 0 where
+  pub record Corresponds (reader : Option Progress) (observer : Option H) (before : Option Progress) (entries : List Entry) (numbers : List ℕ) : Type 0 where
     pub read : reader ≡ before
     pub clear : cleared before ≡ before
     pub observed : ObservesAt observer before entries numbers
@@ -38,7 +38,7 @@ module _ {H : Type 0} (HasObserved : H → Setup → List Entry → List ℕ →
   pub record GoesOn (n : ℕ) (line : List ℕ) (before reader : Option Progress) (observer : Option H) (entries : List Entry) (numbers : List ℕ) : Type 0 where
     pub now : Option Progress
     pub says : line_read line before ≡ Ok now
-    pub view_of : Stands reader observer (cleared now) (entries ++ entry_in now) (numbers ++ number_in n line)
+    pub corresponds : Corresponds reader observer (cleared now) (entries ++ entry_in now) (numbers ++ number_in n line)
 
   -- how the reading of a line ends
   abbrev pub LineEnds : Result (Unit {0}) FaultKind → ℕ → List ℕ → Option Progress → Option Progress → Option H → List Entry → List ℕ → Type 0

@@ -3,7 +3,7 @@ ghost use Rattle.std.specs.Prelude.{◌≡◌, ◌++◌, IfOk, OnOk, codes};
 ghost use Rattle.std.specs.String.{string_bytes};
 ghost use Rattle.any_lock.specs.{access_refusal_text, mark_refusal_text};
 ghost use Rattle.judge.specs.ReasonLines.{word_line};
-ghost use Rattle.judge.specs.AnyReasons.{entry_if, inside_line, any_may_line, others_lines, pair_line, any_reason_lines as lines_of, any_refused_line, standing_lines, wait_line, waits_from};
+ghost use Rattle.judge.specs.AnyReasons.{entry_if, inside_line, any_may_line, others_lines, pair_line, any_reason_lines as lines_of, any_refused_line, process_state_lines, wait_line, waits_from};
 
 use crate::reason_lines::{push_bad, push_entry, push_number, push_stage};
 use any_lock::{AccessRefusal, MarkRefusal, Reasons, Refused, Remedy, changed};
@@ -27,7 +27,7 @@ pub(crate) fn push_reasons(
     push_bad(alloc, number, entry, text)?;
     push_may(alloc, entry, &reasons.may, text)?;
     push_refused(alloc, &reasons.refused, text)?;
-    push_standing(alloc, reasons, text)?;
+    push_process_state(alloc, reasons, text)?;
     push_others(alloc, reasons, text)
 }
 
@@ -90,8 +90,12 @@ fn mark_text(alloc: Global, refusal: &MarkRefusal) -> Result<String, AllocError>
 
 /// Writes the stage of its process, and what that has open or torn.
 #[tactic(auto, using(crate::proofs::Texts::three))]
-fn push_standing(alloc: Global, reasons: &Reasons, text: &mut Vec<u8>) -> Result<(), AllocError>
-    ensures { OnOk result (text.new.items ≡ text.old.items ++ standing_lines reasons.now) }
+fn push_process_state(
+    alloc: Global,
+    reasons: &Reasons,
+    text: &mut Vec<u8>,
+) -> Result<(), AllocError>
+    ensures { OnOk result (text.new.items ≡ text.old.items ++ process_state_lines reasons.now) }
 {
     push_stage(alloc, reasons.stage, text)?;
     push_if(alloc, "open", reasons.opened, text)?;

@@ -3,7 +3,7 @@ ghost use Rattle.plain_store.specs.{checked};
 ghost use Rattle.model.specs.{Entry as Noted};
 ghost use Rattle.record_file.specs.{Progress};
 ghost use Rattle.judge.specs.Firsts.{HasObservedFirsts};
-ghost use Rattle.judge.specs.Trials.{GoesOn, Observes, IsObserved, LineEnds, Stands, count_in, good_in};
+ghost use Rattle.judge.specs.Trials.{GoesOn, Observes, IsObserved, LineEnds, Corresponds, count_in, good_in};
 
 use crate::entry_observers::{EntryObserver, Judging};
 use auditor::parts;
@@ -24,7 +24,7 @@ pub struct Trial<H: EntryObserver> {
 impl<H: EntryObserver> Trial<H> {
     /// Creates a trial of which no line was read.
     pub fn new(alloc: Global) -> Trial<H>
-        ensures { Stands H.HasObserved result.reader result.observer None [] [] }
+        ensures { Corresponds H.HasObserved result.reader result.observer None [] [] }
     {
         Trial {
             alloc,
@@ -42,7 +42,7 @@ impl<H: EntryObserver> Trial<H> {
         requires short { length line.now ≤ 128 }
         requires bounded { count_in H.count self.old.observer < 2 ^ 64 - 1 }
         ensures { (before : Option Progress) (entries : List Noted) (numbers : List ℕ) →
-            Stands H.HasObserved self.old.reader self.old.observer before entries numbers →
+            Corresponds H.HasObserved self.old.reader self.old.observer before entries numbers →
             LineEnds H.HasObserved result number line.now before self.new.reader self.new.observer
             entries numbers }
     {
@@ -64,7 +64,7 @@ impl<H: EntryObserver> Trial<H> {
         requires short { length line.now ≤ 128 }
         requires bounded { count_in H.count self.old.observer < 2 ^ 64 - 1 }
         ensures { (before : Option Progress) (entries : List Noted) (numbers : List ℕ) →
-            Stands (HasObservedFirsts limit H.HasObserved) self.old.reader self.old.observer before
+            Corresponds (HasObservedFirsts limit H.HasObserved) self.old.reader self.old.observer before
             entries numbers →
             LineEnds (HasObservedFirsts limit H.HasObserved) result number line.now before
             self.new.reader self.new.observer entries numbers }
@@ -93,7 +93,7 @@ impl<H: EntryObserver> Trial<H> {
         requires short { length line.now ≤ 128 }
         requires full { limit ≤ count_in H.count self.old.observer }
         ensures { (before : Option Progress) (entries : List Noted) (numbers : List ℕ) →
-            Stands (HasObservedFirsts (Some limit) H.HasObserved) self.old.reader self.old.observer
+            Corresponds (HasObservedFirsts (Some limit) H.HasObserved) self.old.reader self.old.observer
             before entries numbers →
             LineEnds (HasObservedFirsts (Some limit) H.HasObserved) result number line.now before
             self.new.reader self.new.observer entries numbers }
@@ -120,7 +120,7 @@ impl<H: EntryObserver> Trial<H> {
         ensures observed { IfOk result
             (λ observed. observed ≡ true →
             (before : Option Progress) (entries : List Noted) (numbers : List ℕ) →
-            Stands H.HasObserved self.old.reader self.old.observer before entries numbers →
+            Corresponds H.HasObserved self.old.reader self.old.observer before entries numbers →
             GoesOn H.HasObserved number line.now before self.new.reader self.new.observer entries
             numbers) }
         ensures same { IfOk result (λ observed. observed ≡ false → self.new ≡ self.old) }
@@ -140,7 +140,7 @@ impl<H: EntryObserver> Trial<H> {
         requires short { length line.now ≤ 128 }
         requires bounded { count_in H.count self.old.observer < 2 ^ 64 - 1 }
         ensures { (before : Option Progress) (entries : List Noted) (numbers : List ℕ) →
-            Stands H.HasObserved self.old.reader self.old.observer before entries numbers →
+            Corresponds H.HasObserved self.old.reader self.old.observer before entries numbers →
             LineEnds H.HasObserved result number line.now before self.new.reader self.new.observer
             entries numbers }
     {
@@ -170,7 +170,7 @@ impl<H: EntryObserver> Trial<H> {
         ensures { IfOk result
             (λ observed. (limit : Option ℕ) (before : Option Progress) (entries : List Noted)
             (numbers : List ℕ) →
-            Stands (HasObservedFirsts limit H.HasObserved) self.reader self.observer before entries
+            Corresponds (HasObservedFirsts limit H.HasObserved) self.reader self.observer before entries
             numbers →
             IsObserved (HasObservedFirsts limit H.HasObserved) observed before entries numbers) }
     {

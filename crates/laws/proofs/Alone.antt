@@ -14,7 +14,7 @@ use Rattle.model.specs.safe_number.{new_write}
 use Rattle.laws.specs.{Doing, Rests, Lies, Runs, Closes, call, runs, closes, doing, is_inside, is_inside_at}
 use Rattle.laws.proofs.Doings.{IsCut, at_rest, between, within, leaving, clearing, Step, calls, withdraws, fails, restarts, steps, closes_on}
 use Rattle.laws.proofs.Notes.{Notes, notes}
-use Rattle.laws.proofs.Invariant.{Stands, StandsAt, IsWait, wires}
+use Rattle.laws.proofs.Invariant.{Corresponds, PartCorresponds, IsWait, wires}
 use Rattle.laws.proofs.Frame.{doing-other}
 use Rattle.laws.proofs.FrameInside.{inside-is}
 use Rattle.laws.proofs.FrameCells.{EntryBy, marks_only, makes}
@@ -106,14 +106,14 @@ waits-apart held_at since from to (i, Choosing) ws j js h = refl
 waits-apart held_at since from to (i, Ticket) ws j js h = refl
 waits-apart held_at since from to _ ws j js h = absurd h
 
-version-read : (s : Setup) (p : ℕ) (c : Call) (n : Notes) (part : Part) (fresh : Bool) → StandsAt s p n part fresh → is_version (read_at c part).1 ≡ true → is_inside_at part fresh ≡ true
+version-read : (s : Setup) (p : ℕ) (c : Call) (n : Notes) (part : Part) (fresh : Bool) → PartCorresponds s p n part fresh → is_version (read_at c part).1 ≡ true → is_inside_at part fresh ≡ true
 version-read s p c n (Waits t w ws) fresh st h = absurd (true≢false (sym h ∙ waits-apart _ _ _ _ w ws st.now st.next st.wait))
 version-read s p c n (AsksCommit k ks vs) fresh st h = refl
 version-read s p c n (AsksStamp k ks vs b) fresh st h = refl
 version-read s p c n (AsksImage vs) fresh st h = refl
 version-read s p c n _ fresh st h = absurd (true≢false (sym h))
 
-pub version-at : (s : Setup) (p : ℕ) (c : Call) (n : Notes) (part : Part) (run : Run) → StandsAt s p n part (is_fresh run) → is_version (access_at c part run).field ≡ true → is_inside_at part (is_fresh run) ≡ true
+pub version-at : (s : Setup) (p : ℕ) (c : Call) (n : Notes) (part : Part) (run : Run) → PartCorresponds s p n part (is_fresh run) → is_version (access_at c part run).field ≡ true → is_inside_at part (is_fresh run) ≡ true
 version-at s p c n part (Writing w) st h = version-written c part (is_fresh (Writing w)) h
 version-at s p c n part (Reading bits begun) st h = version-read s p c n part (is_fresh (Reading bits begun)) st h
 
@@ -133,7 +133,7 @@ version-closing c command number at flick n next settles h = go at next settles
     go Ended k x = cc
 
 -- an access to a version's register is made inside
-inside-step : (s : Setup) (past : Past) (p : ℕ) (e : Entry) (d d' : Doing) (n : Notes) → Step s past p e d d' → Stands s p n (wires s past p) d → ClosesInside d → (a : Access) → e.access ≡ Some a → is_version a.field ≡ true → is_inside d ≡ true
+inside-step : (s : Setup) (past : Past) (p : ℕ) (e : Entry) (d d' : Doing) (n : Notes) → Step s past p e d d' → Corresponds s p n (wires s past p) d → ClosesInside d → (a : Access) → e.access ≡ Some a → is_version a.field ≡ true → is_inside d ≡ true
 inside-step s past p e d d' n (calls command number i none k) st cl a is h = let f : None ≡ Some a = sym none ∙ is in cc
 inside-step s past p e d d' n (withdraws command number t w ws run i none k) st cl a is h = let f : None ≡ Some a = sym none ∙ is in cc
 inside-step s past p e d d' n (fails command number x cut none k) st cl a is h = let f : None ≡ Some a = sym none ∙ is in cc
@@ -142,8 +142,8 @@ inside-step s past p e d d' n (steps command number at b flick i o acc made k) s
     let f : Some b ≡ Some a = sym acc ∙ is in
     let same : b ≡ a = cc in
     let c : Call = call s p command number in
-    let stands : Stands s p n (wires s past p) (Runs command number at) = subst (Stands s p n (wires s past p)) i st in
-    ap is_inside i ∙ version-at s p c n at.part at.run stands.1 (ap (λ (x : Access). is_version x.field) (sym made ∙ same) ∙ h)
+    let corresponds : Corresponds s p n (wires s past p) (Runs command number at) = subst (Corresponds s p n (wires s past p)) i st in
+    ap is_inside i ∙ version-at s p c n at.part at.run corresponds.1 (ap (λ (x : Access). is_version x.field) (sym made ∙ same) ∙ h)
 inside-step s past p e d d' n (closes_on command number at flick x i next acc k) st cl a is h =
     let f : Some (valued s past flick x.access) ≡ Some a = sym acc ∙ is in
     let same : valued s past flick x.access ≡ a = cc in
@@ -155,7 +155,7 @@ touched_inside s g kept events event e is a acc h =
     let past : Past = past_of s events in
     let step = step_of s g events event e is in
     inside-is s g events e.process
-    ∙ inside-step s past e.process e (doing s e.process past) (doing s e.process (e ∷ past)) (notes s e.process past) step.2 ((kept events).own e.process step.1).stands (closes_inside s g events e.process) a acc h
+    ∙ inside-step s past e.process e (doing s e.process past) (doing s e.process (e ∷ past)) (notes s e.process past) step.2 ((kept events).own e.process step.1).corresponds (closes_inside s g events e.process) a acc h
 
 pub alone : (s : Setup) → IsGood s → IsKept s → (events : List Event) (p : ℕ) → IsTrue (inside p (past_of s events)) → (j : ℕ) → IsTrue (inside j (past_of s events)) → j ≡ p
 alone s g kept events p h j k = mutual_exclusion s g kept events j p k h

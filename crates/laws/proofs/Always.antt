@@ -31,7 +31,7 @@ inv_opens s = record {
     };
     whole = record { choosing = λ e. none e; ticket_whole = λ e. none e };
     senior = record { fits = λ e. none e; positive = λ e. none e; began_before = λ e. none e; from = λ e. none e; above = λ e. none e; held = λ e. e; passed = λ e. none e };
-    stands = refl;
+    corresponds = refl;
   };
   pair = λ r o rb ob ne. record { knows = record { doorway = λ e. none e; waiting = λ e. none e; early = λ e. none e; pass = λ e. none e }; clean = tt };
 }

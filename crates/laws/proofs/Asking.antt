@@ -65,13 +65,13 @@ asks_last s g past p command number j js ts bits v touched h access last =
     let n : Notes = notes s p past in
     let value : ℕ = number_of_bits (bits ++ v ∷ []) in
     let own = own_there s past p command number (Asks j js ts) bits true h in
-    let stands : InAsking s p n j js ts = own.stands.1 in
+    let corresponds : InAsking s p n j js ts = own.corresponds.1 in
     let before : n.since < next_time past = own.past.since_past in
     let announced : n.announced_at < next_time past = own.past.announced_at_past in
     let small : value < 2 ^ s.ticket_bits = number_small s.ticket_bits (bits ++ v ∷ []) (length_push bits v ∙ last) in
     to_b_moves s g past p command number (record n { since = next_time past; asked_from = set j n.since n.asked_from; asked = set j value n.asked }) (wires s past p) touched
-    (ready_asked s past p j value n touched (ready_there s past p command number (Asks j js ts) bits true touched h access.others) stands.doorway.free before
+    (ready_asked s past p j value n touched (ready_there s past p command number (Asks j js ts) bits true touched h access.others) corresponds.doorway.free before
     (λ below other. ticket_read s past p j bits n.since v touched h.inv h.process below last access ((pair_there s past p command number (Asks j js ts) bits true h j below other).clean refl)))
-    stands.doorway (omega arith) (stands.done ++ j ∷ []) js (ts ++ value ∷ [])
-    (stands.all ∙ sym (append_assoc stands.done (j ∷ []) js))
-    (asked_more s n.announced_at j n.since value n.asked_from n.asked stands.done ts (others_before s p stands.done j js stands.all) stands.after small stands.asked_all)
+    corresponds.doorway (omega arith) (corresponds.done ++ j ∷ []) js (ts ++ value ∷ [])
+    (corresponds.all ∙ sym (append_assoc corresponds.done (j ∷ []) js))
+    (asked_more s n.announced_at j n.since value n.asked_from n.asked corresponds.done ts (others_before s p corresponds.done j js corresponds.all) corresponds.after small corresponds.asked_all)

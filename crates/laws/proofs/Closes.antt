@@ -10,7 +10,7 @@ use Rattle.model.specs.Closings as closing
 use Rattle.laws.proofs.FrameInside.{moved-unfresh}
 use Rattle.laws.specs.{Lies, call, closes, is_inside_closing}
 use Rattle.laws.proofs.Notes.{Notes, broken, field_of, breaks_announced, breaks_ticket}
-use Rattle.laws.proofs.Invariant.{Wires, Touches, StandsSettling, StandsClosing, Moves}
+use Rattle.laws.proofs.Invariant.{Wires, Touches, SettlingCorresponds, ClosingCorresponds, Moves}
 use Rattle.laws.proofs.Owner.{not_so}
 use Rattle.laws.proofs.Ready.{Ready, moves_to, rests}
 use Rattle.laws.proofs.Writing.{OneField}
@@ -80,7 +80,7 @@ lowers_on s past p command number w flick n m m' t t' r free one = go (is_last_w
     go false = closing_moves s past p command number (closing.Lowers (write_moved s.processes (false ∷ []) w)) (broken Choosing n) m' t' after free
 
 -- the breaks of a settling: a process whose unit settles a bit of its ticket holds no ticket, and is not inside
-settling_breaks : (f : Field) (is : Bool) (n : Notes) → StandsSettling f n.holds → (is ≡ true → n.holds ≡ true) → Breaks f is is n (breaks_announced f n.announced) (breaks_ticket f n.holds) n.began
+settling_breaks : (f : Field) (is : Bool) (n : Notes) → SettlingCorresponds f n.holds → (is ≡ true → n.holds ≡ true) → Breaks f is is n (breaks_announced f n.announced) (breaks_ticket f n.holds) n.began
 settling_breaks Choosing is n st held = choosing_breaks n n.began is (λ e. refl) held
 settling_breaks Ticket is n st held = record {
   announced_was = λ e. e;
@@ -97,14 +97,14 @@ settling_breaks Stamp1 is n st held = nothing_breaks Stamp1 is n (stamp_of_secti
 settling_breaks Image0 is n st held = nothing_breaks Image0 is n (image_of_section false) held
 settling_breaks Image1 is n st held = nothing_breaks Image1 is n (image_of_section true) held
 
-settling_stands : (f : Field) (n : Notes) → StandsSettling f (breaks_ticket f n.holds)
-settling_stands Choosing n = tt
-settling_stands Ticket n = refl
-settling_stands _ n = tt
+settling_corresponds : (f : Field) (n : Notes) → SettlingCorresponds f (breaks_ticket f n.holds)
+settling_corresponds Choosing n = tt
+settling_corresponds Ticket n = refl
+settling_corresponds _ n = tt
 
 -- the unit settles a bit, and then clears the ticket: the process stays inside, if it was
 settles_on : (s : Setup) (past : Past) (p : ℕ) (command : Command) (number : ℕ) (f : Field) (bit : ℕ) (begun : Bool) (taken : Option Reply) (is : Bool) (to : copies.Settling) (flick : Bool) (n : Notes) (m m' : Wires) (t t' : ℕ → ℕ → Touches) →
-    Ready s past p is n m t → StandsSettling f n.holds → OneField p f m m' t t' → Moves s past p (closes command number (closing_after (call s p command number) (Settles f bit begun taken is to) flick)) (broken f n) m' t'
+    Ready s past p is n m t → SettlingCorresponds f n.holds → OneField p f m m' t t' → Moves s past p (closes command number (closing_after (call s p command number) (Settles f bit begun taken is to) flick)) (broken f n) m' t'
 settles_on s past p command number f bit begun taken is to flick n m m' t t' r st one = go (is_last_settled c to (copies.settled_at to flick))
   where
     c : Call
@@ -119,10 +119,10 @@ settles_on s past p command number f bit begun taken is to flick n m m' t t' r s
 
     go : (b : Bool) → Moves s past p (closes command number (cond b (freeing c is) (Settles f bit begun taken is (copies.settle_after to (copies.settled_at to flick))))) (broken f n) m' t'
     go true = closing_moves s past p command number (freeing c is) (broken f n) m' t' (subst (λ b. Ready s past p b (broken f n) m' t') (still is) after) (λ e. refl)
-    go false = closing_moves s past p command number (Settles f bit begun taken is (copies.settle_after to (copies.settled_at to flick))) (broken f n) m' t' after (settling_stands f n)
+    go false = closing_moves s past p command number (Settles f bit begun taken is (copies.settle_after to (copies.settled_at to flick))) (broken f n) m' t' after (settling_corresponds f n)
 
 -- every access of a closing
-pub closing_goes_on : (s : Setup) (past : Past) (p : ℕ) (command : Command) (number : ℕ) (at : Closing) (flick : Bool) (n : Notes) (m m' : Wires) (t t' : ℕ → ℕ → Touches) → Ready s past p (is_inside_closing at) n m t → StandsClosing n.holds at →
+pub closing_goes_on : (s : Setup) (past : Past) (p : ℕ) (command : Command) (number : ℕ) (at : Closing) (flick : Bool) (n : Notes) (m m' : Wires) (t t' : ℕ → ℕ → Touches) → Ready s past p (is_inside_closing at) n m t → ClosingCorresponds n.holds at →
     OneField p (field_of at) m m' t t' → Moves s past p (closes command number (closing_after (call s p command number) at flick)) (broken (field_of at) n) m' t'
 closing_goes_on s past p command number (Withdraws w) flick n m m' t t' r st one = withdraws_on s past p command number w flick n m m' t t' r one
 closing_goes_on s past p command number (Settles f bit begun taken is to) flick n m m' t t' r st one = settles_on s past p command number f bit begun taken is to flick n m m' t t' r st one

@@ -16,7 +16,7 @@ use Rattle.laws.proofs.Frame.{Happens, a_call, a_withdrawal, a_failure, a_restar
 use Rattle.laws.proofs.FrameEvents.{accepted}
 use Rattle.laws.proofs.FrameSteps.{entry-by}
 use Rattle.laws.proofs.FrameWires.{wires-others}
-use Rattle.laws.proofs.Invariant.{Inv, Stands, StandsRun, Wires, Written, wires}
+use Rattle.laws.proofs.Invariant.{Inv, Corresponds, RunCorresponds, Wires, Written, wires}
 use Rattle.laws.proofs.Notes.{notes}
 use Rattle.laws.proofs.Ready.{unwritten}
 use Rattle.laws.proofs.Theorems.{is_process}
@@ -142,9 +142,9 @@ some_write x y h = cc
 abbrev pub WrittenSoFar : Setup → Wires → RegisterWrite → Type 0
 WrittenSoFar s m w = Written s.processes w.bits w.run m w.field
 
-run_written : (c : Call) (m : Wires) (part : Part) (run : Run) (w : RegisterWrite) → StandsRun c m part run → write_at c part run ≡ Some w → WrittenSoFar c.setup m w
-run_written c m part (Writing x) w stands h = subst (WrittenSoFar c.setup m) (some_write _ w h) stands.1
-run_written c m part (Reading bits begun) w stands h = cc
+run_written : (c : Call) (m : Wires) (part : Part) (run : Run) (w : RegisterWrite) → RunCorresponds c m part run → write_at c part run ≡ Some w → WrittenSoFar c.setup m w
+run_written c m part (Writing x) w corresponds h = subst (WrittenSoFar c.setup m) (some_write _ w h) corresponds.1
+run_written c m part (Reading bits begun) w corresponds h = cc
 
 -- in every record: the progress of the write that a process, or its memory unit, makes
 pub written_so_far : (s : Setup) → IsGood s → (events : List Event) (p : ℕ) (w : RegisterWrite) → register_write s p (doing s p (past_of s events)) ≡ Some w → WrittenSoFar s (wires s (past_of s events) p) w
@@ -160,17 +160,17 @@ written_so_far s g events p w h = go (doing s p past) refl h
     there = is_process s g events p (λ r. let f : None ≡ Some w = sym (ap (register_write s p) r) ∙ h in cc)
 
     closing : (command : Command) (number : ℕ) (at : Closing) → ClosingWritten s p m (Closes command number at) → register_write s p (Closes command number at) ≡ Some w → WrittenSoFar s m w
-    closing command number (Withdraws x) stands i = subst (WrittenSoFar s m) (some_write _ w i) stands
-    closing command number (Settles f k begun taken is t) stands i = cc
-    closing command number (Frees is x) stands i = subst (WrittenSoFar s m) (some_write _ w i) stands
-    closing command number (Lowers x) stands i = subst (WrittenSoFar s m) (some_write _ w i) stands
-    closing command number Quit stands i = cc
-    closing command number Ended stands i = cc
+    closing command number (Withdraws x) corresponds i = subst (WrittenSoFar s m) (some_write _ w i) corresponds
+    closing command number (Settles f k begun taken is t) corresponds i = cc
+    closing command number (Frees is x) corresponds i = subst (WrittenSoFar s m) (some_write _ w i) corresponds
+    closing command number (Lowers x) corresponds i = subst (WrittenSoFar s m) (some_write _ w i) corresponds
+    closing command number Quit corresponds i = cc
+    closing command number Ended corresponds i = cc
 
     go : (d : Doing) → doing s p past ≡ d → register_write s p d ≡ Some w → WrittenSoFar s m w
     go Rests does i = cc
     go Lies does i = cc
     go (Runs command number at) does i =
         let inv : Inv s past = inv_of s g events in
-        run_written (call s p command number) m at.part at.run w (subst (Stands s p (notes s p past) m) does (inv.own p there).stands).0 i
+        run_written (call s p command number) m at.part at.run w (subst (Corresponds s p (notes s p past) m) does (inv.own p there).corresponds).0 i
     go (Closes command number at) does i = closing command number at (subst (ClosingWritten s p m) does (closings_written s events g p)) i

@@ -12,7 +12,7 @@ use Rattle.model.proofs.Local.{Running, start-plain, since-plain, call-plain, co
 use Rattle.model.proofs.Marking.{spot_marks}
 use Rattle.model.proofs.OpenSteps.{place_at, leaving_at, failing_at}
 use Rattle.model.proofs.Staging.{stage-placed, no_start}
-use Rattle.model.proofs.Standing.{at_place, running_next}
+use Rattle.model.proofs.NextAccesses.{at_place, running_next}
 use Rattle.model.proofs.Ties.{Tied, tied-on, tied-marks, end-with}
 use Rattle.model.proofs.Width.{IsGood}
 use Rattle.laws.specs.{Doing, Rests, Lies, Runs, Closes, call, runs, closes, goes_on, does_after, doing}

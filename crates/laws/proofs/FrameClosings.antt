@@ -7,7 +7,7 @@ use Rattle.plain_store.specs.{Command, Setup}
 use Rattle.model.specs.declared.marks.Mark.TheVariants.{Failed, Withdrew}
 use Rattle.model.specs.declared.stages.Stage.TheVariants as stages
 use Rattle.model.specs.Closings.{Closing, Withdraws, Settles, Frees, Lowers, Quit, Ended, withdrawing, failing, closing_after, closing_stage}
-use Rattle.model.proofs.ClosingStanding.{is_unit, keeps-kind, failing-kind}
+use Rattle.model.proofs.ClosingAccesses.{is_unit, keeps-kind, failing-kind}
 use Rattle.model.proofs.Local.{start-plain, command-plain, calls-plain}
 use Rattle.model.proofs.OpenSteps.{leaving_at, failing_at, closing-same}
 use Rattle.model.proofs.Staging.{no_start}

@@ -9,9 +9,9 @@ use Rattle.model.specs.declared.marks.Mark.TheVariants.{Called, Failed, Withdrew
 use Rattle.model.specs.declared.stages.Stage.TheVariants as stages
 use Rattle.model.specs.Closings.{Closing, Withdraws, closing_stage}
 use Rattle.model.specs.Parts as part
-use Rattle.model.proofs.ClosingStanding.{withdrawn_stands}
+use Rattle.model.proofs.ClosingAccesses.{withdrawn_corresponds}
 use Rattle.model.proofs.OpenSteps.{place_at, leaving_at}
-use Rattle.model.proofs.Standing.{running_stands}
+use Rattle.model.proofs.NextAccesses.{running_corresponds}
 use Rattle.model.proofs.Width.{IsGood}
 use Rattle.model.proofs.World.{entry-accepted, entry_view, view, refused-idle}
 use Rattle.laws.specs.{Doing, Rests, Lies, Runs, Closes, doing}
@@ -98,7 +98,7 @@ event-goes s g events (event.Fail p) e h does a =
     fails (at_rest i k) = ap may_fail k
     fails (lying i k) = let f : refused_at (event.Fail p) stages.Down ≡ None = ap (refused_at (event.Fail p)) (sym i) ∙ h in cc
     fails (running command b r k) = ap may_fail k
-    fails (leaving b i k) = ap may_fail k ∙ leaving-fails (last_command (own p (past_of s events))) (call_number s (own p (past_of s events))) (leaving_at s p (own p (past_of s events))) (withdrawn_stands s g events p b i).0
+    fails (leaving b i k) = ap may_fail k ∙ leaving-fails (last_command (own p (past_of s events))) (call_number s (own p (past_of s events))) (leaving_at s p (own p (past_of s events))) (withdrawn_corresponds s g events p b i).0
     fails (settling b i k) = let f : refused_at (event.Fail p) stages.Settling ≡ None = ap (refused_at (event.Fail p)) (sym i) ∙ h in cc
 event-goes s g events (event.Withdraw p) e h does a =
     let past : Past = past_of s events in
@@ -122,7 +122,7 @@ event-goes s g events (event.Withdraw p) e h does a =
     waits (lying i k) = let q : stages.Waiting ≡ stages.Down = sym f ∙ i in cc
     waits (running command b r k) =
         let at : Place = place_at s p mine in
-        let w = waits-part at.part _ (sym (running_stands s g events p command b r).1 ∙ f) in
+        let w = waits-part at.part _ (sym (running_corresponds s g events p command b r).1 ∙ f) in
         a_withdrawal (last_command mine) (call_number s mine) w.0 w.1 w.2 at.run (k ∙ ap (Runs (last_command mine) (call_number s mine)) (same-place at (Waits w.0 w.1 w.2) w.3)) refl refl refl
     waits (leaving b i k) = let q : stages.Waiting ≡ stages.Leaving = sym f ∙ i in cc
     waits (settling b i k) = let q : stages.Waiting ≡ stages.Settling = sym f ∙ i in cc

@@ -10,8 +10,8 @@ use Rattle.plain_store.specs.{Command, Contents, Reply, Setup, changes}
 use Rattle.model.specs.declared.marks.Mark.TheVariants.{Taken, Left, Answered, Settled, Down}
 use Rattle.model.specs.Closings.{Closing, Withdraws, Settles, Frees, Lowers, Quit, Ended, no_ticket, is_unwritten, is_last_written, is_last_settled, freeing, settling_from, failing, closing_next, closing_after, settled_marks}
 use Rattle.model.specs.Parts as part
-use Rattle.model.proofs.ClosingStanding.{withdrawn_stands, unit_stands}
-use Rattle.model.proofs.Standing.{running_stands}
+use Rattle.model.proofs.ClosingAccesses.{withdrawn_corresponds, unit_corresponds}
+use Rattle.model.proofs.NextAccesses.{running_corresponds}
 use Rattle.model.proofs.Turns.{and_false, and_true}
 use Rattle.model.proofs.Width.{IsGood}
 use Rattle.model.proofs.CutRecords.{inside-own}
@@ -30,9 +30,9 @@ stage-is s g events p = go (does_all s g events p)
     go : Does s p (own p past) (stage p past) (doing s p past) → stage p past ≡ stage_of (doing s p past)
     go (at_rest i d) = i ∙ ap stage_of (sym d)
     go (lying i d) = i ∙ ap stage_of (sym d)
-    go (running command b r d) = (running_stands s g events p command b r).1 ∙ ap stage_of (sym d)
-    go (leaving b i d) = i ∙ sym (withdrawn_stands s g events p b i).0 ∙ ap stage_of (sym d)
-    go (settling b i d) = i ∙ sym (unit_stands s g events p b i).0 ∙ ap stage_of (sym d)
+    go (running command b r d) = (running_corresponds s g events p command b r).1 ∙ ap stage_of (sym d)
+    go (leaving b i d) = i ∙ sym (withdrawn_corresponds s g events p b i).0 ∙ ap stage_of (sym d)
+    go (settling b i d) = i ∙ sym (unit_corresponds s g events p b i).0 ∙ ap stage_of (sym d)
 
 -- Marks lead to whether it is inside.
 

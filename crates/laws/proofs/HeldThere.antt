@@ -20,13 +20,13 @@ use Rattle.laws.proofs.FrameCuts.{LeftClosing, LeftIn, last-made, remaining}
 use Rattle.laws.proofs.FrameEvents.{Accepted, accepted}
 use Rattle.laws.proofs.FrameSteps.{remaining-is}
 use Rattle.laws.proofs.HeldOwners.{OwnersAt, OwnersThere, owner-there, owners_there}
-use Rattle.laws.proofs.Invariant.{Stands, StandsRun, Wires, wires}
+use Rattle.laws.proofs.Invariant.{Corresponds, RunCorresponds, Wires, wires}
 use Rattle.laws.proofs.Notes.{Notes, notes}
 
 -- At a place.
 
 place-there : (s : Setup) (p : ℕ) (command : Command) (number : ℕ) (part : Part) (run : Run) (m : Wires) → p < s.processes → is_over part ≡ false → OwnersThere s.processes part →
-    StandsRun (call s p command number) m part run → IsThere s (access_at (call s p command number) part run)
+    RunCorresponds (call s p command number) m part run → IsThere s (access_at (call s p command number) part run)
 place-there s p command number part (Writing w) m below o owners st =
     let c : Call = call s p command number in
     let made : (bit_written (written_at c part).1 w).made < 2 * s.processes = st.1.made in
@@ -77,7 +77,7 @@ closing-there s p command number at flick n torn below next settles l = subst (I
 
 -- Each access, by what its process does.
 happens-there : (s : Setup) (past : Past) (p : ℕ) (e : Entry) (d d' : Doing) (n : Notes) (m : Wires) (torn : Option Access) → Happens s past p e d d' → p < s.processes →
-    AtPlace (OwnersAt s) d → Stands s p n m d → LeftIn s p torn d → ClosesThere s d → (a : Access) → e.access ≡ Some a → IsThere s a
+    AtPlace (OwnersAt s) d → Corresponds s p n m d → LeftIn s p torn d → ClosesThere s d → (a : Access) → e.access ≡ Some a → IsThere s a
 happens-there s past p e d d' n m torn (a_call command number was none marks then) below owners st l cl a h = let f : None ≡ Some a = sym none ∙ h in cc
 happens-there s past p e d d' n m torn (a_withdrawal command number t w ws run was none marks then) below owners st l cl a h = let f : None ≡ Some a = sym none ∙ h in cc
 happens-there s past p e d d' n m torn (a_failure command number may none marks then) below owners st l cl a h = let f : None ≡ Some a = sym none ∙ h in cc
@@ -86,8 +86,8 @@ happens-there s past p e d d' n m torn (a_step command number at x flick was ove
     let f : Some x ≡ Some a = sym access ∙ h in
     let same : x ≡ a = cc in
     let c : Call = call s p command number in
-    let stands : Stands s p n m (Runs command number at) = subst (Stands s p n m) was st in
-    let there : IsThere s (access_at c at.part at.run) = place-there s p command number at.part at.run m below over (subst (AtPlace (OwnersAt s)) was owners) stands.0 in
+    let corresponds : Corresponds s p n m (Runs command number at) = subst (Corresponds s p n m) was st in
+    let there : IsThere s (access_at c at.part at.run) = place-there s p command number at.part at.run m below over (subst (AtPlace (OwnersAt s)) was owners) corresponds.0 in
     subst (IsThere s) (sym is ∙ same) (record { owner = there.owner; reader = there.reader; bit = there.bit })
 happens-there s past p e d d' n m torn (a_closing command number at flick x was next access made marks then) below owners st l cl a h =
     let f : Some x.access ≡ Some a = sym access ∙ h in
@@ -186,7 +186,7 @@ entry-there s g events event e is cl a h =
     let past : Past = past_of s events in
     let acc : Accepted s past event e = accepted s g events event e is in
     happens-there s past e.process e (doing s e.process past) (doing s e.process (e ∷ past)) (notes s e.process past) (wires s past e.process) (remaining s (own e.process past)) acc.happens acc.below
-    (owners_there s g events e.process) ((inv_of s g events).own e.process acc.below).stands (remaining-is s g events e.process) cl a h
+    (owners_there s g events e.process) ((inv_of s g events).own e.process acc.below).corresponds (remaining-is s g events e.process) cl a h
 
 closings_there : (s : Setup) → IsGood s → (events : List Event) (p : ℕ) → LastThere s (own p (past_of s events)) × ClosesThere s (doing s p (past_of s events))
 closings_there s g = own-induction s (λ (past : Past) (p : ℕ). LastThere s (own p past) × ClosesThere s (doing s p past)) (λ p. ((λ a h. cc), tt))

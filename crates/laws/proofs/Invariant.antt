@@ -100,9 +100,9 @@ pub record Written (n : ℕ) (bits : List Bool) (w : NumberWrite) (m : Field →
   pub begun : (bit_written bits w).made % 2 ≡ 1 → (m f w.bit ((bit_written bits w).made / 2)).value ≡ bit bits w.bit
 
 -- the progress of a number access
-abbrev pub StandsRun : Call → Wires → Part → Run → Type 0
-StandsRun c m part (Writing w) = (is_read part ≡ false) × Written c.setup.processes (written_at c part).1 w m (written_at c part).0
-StandsRun c m part (Reading bits begun) = (is_read part ≡ true) × (length bits < width c.setup (read_at c part).1)
+abbrev pub RunCorresponds : Call → Wires → Part → Run → Type 0
+RunCorresponds c m part (Writing w) = (is_read part ≡ false) × Written c.setup.processes (written_at c part).1 w m (written_at c part).0
+RunCorresponds c m part (Reading bits begun) = (is_read part ≡ true) × (length bits < width c.setup (read_at c part).1)
 
 -- in its doorway, before it writes its ticket
 pub record InDoorway (announced holds : Bool) (announced_at began : ℕ) : Type 0 where
@@ -155,48 +155,48 @@ pub record InAsking (s : Setup) (p : ℕ) (n : Notes) (j : ℕ) (js ts : List �
   pub asked_all : Asked s n.announced_at n.asked_from n.asked done ts
 
 -- the knowledge of p at a part of its call; fresh: no access of it is made
-abbrev pub StandsAt : (s : Setup) (p : ℕ) → Notes → Part → (fresh : Bool) → Type 0
-StandsAt s p n Raises fresh = n.holds ≡ false
-StandsAt s p n (Asks j js ts) fresh = InAsking s p n j js ts
-StandsAt s p n (TakesTicket t) fresh = IsInDoorway n × ((ts : List ℕ) × Asked s n.announced_at n.asked_from n.asked (others s p) ts × (t ≡ greatest ts + 1) × (t < 2 ^ s.ticket_bits))
-StandsAt s p n (Lowers t) fresh = (n.holds ≡ true) × (n.ticket ≡ t) × (n.held_at ≤ n.since)
-StandsAt s p n (Refuses f) fresh = n.holds ≡ false
-StandsAt s p n (Waits t w ws) fresh = InWaiting s p n t w ws
-StandsAt s p n (AsksCommit k ks vs) fresh = Unit {0}
-StandsAt s p n (AsksStamp k ks vs b) fresh = Unit {0}
-StandsAt s p n (AsksImage vs) fresh = Unit {0}
-StandsAt s p n (WritesImage vs st) fresh = Unit {0}
-StandsAt s p n (WritesStamp vs st) fresh = Unit {0}
-StandsAt s p n (WritesCommit vs st) fresh = Unit {0}
-StandsAt s p n (Clears a) fresh = fresh ≡ false → n.holds ≡ false
-StandsAt s p n Over fresh = ⊥
+abbrev pub PartCorresponds : (s : Setup) (p : ℕ) → Notes → Part → (fresh : Bool) → Type 0
+PartCorresponds s p n Raises fresh = n.holds ≡ false
+PartCorresponds s p n (Asks j js ts) fresh = InAsking s p n j js ts
+PartCorresponds s p n (TakesTicket t) fresh = IsInDoorway n × ((ts : List ℕ) × Asked s n.announced_at n.asked_from n.asked (others s p) ts × (t ≡ greatest ts + 1) × (t < 2 ^ s.ticket_bits))
+PartCorresponds s p n (Lowers t) fresh = (n.holds ≡ true) × (n.ticket ≡ t) × (n.held_at ≤ n.since)
+PartCorresponds s p n (Refuses f) fresh = n.holds ≡ false
+PartCorresponds s p n (Waits t w ws) fresh = InWaiting s p n t w ws
+PartCorresponds s p n (AsksCommit k ks vs) fresh = Unit {0}
+PartCorresponds s p n (AsksStamp k ks vs b) fresh = Unit {0}
+PartCorresponds s p n (AsksImage vs) fresh = Unit {0}
+PartCorresponds s p n (WritesImage vs st) fresh = Unit {0}
+PartCorresponds s p n (WritesStamp vs st) fresh = Unit {0}
+PartCorresponds s p n (WritesCommit vs st) fresh = Unit {0}
+PartCorresponds s p n (Clears a) fresh = fresh ≡ false → n.holds ≡ false
+PartCorresponds s p n Over fresh = ⊥
 
 -- a ticket bit is settled only of a ticket that is not held
-abbrev pub StandsSettling : Field → Bool → Type 0
-StandsSettling Ticket holds = holds ≡ false
-StandsSettling _ holds = Unit {0}
+abbrev pub SettlingCorresponds : Field → Bool → Type 0
+SettlingCorresponds Ticket holds = holds ≡ false
+SettlingCorresponds _ holds = Unit {0}
 
 -- the knowledge of p or its unit in a closing: a held ticket is untouched until its clearing begins
-abbrev pub StandsClosing : (holds : Bool) → Closing → Type 0
-StandsClosing holds (Withdraws w) = holds ≡ true → is_unwritten w ≡ true
-StandsClosing holds (Settles f bit begun taken is t) = StandsSettling f holds
-StandsClosing holds (Frees is w) = holds ≡ true → is_unwritten w ≡ true
-StandsClosing holds (closing.Lowers w) = holds ≡ false
-StandsClosing holds Quit = ⊥
-StandsClosing holds Ended = ⊥
+abbrev pub ClosingCorresponds : (holds : Bool) → Closing → Type 0
+ClosingCorresponds holds (Withdraws w) = holds ≡ true → is_unwritten w ≡ true
+ClosingCorresponds holds (Settles f bit begun taken is t) = SettlingCorresponds f holds
+ClosingCorresponds holds (Frees is w) = holds ≡ true → is_unwritten w ≡ true
+ClosingCorresponds holds (closing.Lowers w) = holds ≡ false
+ClosingCorresponds holds Quit = ⊥
+ClosingCorresponds holds Ended = ⊥
 
-abbrev pub Stands : (s : Setup) (p : ℕ) → Notes → Wires → Doing → Type 0
-Stands s p n m Rests = n.holds ≡ false
-Stands s p n m Lies = n.holds ≡ false
-Stands s p n m (Runs command number at) = StandsRun (call s p command number) m at.part at.run × StandsAt s p n at.part (is_fresh at.run)
-Stands s p n m (Closes command number at) = StandsClosing n.holds at
+abbrev pub Corresponds : (s : Setup) (p : ℕ) → Notes → Wires → Doing → Type 0
+Corresponds s p n m Rests = n.holds ≡ false
+Corresponds s p n m Lies = n.holds ≡ false
+Corresponds s p n m (Runs command number at) = RunCorresponds (call s p command number) m at.part at.run × PartCorresponds s p n at.part (is_fresh at.run)
+Corresponds s p n m (Closes command number at) = ClosingCorresponds n.holds at
 
 -- the own part of p
 pub record Own (s : Setup) (p now : ℕ) (d : Doing) (n : Notes) (m : Wires) : Type 0 where
   pub past : IsPast now n.announced_at n.held_at n.began n.ended n.since n.choosing_from n.asked_from n.let_from
   pub whole : Whole s n.announced n.holds n.ticket m
   pub senior : Senior s p n.holds (is_inside d) n.ticket n.announced_at n.held_at n.began n.choosing_from n.choosing_to n.asked_from n.asked n.let_from n.let_by
-  pub stands : Stands s p n m d
+  pub corresponds : Corresponds s p n m d
 
 -- Pair part, of a reader r and an owner o.
 

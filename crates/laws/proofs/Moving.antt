@@ -36,7 +36,7 @@ past_later now announced_at held_at began ended since choosing_from asked_from l
 }
 
 pub own_later : (s : Setup) (p now : ℕ) (d : Doing) (n : Notes) (m : Wires) → Own s p now d n m → Own s p (suc now) d n m
-own_later s p now d n m h = record { past = past_later _ _ _ _ _ _ _ _ _ h.past; whole = h.whole; senior = h.senior; stands = h.stands }
+own_later s p now d n m h = record { past = past_later _ _ _ _ _ _ _ _ _ h.past; whole = h.whole; senior = h.senior; corresponds = h.corresponds }
 
 -- the own part, and the pair part, of equal states, notes and registers
 own_same : (s : Setup) (p now : ℕ) (d d' : Doing) (n n' : Notes) (m m' : Wires) → d' ≡ d → n' ≡ n → m' ≡ m → Own s p now d n m → Own s p now d' n' m'

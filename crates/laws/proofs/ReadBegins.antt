@@ -31,9 +31,9 @@ pub asks_begins : (s : Setup) (past : Past) (p : ℕ) (command : Command) (numbe
     Moves s past p (reads command number (Asks j js ts) bits true) (notes s p past) (wires s past p) touched
 asks_begins s past p command number j js ts bits v touched h access =
     let own = own_there s past p command number (Asks j js ts) bits false h in
-    reads_on s past p command number (Asks j js ts) bits bits false true touched h refl own.stands.1 own.stands.0.1
+    reads_on s past p command number (Asks j js ts) bits bits false true touched h refl own.corresponds.1 own.corresponds.0.1
     (λ o small other.
-    ticket_begins s past p j o bits (notes s p past).since v touched h.inv h.process small own.stands.0.1 access (pair_there s past p command number (Asks j js ts) bits false h o small other).clean)
+    ticket_begins s past p j o bits (notes s p past).since v touched h.inv h.process small own.corresponds.0.1 access (pair_there s past p command number (Asks j js ts) bits false h o small other).clean)
     access.others
 
 -- the begin of a bit of a ticket that is waited for
@@ -42,9 +42,9 @@ pub wait_ticket_begins : (s : Setup) (past : Past) (p : ℕ) (command : Command)
     Moves s past p (reads command number (Waits t (j, Ticket) ws) bits true) (notes s p past) (wires s past p) touched
 wait_ticket_begins s past p command number t j ws bits v touched h access =
     let own = own_there s past p command number (Waits t (j, Ticket) ws) bits false h in
-    reads_on s past p command number (Waits t (j, Ticket) ws) bits bits false true touched h refl own.stands.1 own.stands.0.1
+    reads_on s past p command number (Waits t (j, Ticket) ws) bits bits false true touched h refl own.corresponds.1 own.corresponds.0.1
     (λ o small other.
-    ticket_begins s past p j o bits (notes s p past).since v touched h.inv h.process small own.stands.0.1 access (pair_there s past p command number (Waits t (j, Ticket) ws) bits false h o small other).clean)
+    ticket_begins s past p j o bits (notes s p past).since v touched h.inv h.process small own.corresponds.0.1 access (pair_there s past p command number (Waits t (j, Ticket) ws) bits false h o small other).clean)
     access.others
 
 -- the begin of a read of choosing
@@ -53,6 +53,6 @@ pub wait_choosing_begins : (s : Setup) (past : Past) (p : ℕ) (command : Comman
     Moves s past p (reads command number (Waits t (j, Choosing) ws) bits true) (notes s p past) (wires s past p) touched
 wait_choosing_begins s past p command number t j ws bits v touched h access =
     let own = own_there s past p command number (Waits t (j, Choosing) ws) bits false h in
-    reads_on s past p command number (Waits t (j, Choosing) ws) bits bits false true touched h refl own.stands.1 own.stands.0.1
-    (λ o small other. choosing_begins s past p j o bits (notes s p past).since v touched h.inv h.process small own.stands.0.1 access)
+    reads_on s past p command number (Waits t (j, Choosing) ws) bits bits false true touched h refl own.corresponds.1 own.corresponds.0.1
+    (λ o small other. choosing_begins s past p j o bits (notes s p past).since v touched h.inv h.process small own.corresponds.0.1 access)
     access.others

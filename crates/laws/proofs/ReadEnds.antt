@@ -33,7 +33,7 @@ read_ends s past p command number part bits v touched h last more =
     (λ e. last (eqb-true (length bits + 1) wide e))
     (λ e.
     let other : length bits + 1 ≡ wide → ⊥ = eqb-false (length bits + 1) wide e in
-    let below : length bits < wide = (own_there s past p command number part bits true h).stands.0.1 in
+    let below : length bits < wide = (own_there s past p command number part bits true h).corresponds.0.1 in
     more (omega (arith, length_push bits v)))
   where
     wide : ℕ
@@ -55,9 +55,9 @@ pub asks_on : (s : Setup) (past : Past) (p : ℕ) (command : Command) (number j 
     Moves s past p (reads command number (Asks j js ts) (bits ++ v ∷ []) false) (notes s p past) (wires s past p) touched
 asks_on s past p command number j js ts bits v touched h access more =
     let own = own_there s past p command number (Asks j js ts) bits true h in
-    reads_on s past p command number (Asks j js ts) bits (bits ++ v ∷ []) true false touched h refl own.stands.1 more
+    reads_on s past p command number (Asks j js ts) bits (bits ++ v ∷ []) true false touched h refl own.corresponds.1 more
     (λ o small other.
-    ticket_goes_on s past p j o bits (notes s p past).since v touched h.inv h.process small own.stands.0.1 access (pair_there s past p command number (Asks j js ts) bits true h o small other).clean)
+    ticket_goes_on s past p j o bits (notes s p past).since v touched h.inv h.process small own.corresponds.0.1 access (pair_there s past p command number (Asks j js ts) bits true h o small other).clean)
     access.others
 
 -- a bit of a ticket that is waited for
@@ -66,7 +66,7 @@ pub wait_ticket_on : (s : Setup) (past : Past) (p : ℕ) (command : Command) (nu
     Moves s past p (reads command number (Waits t (j, Ticket) ws) (bits ++ v ∷ []) false) (notes s p past) (wires s past p) touched
 wait_ticket_on s past p command number t j ws bits v touched h access more =
     let own = own_there s past p command number (Waits t (j, Ticket) ws) bits true h in
-    reads_on s past p command number (Waits t (j, Ticket) ws) bits (bits ++ v ∷ []) true false touched h refl own.stands.1 more
+    reads_on s past p command number (Waits t (j, Ticket) ws) bits (bits ++ v ∷ []) true false touched h refl own.corresponds.1 more
     (λ o small other.
-    ticket_goes_on s past p j o bits (notes s p past).since v touched h.inv h.process small own.stands.0.1 access (pair_there s past p command number (Waits t (j, Ticket) ws) bits true h o small other).clean)
+    ticket_goes_on s past p j o bits (notes s p past).since v touched h.inv h.process small own.corresponds.0.1 access (pair_there s past p command number (Waits t (j, Ticket) ws) bits true h o small other).clean)
     access.others

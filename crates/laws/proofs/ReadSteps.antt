@@ -12,7 +12,7 @@ use Rattle.laws.proofs.Asking.{asks_last}
 use Rattle.laws.specs.{Runs, call, doing, runs}
 use Rattle.laws.proofs.Frame.{notes-goes}
 use Rattle.laws.proofs.FrameWires.{touches-begun, touches-readers, wires-read}
-use Rattle.laws.proofs.Invariant.{InWaiting, Inv, Moves, Stands, Touches, next_time, touches, wires}
+use Rattle.laws.proofs.Invariant.{InWaiting, Inv, Moves, Corresponds, Touches, next_time, touches, wires}
 use Rattle.laws.proofs.Moving.{all_move}
 use Rattle.laws.proofs.Next.{to_e_moves, to_g_moves}
 use Rattle.laws.proofs.Notes.{Notes, noted, notes, notes_after, set, turned}
@@ -42,7 +42,7 @@ asks_steps s g past p command number j js ts bits true v touched h access =
 
 -- the knowledge of p there
 in_waiting : (s : Setup) (past : Past) (p : ℕ) (command : Command) (number t : ℕ) (w : Wait) (ws : List Wait) (bits : List Bool) (begun : Bool) → AtRead s past p command number (Waits t w ws) bits begun → InWaiting s p (notes s p past) t w ws
-in_waiting s past p command number t w ws bits begun h = (own_there s past p command number (Waits t w ws) bits begun h).stands.1
+in_waiting s past p command number t w ws bits begun h = (own_there s past p command number (Waits t w ws) bits begun h).corresponds.1
 
 -- a read of choosing, which has one bit
 choosing_steps : (s : Setup) → IsGood s → (past : Past) (p : ℕ) (command : Command) (number t j : ℕ) (ws : List Wait) (bits : List Bool) (begun v : Bool) (touched : ℕ → ℕ → Touches) →
@@ -51,7 +51,7 @@ choosing_steps s g past p command number t j ws bits false v touched h access = 
 choosing_steps s g past p command number t j ws [] true true touched h access = choosing_again s g past p command number t j ws touched h access
 choosing_steps s g past p command number t j ws [] true false touched h access = choosing_passed s g past p command number t j ws touched h access
 choosing_steps s g past p command number t j ws (b ∷ bits) true v touched h access =
-    let below : suc (length bits) < 1 = (own_there s past p command number (Waits t (j, Choosing) ws) (b ∷ bits) true h).stands.0.1 in absurd (omega arith)
+    let below : suc (length bits) < 1 = (own_there s past p command number (Waits t (j, Choosing) ws) (b ∷ bits) true h).corresponds.0.1 in absurd (omega arith)
 
 -- the last end of a read of a ticket: it lets by, or not
 ticket_ends : (s : Setup) → IsGood s → (past : Past) (p : ℕ) (command : Command) (number t j : ℕ) (ws : List Wait) (bits : List Bool) (v : Bool) (touched : ℕ → ℕ → Touches) →
@@ -87,7 +87,7 @@ waits_steps s g past p command number t (j, _) ws bits begun v touched h access 
 commit_steps : (s : Setup) → IsGood s → (past : Past) (p : ℕ) (command : Command) (number k : ℕ) (ks : List ℕ) (vs : List Version) (bits : List Bool) (begun v : Bool) (touched : ℕ → ℕ → Touches) →
     AtRead s past p command number (AsksCommit k ks vs) bits begun → ((r : ℕ) → r ≢ p → touched p r ≡ touches s past p r) → Steps s past p command number (AsksCommit k ks vs) (Reading bits begun) v touched
 commit_steps s g past p command number k ks vs bits false v touched h kept =
-    reads_on s past p command number (AsksCommit k ks vs) bits bits false true touched h refl tt (own_there s past p command number (AsksCommit k ks vs) bits false h).stands.0.1 (λ o below other. tt) kept
+    reads_on s past p command number (AsksCommit k ks vs) bits bits false true touched h refl tt (own_there s past p command number (AsksCommit k ks vs) bits false h).corresponds.0.1 (λ o below other. tt) kept
 commit_steps s g past p command number k ks vs bits true v touched h kept =
     read_ends s past p command number (AsksCommit k ks vs) bits v touched h
     (λ last.
@@ -99,7 +99,7 @@ commit_steps s g past p command number k ks vs bits true v touched h kept =
 stamp_steps : (s : Setup) → IsGood s → (past : Past) (p : ℕ) (command : Command) (number k : ℕ) (ks : List ℕ) (vs : List Version) (commit : Bool) (bits : List Bool) (begun v : Bool) (touched : ℕ → ℕ → Touches) →
     AtRead s past p command number (AsksStamp k ks vs commit) bits begun → ((r : ℕ) → r ≢ p → touched p r ≡ touches s past p r) → Steps s past p command number (AsksStamp k ks vs commit) (Reading bits begun) v touched
 stamp_steps s g past p command number k ks vs commit bits false v touched h kept =
-    reads_on s past p command number (AsksStamp k ks vs commit) bits bits false true touched h refl tt (own_there s past p command number (AsksStamp k ks vs commit) bits false h).stands.0.1 (λ o below other. tt) kept
+    reads_on s past p command number (AsksStamp k ks vs commit) bits bits false true touched h refl tt (own_there s past p command number (AsksStamp k ks vs commit) bits false h).corresponds.0.1 (λ o below other. tt) kept
 stamp_steps s g past p command number k ks vs commit bits true v touched h kept =
     read_ends s past p command number (AsksStamp k ks vs commit) bits v touched h
     (λ last.
@@ -112,7 +112,7 @@ stamp_steps s g past p command number k ks vs commit bits true v touched h kept 
 image_steps : (s : Setup) → IsGood s → (past : Past) (p : ℕ) (command : Command) (number : ℕ) (vs : List Version) (bits : List Bool) (begun v : Bool) (touched : ℕ → ℕ → Touches) →
     AtRead s past p command number (AsksImage vs) bits begun → ((r : ℕ) → r ≢ p → touched p r ≡ touches s past p r) → Steps s past p command number (AsksImage vs) (Reading bits begun) v touched
 image_steps s g past p command number vs bits false v touched h kept =
-    reads_on s past p command number (AsksImage vs) bits bits false true touched h refl tt (own_there s past p command number (AsksImage vs) bits false h).stands.0.1 (λ o below other. tt) kept
+    reads_on s past p command number (AsksImage vs) bits bits false true touched h refl tt (own_there s past p command number (AsksImage vs) bits false h).corresponds.0.1 (λ o below other. tt) kept
 image_steps s g past p command number vs bits true v touched h kept =
     read_ends s past p command number (AsksImage vs) bits v touched h
     (λ last.
@@ -125,7 +125,7 @@ image_steps s g past p command number vs bits true v touched h kept =
 
 -- a part that writes doesn't read
 not_reading : {X : Type 0} (s : Setup) (past : Past) (p : ℕ) (command : Command) (number : ℕ) (part : Part) (bits : List Bool) (begun : Bool) → AtRead s past p command number part bits begun → is_read part ≡ false → X
-not_reading s past p command number part bits begun h writes = absurd (false≢true (sym writes ∙ (own_there s past p command number part bits begun h).stands.0.0))
+not_reading s past p command number part bits begun h writes = absurd (false≢true (sym writes ∙ (own_there s past p command number part bits begun h).corresponds.0.0))
 
 -- an access of a read is a move that keeps what it has to
 pub read_moves : (s : Setup) → IsGood s → (past : Past) (p : ℕ) (command : Command) (number : ℕ) (part : Part) (bits : List Bool) (begun v : Bool) (touched : ℕ → ℕ → Touches) →
@@ -183,6 +183,6 @@ read_keeps s past p e command number part (Reading bits begun) flick h reading a
     (read_moves s h.good past p command number part bits begun (value_of a.how) (touches s (e ∷ past)) (record { inv = h.inv; process = h.below; is = h.does })
     (entry_reads s past p e command number part bits begun flick truly access))
 read_keeps s past p e command number part (Writing w) flick h reading access truly does =
-    let stands : Stands s p (notes s p past) (wires s past p) (Runs command number (record { part = part; run = Writing w })) =
-    subst (λ d. Stands s p (notes s p past) (wires s past p) d) h.does (h.inv.own p h.below).stands in
-    absurd (false≢true (sym stands.0.0 ∙ reading))
+    let corresponds : Corresponds s p (notes s p past) (wires s past p) (Runs command number (record { part = part; run = Writing w })) =
+    subst (λ d. Corresponds s p (notes s p past) (wires s past p) d) h.does (h.inv.own p h.below).corresponds in
+    absurd (false≢true (sym corresponds.0.0 ∙ reading))

@@ -8,7 +8,7 @@ use Rattle.model.specs.safe_number.{number_of_bits}
 use Rattle.plain_store.specs.{Command, Setup}
 use Rattle.laws.proofs.Bits.{AreBitsOf, number_read, one_more_bit}
 use Rattle.laws.specs.{Doing, Runs, call, doing, is_inside_at}
-use Rattle.laws.proofs.Invariant.{CleanChoosing, CleanRun, CleanTicket, Closed, Inv, Moves, Own, Pair, StandsAt, Touches, next_time, ticket_of, touches, wires}
+use Rattle.laws.proofs.Invariant.{CleanChoosing, CleanRun, CleanTicket, Closed, Inv, Moves, Own, Pair, PartCorresponds, Touches, next_time, ticket_of, touches, wires}
 use Rattle.laws.proofs.Moving.{past_later}
 use Rattle.laws.proofs.Notes.{notes}
 use Rattle.laws.proofs.Ready.{Ready, moves_to}
@@ -51,15 +51,15 @@ ready_there s past p command number part bits begun touched h kept =
 pub reads_on : (s : Setup) (past : Past) (p : ℕ) (command : Command) (number : ℕ) (part : Part) (bits bits' : List Bool) (begun begun' : Bool) (touched : ℕ → ℕ → Touches) →
     AtRead s past p command number part bits begun →
     is_inside_at part (is_fresh (Reading bits begun)) ≡ is_inside_at part (is_fresh (Reading bits' begun')) →
-    StandsAt s p (notes s p past) part (is_fresh (Reading bits' begun')) →
+    PartCorresponds s p (notes s p past) part (is_fresh (Reading bits' begun')) →
     length bits' < width s (read_at (call s p command number) part).1 →
     ((o : ℕ) → o < s.processes → o ≢ p → CleanRun s o part (Reading bits' begun') (notes s p past).since (notes s o past) (touched o p)) →
     ((r : ℕ) → r ≢ p → touched p r ≡ touches s past p r) →
     Moves s past p (reads command number part bits' begun') (notes s p past) (wires s past p) touched
-reads_on s past p command number part bits bits' begun begun' touched h inside stands below clean kept =
+reads_on s past p command number part bits bits' begun begun' touched h inside corresponds below clean kept =
     moves_to s past p (reads command number part bits' begun') (notes s p past) (wires s past p) touched
     (subst (λ is. Ready s past p is (notes s p past) (wires s past p) touched) inside (ready_there s past p command number part bits begun touched h kept))
-    (((own_there s past p command number part bits begun h).stands.0.0, below), stands) clean
+    (((own_there s past p command number part bits begun h).corresponds.0.0, below), corresponds) clean
 
 -- the one bit of an announcement that is whole
 pub only_copy : (s : Setup) (past : Past) (p o k : ℕ) → Inv s past → p < s.processes → o < s.processes → k < 1 → (notes s o past).announced ≡ true → Closed (wires s past o Choosing k p) true

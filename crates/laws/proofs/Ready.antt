@@ -10,7 +10,7 @@ use Rattle.model.proofs.Width.{IsGood, width-pos}
 use Rattle.laws.specs.{Doing, Rests, Runs, call, runs, doing, is_inside, is_inside_at}
 use Rattle.laws.proofs.FrameInside.{enter-fresh}
 use Rattle.laws.proofs.Notes.{Notes, notes, turned}
-use Rattle.laws.proofs.Invariant.{Wires, wires, Touches, touches, IsPast, Whole, Senior, Before, Written, StandsRun, StandsAt, Stands, DoesKnow, CleanWait, CleanRun, Clean, Pair, Inv, Moves, next_time}
+use Rattle.laws.proofs.Invariant.{Wires, wires, Touches, touches, IsPast, Whole, Senior, Before, Written, RunCorresponds, PartCorresponds, Corresponds, DoesKnow, CleanWait, CleanRun, Clean, Pair, Inv, Moves, next_time}
 use Rattle.laws.proofs.Moving.{past_later}
 use Rattle.laws.proofs.Owner.{owner_shows_no_more}
 
@@ -61,10 +61,10 @@ pub ready_turned : (s : Setup) (past : Past) (p : ℕ) (is : Bool) (n : Notes) (
 ready_turned s past p is n m t r = ready_later s past p is n n.ended (next_time past) m t r.times.ended_past (omega arith) r
 
 -- from ready to a move, if its place fits and its reads so far are clean
-pub moves_to : (s : Setup) (past : Past) (p : ℕ) (d : Doing) (n : Notes) (m : Wires) (t : ℕ → ℕ → Touches) → Ready s past p (is_inside d) n m t → Stands s p n m d →
+pub moves_to : (s : Setup) (past : Past) (p : ℕ) (d : Doing) (n : Notes) (m : Wires) (t : ℕ → ℕ → Touches) → Ready s past p (is_inside d) n m t → Corresponds s p n m d →
     ((o : ℕ) → o < s.processes → o ≢ p → Clean s o d n.since (notes s o past) (t o p)) → Moves s past p d n m t
-moves_to s past p d n m t r stands clean = record {
-  own = record { past = r.times; whole = r.whole; senior = r.senior; stands = stands };
+moves_to s past p d n m t r corresponds clean = record {
+  own = record { past = r.times; whole = r.whole; senior = r.senior; corresponds = corresponds };
   reader = λ o ob ne. record { knows = r.knows o ob ne; clean = clean o ob ne };
   owner = r.owner;
 }
@@ -106,24 +106,24 @@ unwritten n bits wide m f some same pos = record {
     none k r (inr here) = let low : r < 0 / 2 = here.1 in omega arith
 
 -- a new place is at the beginning of its number access
-pub new_stands : (s : Setup) → IsGood s → (p : ℕ) (command : Command) (number : ℕ) (part : Part) (m : Wires) → is_over part ≡ false → StandsRun (call s p command number) m part (new_run (call s p command number) part)
-new_stands s g p command number part m over = go (is_read part) refl
+pub new_corresponds : (s : Setup) → IsGood s → (p : ℕ) (command : Command) (number : ℕ) (part : Part) (m : Wires) → is_over part ≡ false → RunCorresponds (call s p command number) m part (new_run (call s p command number) part)
+new_corresponds s g p command number part m over = go (is_read part) refl
   where
     c : Call
     c = call s p command number
 
-    go : (b : Bool) → is_read part ≡ b → StandsRun c m part (cond b (Reading [] false) (Writing (new_write (width s (written_at c part).0))))
+    go : (b : Bool) → is_read part ≡ b → RunCorresponds c m part (cond b (Reading [] false) (Writing (new_write (width s (written_at c part).0))))
     go true e = (e, width-pos s g (read_at c part).1)
     go false e = (e, unwritten s.processes (written_at c part).1 (width s (written_at c part).0) m (written_at c part).0 (omega (arith, g.processes_is)) (written-width c part e over) (width-pos s g (written_at c part).0))
 
 -- from ready to a new place: it suffices what p knows there
 pub starts : (s : Setup) → IsGood s → (past : Past) (p : ℕ) (command : Command) (number : ℕ) (part : Part) (n : Notes) (m : Wires) (t : ℕ → ℕ → Touches) → is_over part ≡ false →
-    Ready s past p (is_inside_at part true) n m t → StandsAt s p n part true → Moves s past p (runs command number (enter (call s p command number) part)) n m t
-starts s g past p command number part n m t over r stands =
+    Ready s past p (is_inside_at part true) n m t → PartCorresponds s p n part true → Moves s past p (runs command number (enter (call s p command number) part)) n m t
+starts s g past p command number part n m t over r corresponds =
     subst (λ b. Moves s past p (cond b Rests (Runs command number at)) n m t) (sym over)
     (moves_to s past p (Runs command number at) n m t
     (subst (λ b. Ready s past p (is_inside_at part b) n m t) (sym (enter-fresh c part)) r)
-    (new_stands s g p command number part m over, subst (λ b. StandsAt s p n part b) (sym (enter-fresh c part)) stands)
+    (new_corresponds s g p command number part m over, subst (λ b. PartCorresponds s p n part b) (sym (enter-fresh c part)) corresponds)
     (λ o ob ne. unread s o c part n.since (notes s o past) (t o p)))
   where
     c : Call

@@ -9,11 +9,11 @@ use Rattle.model.specs.declared.events.Event.TheVariants as event
 use Rattle.model.specs.declared.marks.Mark.TheVariants.{Called}
 use Rattle.model.specs.declared.stages.Stage.TheVariants as stages
 use Rattle.model.specs.reader_copies.Runs as copies
-use Rattle.model.proofs.ClosingStanding.{IsChosen, chosen-after, reported-again, withdrawn_stands, unit_stands}
+use Rattle.model.proofs.ClosingAccesses.{IsChosen, chosen-after, reported-again, withdrawn_corresponds, unit_corresponds}
 use Rattle.model.proofs.Local.{running_steps, option_map-some}
 use Rattle.model.proofs.OpenSteps.{place_at, leaving_at, failing_at, closing-plain}
 use Rattle.model.proofs.Staging.{no_start, no_start-placed}
-use Rattle.model.proofs.Standing.{at_place, running_stands}
+use Rattle.model.proofs.NextAccesses.{at_place, running_corresponds}
 use Rattle.model.proofs.Width.{IsGood}
 use Rattle.model.proofs.World.{entry-accepted}
 use Rattle.laws.specs.{Closes, Doing, Runs, closes, does_after, does_then, doing, goes_on, marks_with, next_of}
@@ -71,7 +71,7 @@ running-step s g events p flick e command b run does h = record {
     y = valued s past flick x
 
     is : entry_at s past p flick c at ≡ e
-    is = let f : Some (entry_at s past p flick c at) ≡ Some e = sym ((running_stands s g events p command b run).2 flick) ∙ h in cc
+    is = let f : Some (entry_at s past p flick c at) ≡ Some e = sym ((running_corresponds s g events p command b run).2 flick) ∙ h in cc
 
     access : e.access ≡ Some y
     access = ap (λ (e : Entry). e.access) (sym is)
@@ -117,7 +117,7 @@ closing-step : (s : Setup) (past : Past) (p : ℕ) (flick : Bool) (e : Entry) (a
     let c : Call = last_call s p mine in
     doing s p past ≡ Closes (last_command mine) (call_number s mine) at → stepped s past p flick ≡ option_map (closing_entry s past p flick) (closing_next c at flick) → stepped s past p flick ≡ Some e →
     ((n : Next) → closing_next c at flick ≡ Some n → closing_entry s past p flick n ≡ e → closing_after c at (value_written e) ≡ closing_after c at flick) → StepIs s past p flick e
-closing-step s past p flick e at does stands h same = record {
+closing-step s past p flick e at does corresponds h same = record {
   next = n.access;
   is_next = ap (λ d. next_of s p d flick) does ∙ ap (option_map (λ (n : Next). n.access)) made.1;
   process = process;
@@ -139,7 +139,7 @@ closing-step s past p flick e at does stands h same = record {
     marks-of o = elim o [ None ↦ [] | Some n ↦ n.marks ]
 
     made : (n : Next) × (closing_next c at flick ≡ Some n) × (closing_entry s past p flick n ≡ e)
-    made = option_map-some (closing_entry s past p flick) (closing_next c at flick) e (sym stands ∙ h)
+    made = option_map-some (closing_entry s past p flick) (closing_next c at flick) e (sym corresponds ∙ h)
 
     n : Next
     n = made.0
@@ -173,8 +173,8 @@ step_is s g events p flick e h = go (does_all s g events p)
     go (at_rest i k) = let f : refused_at (event.Step p flick) stages.Idle ≡ None = ap (refused_at (event.Step p flick)) (sym i) ∙ acc.1 in cc
     go (lying i k) = let f : refused_at (event.Step p flick) stages.Down ≡ None = ap (refused_at (event.Step p flick)) (sym i) ∙ acc.1 in cc
     go (running command b r k) = running-step s g events p flick e command b r k acc.2
-    go (leaving b i k) = closing-step s past p flick e (leaving_at s p mine) k ((withdrawn_stands s g events p b i).1 flick) acc.2
+    go (leaving b i k) = closing-step s past p flick e (leaving_at s p mine) k ((withdrawn_corresponds s g events p b i).1 flick) acc.2
         (λ n is made. leaving-after c (map value_written (since starts mine)) (value_written e) flick)
-    go (settling b i k) = closing-step s past p flick e (failing_at s p mine) k ((unit_stands s g events p b i).1 flick) acc.2
+    go (settling b i k) = closing-step s past p flick e (failing_at s p mine) k ((unit_corresponds s g events p b i).1 flick) acc.2
         (λ n is made. unit-after c (before is_failed mine) (map value_written (since is_failed mine)) (value_written e) flick
         (ap (closing_next c (failing_at s p mine)) (sym (ap value_written made)) ∙ reported-again s past c (before is_failed mine) (map value_written (since is_failed mine)) flick n is ∙ sym is))

@@ -13,7 +13,7 @@ use Rattle.model.proofs.Width.{IsGood}
 use Rattle.laws.specs.{Doing, Rests, Lies, Runs, Closes, call, doing, is_inside, is_inside_at}
 use Rattle.laws.proofs.Doings.{stage_of}
 use Rattle.laws.proofs.Notes.{Notes, notes, notes_after}
-use Rattle.laws.proofs.Invariant.{Inv, Passed, Stands, StandsAt, InWaiting, wires}
+use Rattle.laws.proofs.Invariant.{Inv, Passed, Corresponds, PartCorresponds, InWaiting, wires}
 use Rattle.laws.proofs.Frame.{Happens, a_call, a_withdrawal, a_failure, a_restart, a_step, a_closing, notes-other, notes-goes}
 use Rattle.laws.proofs.FrameEvents.{accepted}
 use Rattle.laws.proofs.FrameInside.{stage-is, inside-is, inside-runs, enter-fresh}
@@ -135,8 +135,8 @@ waiter-numbers s g events p x =
 pub waiter-holds : (s : Setup) (past : Past) (p : ℕ) → Inv s past → p < s.processes → WaitsAt (doing s p past) → ((notes s p past).holds ≡ true) × ((notes s p past).held_at ≤ (notes s p past).ended)
 waiter-holds s past p inv pN x =
     let n : Notes = notes s p past in
-    let stands : Stands s p n (wires s past p) (Runs x.command x.number x.at) = subst (Stands s p n (wires s past p)) x.does (inv.own p pN).stands in
-    let waits : InWaiting s p n x.ticket x.wait x.waits = subst (λ y. StandsAt s p n y (is_fresh x.at.run)) x.part_is stands.1 in
+    let corresponds : Corresponds s p n (wires s past p) (Runs x.command x.number x.at) = subst (Corresponds s p n (wires s past p)) x.does (inv.own p pN).corresponds in
+    let waits : InWaiting s p n x.ticket x.wait x.waits = subst (λ y. PartCorresponds s p n y (is_fresh x.at.run)) x.part_is corresponds.1 in
     (waits.holding, waits.ended_after)
 
 -- no process is ahead of itself

@@ -18,7 +18,7 @@ use Rattle.model.specs.Closings.{Closing, Withdraws, Settles, Frees, Lowers, Qui
 use Rattle.model.proofs.reader_copies.Orders.{length-writes}
 use Rattle.model.proofs.safe_number.Bits.{length-bits_of_number}
 use Rattle.model.proofs.Accepted.{accepted_adds, rooms}
-use Rattle.model.proofs.ClosingStanding.{failing-kind, is_unit, keeps-kind, since-failed}
+use Rattle.model.proofs.ClosingAccesses.{failing-kind, is_unit, keeps-kind, since-failed}
 use Rattle.model.proofs.ClosingSteps.{ClosingStep, unit-step}
 use Rattle.model.proofs.Local.{since-plain, start-plain}
 use Rattle.model.proofs.OpenSteps.{failing_at}

@@ -40,20 +40,20 @@ pub choosing_again : (s : Setup) → IsGood s → (past : Past) (p : ℕ) (comma
 choosing_again s g past p command number t j ws touched h access =
     let n : Notes = notes s p past in
     let own = own_there s past p command number (Waits t (j, Choosing) ws) [] true h in
-    let stands : InWaiting s p n t (j, Choosing) ws = own.stands.1 in
+    let corresponds : InWaiting s p n t (j, Choosing) ws = own.corresponds.1 in
     let held : n.held_at < next_time past = own.past.held_at_past in
     starts s g past p command number (Waits t (j, Choosing) ws) (turned (next_time past) n) (wires s past p) touched refl
     (ready_turned s past p false n (wires s past p) touched (ready_there s past p command number (Waits t (j, Choosing) ws) [] true touched h access.others))
     (record {
-      holding = stands.holding;
-      ticket_is = stands.ticket_is;
-      ended_after = stands.ended_after;
-      done = stands.done;
-      now = stands.now;
-      next = stands.next;
-      all = stands.all;
-      passed = stands.passed;
-      wait = (stands.wait.0, stands.wait.1, omega arith);
+      holding = corresponds.holding;
+      ticket_is = corresponds.ticket_is;
+      ended_after = corresponds.ended_after;
+      done = corresponds.done;
+      now = corresponds.now;
+      next = corresponds.next;
+      all = corresponds.all;
+      passed = corresponds.passed;
+      wait = (corresponds.wait.0, corresponds.wait.1, omega arith);
     })
 
 -- the notes once it gave 0
@@ -98,11 +98,11 @@ pub choosing_passed : (s : Setup) → IsGood s → (past : Past) (p : ℕ) (comm
 choosing_passed s g past p command number t j ws touched h access =
     let n : Notes = notes s p past in
     let own = own_there s past p command number (Waits t (j, Choosing) ws) [] true h in
-    let stands : InWaiting s p n t (j, Choosing) ws = own.stands.1 in
-    let all : others s p ≡ stands.done ++ j ∷ stands.next = subst (λ i. others s p ≡ stands.done ++ i ∷ stands.next) (sym stands.wait.0) stands.all in
-    let then_ticket : ws ≡ (j, Ticket) ∷ waits stands.next = subst (λ i. ws ≡ (i, Ticket) ∷ waits stands.next) (sym stands.wait.0) stands.wait.1 in
+    let corresponds : InWaiting s p n t (j, Choosing) ws = own.corresponds.1 in
+    let all : others s p ≡ corresponds.done ++ j ∷ corresponds.next = subst (λ i. others s p ≡ corresponds.done ++ i ∷ corresponds.next) (sym corresponds.wait.0) corresponds.all in
+    let then_ticket : ws ≡ (j, Ticket) ∷ waits corresponds.next = subst (λ i. ws ≡ (i, Ticket) ∷ waits corresponds.next) (sym corresponds.wait.0) corresponds.wait.1 in
     subst (λ vs. Moves s past p (runs command number (enter (call s p command number) (to_d (call s p command number) t vs))) (let_in (next_time past) j n) (wires s past p) touched) (sym then_ticket)
-    (starts s g past p command number (Waits t (j, Ticket) (waits stands.next)) (let_in (next_time past) j n) (wires s past p) touched refl
+    (starts s g past p command number (Waits t (j, Ticket) (waits corresponds.next)) (let_in (next_time past) j n) (wires s past p) touched refl
     (ready_let_in s past p j n touched (ready_there s past p command number (Waits t (j, Choosing) ws) [] true touched h access.others) own.past.since_past
     (λ below. (h.inv.own j below).past.held_at_past)
     (λ below other announced. elim (cases_lt n.since (notes s j past).announced_at) [
@@ -111,18 +111,18 @@ choosing_passed s g past p command number t j ws touched h access =
           ((pair_there s past p command number (Waits t (j, Choosing) ws) [] true h j below other).clean refl) announced late))
     ]))
     (record {
-      holding = stands.holding;
-      ticket_is = stands.ticket_is;
-      ended_after = stands.ended_after;
-      done = stands.done;
+      holding = corresponds.holding;
+      ticket_is = corresponds.ticket_is;
+      ended_after = corresponds.ended_after;
+      done = corresponds.done;
       now = j;
-      next = stands.next;
+      next = corresponds.next;
       all = all;
-      passed = passed_let_in p (next_time past) j n stands.done (others_before s p stands.done j stands.next all) stands.passed;
+      passed = passed_let_in p (next_time past) j n corresponds.done (others_before s p corresponds.done j corresponds.next all) corresponds.passed;
       wait = (
         refl,
         refl,
-        subst (λ y. n.held_at ≤ y) (sym (set-same j n.since n.choosing_from)) stands.wait.2,
+        subst (λ y. n.held_at ≤ y) (sym (set-same j n.since n.choosing_from)) corresponds.wait.2,
         subst (λ y. y ≤ next_time past) (sym (set-same j (next_time past) n.choosing_to)) (omega arith),
       );
     }))
@@ -136,21 +136,21 @@ pub ticket_again : (s : Setup) → IsGood s → (past : Past) (p : ℕ) (command
 ticket_again s g past p command number t j ws bits v touched h access =
     let n : Notes = notes s p past in
     let own = own_there s past p command number (Waits t (j, Ticket) ws) bits true h in
-    let stands : InWaiting s p n t (j, Ticket) ws = own.stands.1 in
+    let corresponds : InWaiting s p n t (j, Ticket) ws = own.corresponds.1 in
     let before : n.since < next_time past = own.past.since_past in
-    let read : n.choosing_to stands.now ≤ n.since = stands.wait.3 in
+    let read : n.choosing_to corresponds.now ≤ n.since = corresponds.wait.3 in
     starts s g past p command number (Waits t (j, Ticket) ws) (turned (next_time past) n) (wires s past p) touched refl
     (ready_turned s past p false n (wires s past p) touched (ready_there s past p command number (Waits t (j, Ticket) ws) bits true touched h access.others))
     (record {
-      holding = stands.holding;
-      ticket_is = stands.ticket_is;
-      ended_after = stands.ended_after;
-      done = stands.done;
-      now = stands.now;
-      next = stands.next;
-      all = stands.all;
-      passed = stands.passed;
-      wait = (stands.wait.0, stands.wait.1, stands.wait.2, omega arith);
+      holding = corresponds.holding;
+      ticket_is = corresponds.ticket_is;
+      ended_after = corresponds.ended_after;
+      done = corresponds.done;
+      now = corresponds.now;
+      next = corresponds.next;
+      all = corresponds.all;
+      passed = corresponds.passed;
+      wait = (corresponds.wait.0, corresponds.wait.1, corresponds.wait.2, omega arith);
     })
 
 -- a number that lets by is 0 or above one's own
@@ -207,20 +207,20 @@ ticket_passed s g past p command number t j ws bits v touched h access last beyo
     let value : ℕ = number_of_bits (bits ++ v ∷ []) in
     let n' : Notes = let_pass (next_time past) j value n in
     let own = own_there s past p command number (Waits t (j, Ticket) ws) bits true h in
-    let stands : InWaiting s p n t (j, Ticket) ws = own.stands.1 in
-    let all : others s p ≡ stands.done ++ j ∷ stands.next = subst (λ i. others s p ≡ stands.done ++ i ∷ stands.next) (sym stands.wait.0) stands.all in
-    let from : n.held_at ≤ n.choosing_from j = subst (λ i. n.held_at ≤ n.choosing_from i) (sym stands.wait.0) stands.wait.2 in
-    let to : n.choosing_to j ≤ n.since = subst (λ i. n.choosing_to i ≤ n.since) (sym stands.wait.0) stands.wait.3 in
+    let corresponds : InWaiting s p n t (j, Ticket) ws = own.corresponds.1 in
+    let all : others s p ≡ corresponds.done ++ j ∷ corresponds.next = subst (λ i. others s p ≡ corresponds.done ++ i ∷ corresponds.next) (sym corresponds.wait.0) corresponds.all in
+    let from : n.held_at ≤ n.choosing_from j = subst (λ i. n.held_at ≤ n.choosing_from i) (sym corresponds.wait.0) corresponds.wait.2 in
+    let to : n.choosing_to j ≤ n.since = subst (λ i. n.choosing_to i ≤ n.since) (sym corresponds.wait.0) corresponds.wait.3 in
     let held : n.held_at < next_time past = own.past.held_at_past in
-    subst (λ vs. Moves s past p (runs command number (enter (call s p command number) (to_d (call s p command number) t vs))) n' (wires s past p) touched) (sym stands.wait.1)
+    subst (λ vs. Moves s past p (runs command number (enter (call s p command number) (to_d (call s p command number) t vs))) n' (wires s past p) touched) (sym corresponds.wait.1)
     (to_d_moves s g past p command number n' (wires s past p) touched
     (ready_let_pass s past p j value n touched (ready_there s past p command number (Waits t (j, Ticket) ws) bits true touched h access.others) own.past.since_past
     (λ below other. ticket_read s past p j bits n.since v touched h.inv h.process below last access ((pair_there s past p command number (Waits t (j, Ticket) ws) bits true h j below other).clean refl)))
-    t stands.holding stands.ticket_is stands.ended_after (omega arith) (stands.done ++ j ∷ []) stands.next
-    (all ∙ sym (append_assoc stands.done (j ∷ []) stands.next))
-    (passed_more p n' stands.done j (passed_let_pass p (next_time past) j value n stands.done (others_before s p stands.done j stands.next all) stands.passed)
+    t corresponds.holding corresponds.ticket_is corresponds.ended_after (omega arith) (corresponds.done ++ j ∷ []) corresponds.next
+    (all ∙ sym (append_assoc corresponds.done (j ∷ []) corresponds.next))
+    (passed_more p n' corresponds.done j (passed_let_pass p (next_time past) j value n corresponds.done (others_before s p corresponds.done j corresponds.next all) corresponds.passed)
     (record {
       from = from;
       then = subst (λ y. n.choosing_to j ≤ y) (sym (set-same j n.since n.let_from)) to;
-      beyond = subst (λ y. Beyond n.ticket p y j) (sym (set-same j value n.let_by)) (subst (λ y. Beyond y p value j) (sym stands.ticket_is) beyond);
+      beyond = subst (λ y. Beyond n.ticket p y j) (sym (set-same j value n.let_by)) (subst (λ y. Beyond y p value j) (sym corresponds.ticket_is) beyond);
     })))

@@ -16,7 +16,7 @@ use Rattle.laws.proofs.Always.{inv_of}
 use Rattle.laws.proofs.ClosingWrites.{some_write, written_so_far}
 use Rattle.laws.proofs.Doings.{stage_of}
 use Rattle.laws.proofs.FrameInside.{stage-is}
-use Rattle.laws.proofs.Invariant.{Inv, Stands, StandsAt, wires}
+use Rattle.laws.proofs.Invariant.{Inv, Corresponds, PartCorresponds, wires}
 use Rattle.laws.proofs.Notes.{Notes, notes}
 use Rattle.laws.proofs.Steps.{StepIs, step_is}
 use Rattle.laws.proofs.Theorems.{is_process}
@@ -104,9 +104,9 @@ may_step s p (Closes command number Ended) flick w live h = cc
 
 -- In every record.
 
-live_part : (s : Setup) (p : ℕ) (n : Notes) (x : Part) (fresh : Bool) → StandsAt s p n x fresh → is_over x ≡ false
-live_part s p n Over fresh stands = absurd stands
-live_part s p n _ fresh stands = refl
+live_part : (s : Setup) (p : ℕ) (n : Notes) (x : Part) (fresh : Bool) → PartCorresponds s p n x fresh → is_over x ≡ false
+live_part s p n Over fresh corresponds = absurd corresponds
+live_part s p n _ fresh corresponds = refl
 
 -- a call that is run has an access to make
 pub live : (s : Setup) → IsGood s → (events : List Event) (p : ℕ) → p < s.processes → IsLive (doing s p (past_of s events))
@@ -120,7 +120,7 @@ live s g events p there = go (doing s p past) refl
     go Lies does = tt
     go (Runs command number at) does =
         let inv : Inv s past = inv_of s g events in
-        live_part s p (notes s p past) at.part (is_fresh at.run) (subst (Stands s p (notes s p past) (wires s past p)) does (inv.own p there).stands).1
+        live_part s p (notes s p past) at.part (is_fresh at.run) (subst (Corresponds s p (notes s p past) (wires s past p)) does (inv.own p there).corresponds).1
     go (Closes command number at) does = tt
 
 -- the result of a step of a write: an entry that advances the write by one access

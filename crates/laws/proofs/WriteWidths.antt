@@ -10,16 +10,16 @@ use Rattle.laws.specs.{Closes, Doing, IsLive, Lies, RegisterWrite, Rests, Runs, 
 use Rattle.laws.specs.Writes.{WritesFitTheirRegister}
 use Rattle.laws.proofs.Always.{inv_of}
 use Rattle.laws.proofs.ClosingWrites.{some_write, written_so_far}
-use Rattle.laws.proofs.Invariant.{Inv, Stands, StandsRun, Wires, wires}
+use Rattle.laws.proofs.Invariant.{Inv, Corresponds, RunCorresponds, Wires, wires}
 use Rattle.laws.proofs.Notes.{notes}
 use Rattle.laws.proofs.Theorems.{is_process}
 use Rattle.laws.proofs.WriteSteps.{live}
 
 -- a write of a part has as many bits as its register
-part_fits : (c : Call) (m : Wires) (part : Part) (run : Run) (w : RegisterWrite) → is_over part ≡ false → StandsRun c m part run → write_at c part run ≡ Some w → length w.bits ≡ width c.setup w.field
-part_fits c m part (Writing x) w going stands h =
-    subst (λ (y : RegisterWrite). length y.bits ≡ width c.setup y.field) (some_write _ w h) (sym (written-width c part stands.0 going))
-part_fits c m part (Reading bits begun) w going stands h = cc
+part_fits : (c : Call) (m : Wires) (part : Part) (run : Run) (w : RegisterWrite) → is_over part ≡ false → RunCorresponds c m part run → write_at c part run ≡ Some w → length w.bits ≡ width c.setup w.field
+part_fits c m part (Writing x) w going corresponds h =
+    subst (λ (y : RegisterWrite). length y.bits ≡ width c.setup y.field) (some_write _ w h) (sym (written-width c part corresponds.0 going))
+part_fits c m part (Reading bits begun) w going corresponds h = cc
 
 -- each write of a process, or of its memory unit, has the width of its register
 abbrev HasItsWidth : Setup → ℕ → RegisterWrite → Doing → Type 0
@@ -52,7 +52,7 @@ writes_fit s good events p w h = record { bits = bits; run = (written_so_far s g
     go (Runs command number at) does i =
         let inv : Inv s past = inv_of s g events in
         let live : IsLive (Runs command number at) = subst IsLive does (live s g events p there) in
-        part_fits (call s p command number) (wires s past p) at.part at.run w live (subst (Stands s p (notes s p past) (wires s past p)) does (inv.own p there).stands).0 i
+        part_fits (call s p command number) (wires s past p) at.part at.run w live (subst (Corresponds s p (notes s p past) (wires s past p)) does (inv.own p there).corresponds).0 i
     go (Closes command number at) does i = closing_fits s p w command number at i
 
     bits : length w.bits ≡ width s w.field

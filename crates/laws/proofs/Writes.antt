@@ -10,7 +10,7 @@ use Rattle.model.specs.Parts.{Part, Raises, Asks, TakesTicket, Lowers, Refuses, 
 use Rattle.laws.proofs.FrameInside.{moved-unfresh}
 use Rattle.laws.specs.{Runs, call, is_inside_at}
 use Rattle.laws.proofs.Notes.{Notes, notes, noted}
-use Rattle.laws.proofs.Invariant.{Wires, Touches, StandsAt, CleanRun, Moves, next_time}
+use Rattle.laws.proofs.Invariant.{Wires, Touches, PartCorresponds, CleanRun, Moves, next_time}
 use Rattle.laws.proofs.Owner.{not_so}
 use Rattle.laws.proofs.Ready.{Ready, moves_to}
 use Rattle.laws.proofs.Writing.{OneField, Advanced}
@@ -56,7 +56,7 @@ nothing_breaks f is n of holding = record {
 
 -- within a write p stays ready
 pub part_breaks : (s : Setup) (past : Past) (p : ℕ) (command : Command) (number : ℕ) (part : Part) (fresh : Bool) (n : Notes) (m m' : Wires) (t t' : ℕ → ℕ → Touches) → is_read part ≡ false → is_over part ≡ false →
-    StandsAt s p n part fresh → OneField p (written_at (call s p command number) part).0 m m' t t' → Ready s past p (is_inside_at part fresh) n m t →
+    PartCorresponds s p n part fresh → OneField p (written_at (call s p command number) part).0 m m' t t' → Ready s past p (is_inside_at part fresh) n m t →
     Ready s past p (is_inside_at part false) (still (call s p command number) (next_time past) part fresh n) m' t'
 part_breaks s past p command number Raises fresh n m m' t t' w o st one r =
     ready_breaks s past p Choosing false false n false n.holds (cond fresh (next_time past) n.began) m m' t t' (choosing_breaks n (cond fresh (next_time past) n.began) false (λ e. not_so st e) r.senior.held) one
@@ -74,21 +74,21 @@ part_breaks s past p command number (Clears a) fresh n m m' t t' w o st one r = 
 part_breaks s past p command number _ fresh n m m' t t' w o st one r = cc
 
 -- within a write p keeps its knowledge
-pub part_stands : (s : Setup) (p : ℕ) (c : Call) (now : ℕ) (part : Part) (fresh : Bool) (n : Notes) → is_read part ≡ false → StandsAt s p n part fresh → StandsAt s p (still c now part fresh n) part false
-part_stands s p c now Raises fresh n w st = st
-part_stands s p c now (TakesTicket t) fresh n w st = (record { free = refl; whole = st.0.whole; began_before = st.0.began_before }, st.1)
-part_stands s p c now (Lowers t) fresh n w st = st
-part_stands s p c now (Refuses f) fresh n w st = st
-part_stands s p c now (WritesImage vs store) fresh n w st = tt
-part_stands s p c now (WritesStamp vs store) fresh n w st = tt
-part_stands s p c now (WritesCommit vs store) fresh n w st = tt
-part_stands s p c now (Clears a) fresh n w st = λ e. refl
-part_stands s p c now (Asks j js ts) fresh n w st = cc
-part_stands s p c now (Waits t0 a ws) fresh n w st = cc
-part_stands s p c now (AsksCommit k ks vs) fresh n w st = cc
-part_stands s p c now (AsksStamp k ks vs b) fresh n w st = cc
-part_stands s p c now (AsksImage vs) fresh n w st = cc
-part_stands s p c now Over fresh n w st = st
+pub part_corresponds : (s : Setup) (p : ℕ) (c : Call) (now : ℕ) (part : Part) (fresh : Bool) (n : Notes) → is_read part ≡ false → PartCorresponds s p n part fresh → PartCorresponds s p (still c now part fresh n) part false
+part_corresponds s p c now Raises fresh n w st = st
+part_corresponds s p c now (TakesTicket t) fresh n w st = (record { free = refl; whole = st.0.whole; began_before = st.0.began_before }, st.1)
+part_corresponds s p c now (Lowers t) fresh n w st = st
+part_corresponds s p c now (Refuses f) fresh n w st = st
+part_corresponds s p c now (WritesImage vs store) fresh n w st = tt
+part_corresponds s p c now (WritesStamp vs store) fresh n w st = tt
+part_corresponds s p c now (WritesCommit vs store) fresh n w st = tt
+part_corresponds s p c now (Clears a) fresh n w st = λ e. refl
+part_corresponds s p c now (Asks j js ts) fresh n w st = cc
+part_corresponds s p c now (Waits t0 a ws) fresh n w st = cc
+part_corresponds s p c now (AsksCommit k ks vs) fresh n w st = cc
+part_corresponds s p c now (AsksStamp k ks vs b) fresh n w st = cc
+part_corresponds s p c now (AsksImage vs) fresh n w st = cc
+part_corresponds s p c now Over fresh n w st = st
 
 -- a write has nothing to be clean
 writing_clean : (s : Setup) (o : ℕ) (part : Part) (w : NumberWrite) (since : ℕ) (u : Notes) (t : Touches) → CleanRun s o part (Writing w) since u t
@@ -100,13 +100,13 @@ writing_clean s o _ w since u t = tt
 pub write_goes_on : (s : Setup) (past : Past) (p : ℕ) (command : Command) (number : ℕ) (part : Part) (w : NumberWrite) (n : Notes) (m m' : Wires) (t t' : ℕ → ℕ → Touches)
     → let c : Call = call s p command number in
     let bits : List Bool = (written_at c part).1 in
-    is_read part ≡ false → is_over part ≡ false → StandsAt s p n part (is_fresh (Writing w)) → OneField p (written_at c part).0 m m' t t' → Advanced s.processes bits w m' (written_at c part).0 →
+    is_read part ≡ false → is_over part ≡ false → PartCorresponds s p n part (is_fresh (Writing w)) → OneField p (written_at c part).0 m m' t t' → Advanced s.processes bits w m' (written_at c part).0 →
     Ready s past p (is_inside_at part (is_fresh (Writing w))) n m t → ((write_moved s.processes bits w).bit == w.width) ≡ false →
     Moves s past p (Runs command number (record { part = part; run = Writing (write_moved s.processes bits w) })) (still c (next_time past) part (is_fresh (Writing w)) n) m' t'
-write_goes_on s past p command number part w n m m' t t' read over stands one advanced r more =
+write_goes_on s past p command number part w n m m' t t' read over corresponds one advanced r more =
     moves_to s past p (Runs command number (record { part = part; run = Writing to })) after m' t'
-    (subst (λ b. Ready s past p (is_inside_at part b) after m' t') (sym begun) (part_breaks s past p command number part (is_fresh (Writing w)) n m m' t t' read over stands one r))
-    ((read, advanced.on more), subst (λ b. StandsAt s p after part b) (sym begun) (part_stands s p c (next_time past) part (is_fresh (Writing w)) n read stands))
+    (subst (λ b. Ready s past p (is_inside_at part b) after m' t') (sym begun) (part_breaks s past p command number part (is_fresh (Writing w)) n m m' t t' read over corresponds one r))
+    ((read, advanced.on more), subst (λ b. PartCorresponds s p after part b) (sym begun) (part_corresponds s p c (next_time past) part (is_fresh (Writing w)) n read corresponds))
     (λ o below ne. writing_clean s o part to after.since (notes s o past) (t' o p))
   where
     c : Call

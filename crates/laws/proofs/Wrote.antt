@@ -12,13 +12,13 @@ use Rattle.model.specs.Parts.{Part, Raises, TakesTicket, Lowers, Refuses, Writes
 use Rattle.model.proofs.Width.{IsGood}
 use Rattle.laws.specs.{Rests, Runs, call, runs, is_inside_at}
 use Rattle.laws.proofs.Notes.{Notes, noted}
-use Rattle.laws.proofs.Invariant.{Wires, Touches, Closed, bit, ticket_of, Asked, IsInDoorway, StandsAt, Inv, Moves, next_time}
+use Rattle.laws.proofs.Invariant.{Wires, Touches, Closed, bit, ticket_of, Asked, IsInDoorway, PartCorresponds, Inv, Moves, next_time}
 use Rattle.laws.proofs.Others.{each_other}
 use Rattle.laws.proofs.Owner.{not_so, owner_announces, owner_takes}
 use Rattle.laws.proofs.Ready.{Ready, later, ready_later, rests, starts}
 use Rattle.laws.proofs.Next.{asked_each, to_b_moves, to_d_moves, to_h_moves}
 use Rattle.laws.proofs.Writing.{OneField, Advanced}
-use Rattle.laws.proofs.Writes.{still, part_breaks, part_stands, write_goes_on}
+use Rattle.laws.proofs.Writes.{still, part_breaks, part_corresponds, write_goes_on}
 
 -- a register that is whole: all copies of all its bits are done
 abbrev Finished : Setup → List Bool → Wires → Field → Type 0
@@ -116,7 +116,7 @@ lowered s g past p command number ticket n m t r holding same =
 -- The last end of any part: p is ready with its new registers, and continues with the next part.
 part_wrote : (s : Setup) → IsGood s → (past : Past) (p : ℕ) (command : Command) (number : ℕ) (part : Part) (fresh : Bool) (n : Notes) (m : Wires) (t : ℕ → ℕ → Touches)
     → let c : Call = call s p command number in
-    is_read part ≡ false → is_over part ≡ false → p < s.processes → Inv s past → Ready s past p (is_inside_at part false) (still c (next_time past) part fresh n) m t → StandsAt s p (still c (next_time past) part fresh n) part false →
+    is_read part ≡ false → is_over part ≡ false → p < s.processes → Inv s past → Ready s past p (is_inside_at part false) (still c (next_time past) part fresh n) m t → PartCorresponds s p (still c (next_time past) part fresh n) part false →
     Finished s (written_at c part).1 m (written_at c part).0 → Moves s past p (runs command number (enter c (part_after c part []))) (noted c (next_time past) part fresh true [] n) m t
 part_wrote s g past p command number Raises fresh n m t w o below inv r st whole = announced s g past p command number (still (call s p command number) (next_time past) Raises fresh n) m t below inv r st whole
 part_wrote s g past p command number (TakesTicket t0) fresh n m t w o below inv r st whole =
@@ -141,10 +141,10 @@ part_wrote s g past p command number _ fresh n m t w o below inv r st whole = cc
 -- Every access of a write of a part.
 pub part_writes : (s : Setup) → IsGood s → (past : Past) (p : ℕ) (command : Command) (number : ℕ) (part : Part) (w : NumberWrite) (v : Bool) (n : Notes) (m m' : Wires) (t t' : ℕ → ℕ → Touches)
     → let c : Call = call s p command number in
-    is_read part ≡ false → is_over part ≡ false → p < s.processes → Inv s past → Ready s past p (is_inside_at part (is_fresh (Writing w))) n m t → StandsAt s p n part (is_fresh (Writing w)) →
+    is_read part ≡ false → is_over part ≡ false → p < s.processes → Inv s past → Ready s past p (is_inside_at part (is_fresh (Writing w))) n m t → PartCorresponds s p n part (is_fresh (Writing w)) →
     OneField p (written_at c part).0 m m' t t' → Advanced s.processes (written_at c part).1 w m' (written_at c part).0 →
     Moves s past p (runs command number (place_after c (record { part = part; run = Writing w }) v)) (noted c (next_time past) part (is_fresh (Writing w)) (is_last c part (Writing w)) [] n) m' t'
-part_writes s g past p command number part w v n m m' t t' read over below inv r stands one advanced = go (is_last c part (Writing w)) refl
+part_writes s g past p command number part w v n m m' t t' read over below inv r corresponds one advanced = go (is_last c part (Writing w)) refl
   where
     c : Call
     c = call s p command number
@@ -154,7 +154,7 @@ part_writes s g past p command number part w v n m m' t t' read over below inv r
 
     go : (b : Bool) → is_last c part (Writing w) ≡ b
         → Moves s past p (runs command number (cond b (enter c (part_after c part [])) (record { part = part; run = Writing (write_moved s.processes (written_at c part).1 w) }))) (noted c (next_time past) part fresh b [] n) m' t'
-    go true e = part_wrote s g past p command number part fresh n m' t' read over below inv (part_breaks s past p command number part fresh n m m' t t' read over stands one r)
-        (part_stands s p c (next_time past) part fresh n read stands) (advanced.all e)
+    go true e = part_wrote s g past p command number part fresh n m' t' read over below inv (part_breaks s past p command number part fresh n m m' t t' read over corresponds one r)
+        (part_corresponds s p c (next_time past) part fresh n read corresponds) (advanced.all e)
     go false e = subst (λ b. Moves s past p (cond b Rests (Runs command number (record { part = part; run = Writing (write_moved s.processes (written_at c part).1 w) }))) (still c (next_time past) part fresh n) m' t') (sym over)
-        (write_goes_on s past p command number part w n m m' t t' read over stands one advanced r e)
+        (write_goes_on s past p command number part w n m m' t t' read over corresponds one advanced r e)

@@ -1,4 +1,4 @@
-pub use Rattle.model.specs as runs
+pub use Rattle.model.specs as model
 pub mod Entries
 pub mod Keeping
 pub mod Order

@@ -4,8 +4,8 @@ use Rattle.std.specs.Fmt.{decimal}
 use Rattle.markup.specs.{Attribute, Tag, attributes_text, entering, escaped, lowering, marking, noting, empty_element, tag_end, tag_name, text_element}
 
 module _ (t : Tag) (attributes : List Attribute) where
-  pub standing_parts : codes "<" ++ (tag_name t ++ (attributes_text attributes ++ codes "/>\n")) ≡ empty_element t attributes
-  standing_parts = ap (λ l. 60 ∷ l) (sym (append_assoc (tag_name t) (attributes_text attributes) (codes "/>\n")))
+  pub empty_element_parts : codes "<" ++ (tag_name t ++ (attributes_text attributes ++ codes "/>\n")) ≡ empty_element t attributes
+  empty_element_parts = ap (λ l. 60 ∷ l) (sym (append_assoc (tag_name t) (attributes_text attributes) (codes "/>\n")))
 
   pub entering_parts : codes "<" ++ (tag_name t ++ (attributes_text attributes ++ codes ">")) ≡ entering t attributes
   entering_parts = ap (λ l. 60 ∷ l) (sym (append_assoc (tag_name t) (attributes_text attributes) (codes ">")))

@@ -1,10 +1,10 @@
 -- The kinds of the tags that are written, and the elements that they leave open.
 use Rattle.std.proofs.Common.{◌≡◌, ℕ, ◌==◌, ◌||◌, Bool, true, false, cond, List, [], ◌∷◌, ◌++◌, codes, flat_map, Some, refl, ap, sym, ◌∙◌, append_assoc, append-nil}
 use Rattle.std.specs.Fmt.{decimal}
-use Rattle.markup.specs.{Attribute, Begins, Ends, Stack, Stands, Tag, after_kind, after_tags, attribute_text, begun, entering, escaped, group, input_field, is_among, key_name, kind_by, kind_of, last_byte, lowering, marking, meant, noting, opens_in, empty_element, tag_name, text_element, text_names}
+use Rattle.markup.specs.{Attribute, Begins, Ends, Stack, NoContent, Tag, after_kind, after_tags, attribute_text, begun, entering, escaped, group, input_field, is_among, key_name, kind_by, kind_of, last_byte, lowering, marking, meant, noting, opens_in, empty_element, tag_name, text_element, text_names}
 use Rattle.markup.specs.declared.names.Tag.TheVariants as tag
 use Rattle.markup.proofs.Stacks.{round}
-use Rattle.markup.proofs.Tags.{body_of, calm-append, calm_attributes, ends_of, field_tags, front_of, inner_entering, inner_field, inner_found, inner_lower, inner_standing, lowered_tags, mark_body, marked_tags, none_body, noted_tags, tag_alone, reported_tags}
+use Rattle.markup.proofs.Tags.{body_of, calm-append, calm_attributes, ends_of, field_tags, front_of, inner_entering, inner_field, inner_found, inner_lower, inner_empty_element, lowered_tags, mark_body, marked_tags, none_body, noted_tags, tag_alone, reported_tags}
 
 -- the last byte of two texts
 last_on : (b : ℕ) (xs ys : List ℕ) → last_byte b (xs ++ ys) ≡ last_byte (last_byte b xs) ys
@@ -27,7 +27,7 @@ quote_last [] = refl
 quote_last (a ∷ attributes) = last_tail a attributes (quote_last attributes)
 
 -- a tag with attributes, by its last byte
-kind_with : (t : Tag) (rest : List ℕ) → kind_by (Some (tag_name t ++ 32 ∷ rest)) ≡ cond ((last_byte 32 rest == 47) || false) Stands (Begins (tag_name t))
+kind_with : (t : Tag) (rest : List ℕ) → kind_by (Some (tag_name t ++ 32 ∷ rest)) ≡ cond ((last_byte 32 rest == 47) || false) NoContent (Begins (tag_name t))
 kind_with tag.Svg rest = refl
 kind_with tag.Path rest = refl
 kind_with tag.Rect rest = refl
@@ -50,7 +50,7 @@ kind_bare tag.Desc = refl
 kind_bare tag.Heading = refl
 kind_bare tag.Item = refl
 
-kind_bare_ended : (t : Tag) → kind_by (Some ((tag_name t ++ []) ++ codes "/")) ≡ Stands
+kind_bare_ended : (t : Tag) → kind_by (Some ((tag_name t ++ []) ++ codes "/")) ≡ NoContent
 kind_bare_ended tag.Svg = refl
 kind_bare_ended tag.Path = refl
 kind_bare_ended tag.Rect = refl
@@ -65,14 +65,14 @@ kind_front : (t : Tag) (attributes : List Attribute) → kind_by (Some (front_of
 kind_front t [] = kind_bare t
 kind_front t (a ∷ attributes) =
     kind_with t (tail_of a ++ flat_map attribute_text attributes)
-    ∙ ap (λ (n : ℕ). cond ((n == 47) || false) Stands (Begins (tag_name t))) (last_tail a attributes (quote_last attributes))
+    ∙ ap (λ (n : ℕ). cond ((n == 47) || false) NoContent (Begins (tag_name t))) (last_tail a attributes (quote_last attributes))
 
-kind_ended : (t : Tag) (attributes : List Attribute) → kind_by (Some (front_of t attributes ++ codes "/")) ≡ Stands
+kind_ended : (t : Tag) (attributes : List Attribute) → kind_by (Some (front_of t attributes ++ codes "/")) ≡ NoContent
 kind_ended t [] = kind_bare_ended t
 kind_ended t (a ∷ attributes) =
     ap (λ l. kind_by (Some l)) (append_assoc (tag_name t) (flat_map attribute_text (a ∷ attributes)) (codes "/"))
     ∙ kind_with t ((tail_of a ++ flat_map attribute_text attributes) ++ codes "/")
-    ∙ ap (λ (n : ℕ). cond ((n == 47) || false) Stands (Begins (tag_name t))) (last_on 32 (tail_of a ++ flat_map attribute_text attributes) (codes "/"))
+    ∙ ap (λ (n : ℕ). cond ((n == 47) || false) NoContent (Begins (tag_name t))) (last_on 32 (tail_of a ++ flat_map attribute_text attributes) (codes "/"))
 
 -- the tag that ends another
 kind_end : (t : Tag) → kind_of (47 ∷ (tag_name t ++ codes ">")) ≡ Ends (tag_name t)
@@ -99,10 +99,10 @@ no_text tag.Heading = refl
 no_text tag.Item = refl
 
 -- the elements that each tag leaves open
-pub standing_opens : (t : Tag) (attributes : List Attribute) (s : Stack) → opens_in (empty_element t attributes) s ≡ s
-standing_opens t attributes s =
+pub empty_element_opens : (t : Tag) (attributes : List Attribute) (s : Stack) → opens_in (empty_element t attributes) s ≡ s
+empty_element_opens t attributes s =
     ap (λ tags. after_tags tags s) (tag_alone (body_of t attributes (codes "/>\n")) (none_body t attributes (codes "/>\n") refl))
-    ∙ ap (λ k. after_kind k s) (ap kind_by (inner_standing t attributes) ∙ kind_ended t attributes)
+    ∙ ap (λ k. after_kind k s) (ap kind_by (inner_empty_element t attributes) ∙ kind_ended t attributes)
 
 begins_body : (t : Tag) (attributes : List Attribute) (rest : List ℕ) → kind_of (body_of t attributes (codes ">") ++ rest) ≡ Begins (tag_name t)
 begins_body t attributes rest = ap kind_by (inner_entering t attributes rest) ∙ kind_front t attributes
@@ -127,7 +127,7 @@ begins_mark : (attributes : List Attribute) → kind_of (mark_body attributes ++
 begins_mark attributes =
     ap kind_of (append-nil (mark_body attributes) ∙ sym (append_assoc (codes "g class=\"m\" role=\"img\"") (flat_map attribute_text attributes) (codes ">")))
     ∙ ap kind_by (inner_found (codes "g class=\"m\" role=\"img\"" ++ flat_map attribute_text attributes) [] (ends_of (codes "g class=\"m\" role=\"img\"" ++ flat_map attribute_text attributes) (calm-append (codes "g class=\"m\" role=\"img\"") (flat_map attribute_text attributes) refl (calm_attributes attributes))))
-    ∙ ap (λ (n : ℕ). cond ((n == 47) || false) Stands (Begins group)) (quote_last attributes)
+    ∙ ap (λ (n : ℕ). cond ((n == 47) || false) NoContent (Begins group)) (quote_last attributes)
 
 pub marking_opens : (attributes : List Attribute) (title : List ℕ) (s : Stack) → opens_in (marking attributes title) s ≡ begun group s
 marking_opens attributes title s =
@@ -144,14 +144,14 @@ pub lowering_opens : (by : ℕ) (s : Stack) → opens_in (lowering by) s ≡ beg
 lowering_opens by s =
     ap (λ tags. after_tags tags s) (lowered_tags by)
     ∙ ap (λ k. after_kind k s) (ap kind_by (inner_lower by)
-    ∙ ap (λ (n : ℕ). cond ((n == 47) || false) Stands (Begins group)) (last_on 103 (codes " transform=\"translate(0," ++ escaped (decimal by)) (codes ")\"")))
+    ∙ ap (λ (n : ℕ). cond ((n == 47) || false) NoContent (Begins group)) (last_on 103 (codes " transform=\"translate(0," ++ escaped (decimal by)) (codes ")\"")))
 
 -- a field for input
-either : (c : Bool) → cond (c || true) Stands (Begins (codes "input")) ≡ Stands
+either : (c : Bool) → cond (c || true) NoContent (Begins (codes "input")) ≡ NoContent
 either true = refl
 either false = refl
 
-kind_field : (attributes : List Attribute) → kind_by (Some (codes "input" ++ flat_map attribute_text attributes)) ≡ Stands
+kind_field : (attributes : List Attribute) → kind_by (Some (codes "input" ++ flat_map attribute_text attributes)) ≡ NoContent
 kind_field [] = refl
 kind_field (a ∷ attributes) = either (last_byte 105 (codes "nput" ++ flat_map attribute_text (a ∷ attributes)) == 47)
 

@@ -1,10 +1,10 @@
 -- Reading markup that grows.
 use Rattle.std.proofs.Common.{◌≡◌, ℕ, true, List, [], ◌∷◌, ◌++◌, Result, Ok, Err, OnOk, ap, ◌∙◌, append-nil}
 use Rattle.markup.specs.{Attribute, Reading, Stack, Tag, begun, entering, group, input_field, is_at_rest, is_even, is_no_mark, joined, lines_in, lowering, marking, noting, opens_in, reading, empty_element, tag_name, tags_of, text_element, with_mark, with_tags}
-use Rattle.markup.proofs.KindsOfTags.{entering_opens, field_opens, lowering_opens, marking_opens, noting_opens, standing_opens, reporting_opens}
+use Rattle.markup.proofs.KindsOfTags.{entering_opens, field_opens, lowering_opens, marking_opens, noting_opens, empty_element_opens, reporting_opens}
 use Rattle.markup.proofs.Lines.{lines_on}
 use Rattle.markup.proofs.Stacks.{even_same, opens_on}
-use Rattle.markup.proofs.Tags.{entering_lines, entering_rests, field_lines, field_rests, lowering_lines, lowering_rests, marking_lines, marking_rests, noting_lines, noting_rests, standing_lines, standing_rests, reporting_lines, reporting_rests}
+use Rattle.markup.proofs.Tags.{entering_lines, entering_rests, field_lines, field_rests, lowering_lines, lowering_rests, marking_lines, marking_rests, noting_lines, noting_rests, empty_element_lines, empty_element_rests, reporting_lines, reporting_rests}
 
 -- markup at rest continues
 pub reading_on : (old more : List ℕ) → is_at_rest (tags_of old) ≡ true → reading (old ++ more) ≡ joined (reading old) (reading more)
@@ -34,11 +34,11 @@ grows (Err e) new old bytes more is are = tt
 
 -- bytes that are known to be a written text
 module _ (bytes : List ℕ) (t : Tag) (attributes : List Attribute) where
-  pub standing_settles : bytes ≡ empty_element t attributes → is_no_mark (tag_name t) ≡ true → is_at_rest (tags_of bytes) ≡ true
-  standing_settles is h = ap (λ b. is_at_rest (tags_of b)) is ∙ standing_rests t attributes h
+  pub empty_element_settles : bytes ≡ empty_element t attributes → is_no_mark (tag_name t) ≡ true → is_at_rest (tags_of bytes) ≡ true
+  empty_element_settles is h = ap (λ b. is_at_rest (tags_of b)) is ∙ empty_element_rests t attributes h
 
-  pub standing_read : bytes ≡ empty_element t attributes → reading bytes ≡ tags_alone (λ stack. stack)
-  standing_read is = ap reading is ∙ (λ i. record { lines = standing_lines t attributes i; opens = λ stack. standing_opens t attributes stack i })
+  pub empty_element_read : bytes ≡ empty_element t attributes → reading bytes ≡ tags_alone (λ stack. stack)
+  empty_element_read is = ap reading is ∙ (λ i. record { lines = empty_element_lines t attributes i; opens = λ stack. empty_element_opens t attributes stack i })
 
   pub entering_settles : bytes ≡ entering t attributes → is_no_mark (tag_name t) ≡ true → is_at_rest (tags_of bytes) ≡ true
   entering_settles is h = ap (λ b. is_at_rest (tags_of b)) is ∙ entering_rests t attributes h

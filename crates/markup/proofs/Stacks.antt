@@ -4,7 +4,7 @@ use Rattle.std.proofs.lemmas.Bool.{and_parts, true≢false}
 use Rattle.std.proofs.lemmas.Slice.Eq.{bytes_eq-Decides}
 use Rattle.std.specs.List.{list_all}
 use Rattle.std.specs.Str.{bytes_eq}
-use Rattle.markup.specs.{Begins, Broken, Ends, Kind, Stack, Stands, after_kind, after_tags, begun, cut, ended, is_among, is_at_rest, is_closed, is_even, is_no_text, kind_by, kind_of, opens_in, tags_of, text_names}
+use Rattle.markup.specs.{Begins, Broken, Ends, Kind, Stack, NoContent, after_kind, after_tags, begun, cut, ended, is_among, is_at_rest, is_closed, is_even, is_no_text, kind_by, kind_of, opens_in, tags_of, text_names}
 use Rattle.markup.proofs.Lines.{inner_on, onto_last, tags_on, whole}
 
 -- tags, and then others
@@ -50,7 +50,7 @@ round name (Some (last ∷ others)) other = ends_begun name last others other (i
 kind_none : (k : Kind) → after_kind k None ≡ None
 kind_none (Begins name) = refl
 kind_none (Ends name) = refl
-kind_none Stands = refl
+kind_none NoContent = refl
 kind_none Broken = refl
 
 none_stays : (tags : List (List ℕ)) → after_tags tags None ≡ None
@@ -65,7 +65,7 @@ turned false h = refl
 kind_stays : (k : Kind) (last : List ℕ) (others : List (List ℕ)) → is_no_text k ≡ true → is_among text_names last ≡ true → after_kind k (Some (last ∷ others)) ≡ Some (last ∷ others)
 kind_stays (Begins name) last others other text = ap (λ (b : Bool). Some (cond b (last ∷ others) (name ∷ last ∷ others))) text
 kind_stays (Ends name) last others other text = λ i. cond (other_name name last (turned (is_among text_names name) other) text i) (Some others) (cond (text i) (Some (last ∷ others)) None)
-kind_stays Stands last others other text = refl
+kind_stays NoContent last others other text = refl
 kind_stays Broken last others other text = absurd (cc)
 
 text_stays : (tags : List (List ℕ)) (last : List ℕ) (others : List (List ℕ)) → list_all (λ tag. is_no_text (kind_of tag)) tags ≡ true → is_among text_names last ≡ true → after_tags tags (Some (last ∷ others)) ≡ Some (last ∷ others)
@@ -102,7 +102,7 @@ kind_on (Ends name) (last ∷ others) below holds fits = go (bytes_eq name last)
     go true text = refl
     go false true = refl
     go false false = refl
-kind_on Stands names below holds fits = refl
+kind_on NoContent names below holds fits = refl
 kind_on Broken [] below holds fits = absurd (cc)
 kind_on Broken (last ∷ others) below holds fits = go (is_among text_names last)
   where

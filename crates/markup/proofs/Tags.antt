@@ -158,8 +158,8 @@ pub none_body : (t : Tag) (attributes : List Attribute) (end : List ℕ) → beg
 none_body t attributes end h = none-append (front_of t attributes) end (begins_of (front_of t attributes) (calm_front t attributes)) h
 
 -- a tag with nothing in it
-pub inner_standing : (t : Tag) (attributes : List Attribute) → inner (body_of t attributes (codes "/>\n")) ≡ Some (front_of t attributes ++ codes "/")
-inner_standing t attributes =
+pub inner_empty_element : (t : Tag) (attributes : List Attribute) → inner (body_of t attributes (codes "/>\n")) ≡ Some (front_of t attributes ++ codes "/")
+inner_empty_element t attributes =
     ap inner (sym (append_assoc (front_of t attributes) (codes "/") (codes ">\n")))
     ∙ inner_found (front_of t attributes ++ codes "/") (codes "\n") (ends_of (front_of t attributes ++ codes "/") (calm-append (front_of t attributes) (codes "/") (calm_front t attributes) refl))
 
@@ -174,13 +174,13 @@ unmarked_body t attributes end h = no_mark_on (front_of t attributes) end (no_ma
 body_lines : (t : Tag) (attributes : List Attribute) (end : List ℕ) → begins_none end ≡ true → lines_in (60 ∷ body_of t attributes end) ≡ []
 body_lines t attributes end h = ap titles (tag_alone (body_of t attributes end) (none_body t attributes end h)) ∙ no_title_alone (body_of t attributes end)
 
-pub standing_rests : (t : Tag) (attributes : List Attribute) → is_no_mark (tag_name t) ≡ true → is_at_rest (tags_of (empty_element t attributes)) ≡ true
-standing_rests t attributes h =
+pub empty_element_rests : (t : Tag) (attributes : List Attribute) → is_no_mark (tag_name t) ≡ true → is_at_rest (tags_of (empty_element t attributes)) ≡ true
+empty_element_rests t attributes h =
     ap is_at_rest (tag_alone (body_of t attributes (codes "/>\n")) (none_body t attributes (codes "/>\n") refl))
-    ∙ settled_by (body_of t attributes (codes "/>\n")) (front_of t attributes ++ codes "/") (unmarked_body t attributes (codes "/>\n") h) (inner_standing t attributes)
+    ∙ settled_by (body_of t attributes (codes "/>\n")) (front_of t attributes ++ codes "/") (unmarked_body t attributes (codes "/>\n") h) (inner_empty_element t attributes)
 
-pub standing_lines : (t : Tag) (attributes : List Attribute) → lines_in (empty_element t attributes) ≡ []
-standing_lines t attributes = body_lines t attributes (codes "/>\n") refl
+pub empty_element_lines : (t : Tag) (attributes : List Attribute) → lines_in (empty_element t attributes) ≡ []
+empty_element_lines t attributes = body_lines t attributes (codes "/>\n") refl
 
 pub entering_rests : (t : Tag) (attributes : List Attribute) → is_no_mark (tag_name t) ≡ true → is_at_rest (tags_of (entering t attributes)) ≡ true
 entering_rests t attributes h =

@@ -8,7 +8,7 @@ use Rattle.markup.specs.Titles.{inner, tags_of}
 pub data Kind : Type 0 where
   Begins : List ℕ → Kind  -- an element of this name begins
   Ends : List ℕ → Kind  -- an element of this name ends
-  Stands : Kind  -- an element without content
+  NoContent : Kind  -- an element without content
   Broken : Kind  -- not a tag: it has no name or no `>`
 
 -- the elements of HTML that have no content, and those whose content is text alone
@@ -40,7 +40,7 @@ has_no_content b text = (b == 33) || ((b == 63) || ((last_byte b text == 47) || 
 abbrev pub kind_by : Option (List ℕ) → Kind
 kind_by None = Broken
 kind_by (Some []) = Broken
-kind_by (Some (b ∷ text)) = if b == 47 then Ends text else if has_no_content b text then Stands else Begins (name_of (b ∷ text))
+kind_by (Some (b ∷ text)) = if b == 47 then Ends text else if has_no_content b text then NoContent else Begins (name_of (b ∷ text))
 
 -- the kind of a tag
 abbrev pub kind_of : List ℕ → Kind
@@ -72,7 +72,7 @@ ended name (Some (last ∷ others)) = cond (bytes_eq name last) (Some others) (p
 abbrev pub after_kind : Kind → Stack → Stack
 after_kind (Begins name) stack = begun name stack
 after_kind (Ends name) stack = ended name stack
-after_kind Stands stack = stack
+after_kind NoContent stack = stack
 after_kind Broken stack = passed stack
 
 -- the open elements after tags
@@ -94,7 +94,7 @@ is_closed (Some (last ∷ others)) = false
 abbrev pub is_no_text : Kind → Bool
 is_no_text (Begins name) = not (is_among text_names name)
 is_no_text (Ends name) = not (is_among text_names name)
-is_no_text Stands = true
+is_no_text NoContent = true
 is_no_text Broken = false
 
 -- whether each element that begins in markup ends in it, and each that ends in it began in it; and none is of text alone

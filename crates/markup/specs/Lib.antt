@@ -4,7 +4,7 @@ pub mod Figures
 pub mod Markup
 pub mod Readings
 pub mod Titles
-pub use Elements.{Begins, Broken, Ends, EndsAll, Kind, Stack, Stands, after_kind, after_tags, begun, ended, is_among, is_closed, is_even, is_no_text, kind_by, kind_of, last_byte, opens_in, text_names}
+pub use Elements.{Begins, Broken, Ends, EndsAll, Kind, Stack, NoContent, after_kind, after_tags, begun, ended, is_among, is_closed, is_even, is_no_text, kind_by, kind_of, last_byte, opens_in, text_names}
 pub use Escaping.{behind, escaped, escaped_by, is_plain, names, unescaped}
 unfoldable pub use Figures.{drawn, line_from, path_from}
 pub use Figures.{Block, End, Label, Mark, Note, Pill, Ring, Shape, drawings}

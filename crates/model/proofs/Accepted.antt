@@ -245,7 +245,7 @@ step_adds s g past p flick h v room = go v
     go (rests i) = let f : refused_at (Step p flick) Idle ≡ None = ap (refused_at (Step p flick)) (sym i) ∙ h in cc
     go (down i) = let f : refused_at (Step p flick) Down ≡ None = ap (refused_at (Step p flick)) (sym i) ∙ h in cc
     go (runs r) =
-        let n = runs_on (last_call s p mine) (read_so_far s (since starts mine)) len r.at r.stands r.not_over in
+        let n = runs_on (last_call s p mine) (read_so_far s (since starts mine)) len r.at r.corresponds r.not_over in
         made n.0 (ap (λ m. nth len (program_from s p flick mine m)) r.begun
         ∙ ap (λ l. slice_get (singles (Rattle.model.specs.Program.local_program (last_call s p mine) (read_so_far s l).finished)) len) r.same ∙ n.1)
     go (withdraws b st) =

@@ -9,7 +9,7 @@ use Rattle.model.specs.declared.marks.Mark.TheVariants.{Failed, Withdrew}
 use Rattle.model.specs.declared.stages.Stage.TheVariants as stages
 use Rattle.model.proofs.Accepted.{before-plain, no_failed}
 use Rattle.model.proofs.ClosingScripts.{closing-stages}
-use Rattle.model.proofs.ClosingStanding.{withdrawn_stands, unit_stands, reported-again, flick-free, chosen-after, IsChosen}
+use Rattle.model.proofs.ClosingAccesses.{withdrawn_corresponds, unit_corresponds, reported-again, flick-free, chosen-after, IsChosen}
 use Rattle.model.proofs.Local.{since-plain, call-plain, option_map-some}
 use Rattle.model.proofs.OpenSteps.{leaving_at, failing_at, closing-plain, closing-same}
 use Rattle.model.proofs.Staging.{stage-placed, no_start-placed}
@@ -31,7 +31,7 @@ closing-step : (s : Setup) (past : Past) (p : ℕ) (flick : Bool) (e : Entry) (a
     stage p past ≡ closing_stage at → stepped s past p flick ≡ option_map (closing_entry s past p flick) (closing_next c at flick) →
     ((n : Next) → closing_next c at flick ≡ Some n → closing_entry s past p flick n ≡ e → closing_next c at (value_written e) ≡ Some n) →
     stepped s past p flick ≡ Some e → ClosingStep s past p flick e at
-closing-step s past p flick e at st stands again h = record {
+closing-step s past p flick e at st corresponds again h = record {
   next = n;
   made = made.1;
   is = made.2;
@@ -46,7 +46,7 @@ closing-step s past p flick e at st stands again h = record {
     c = last_call s p (own p past)
 
     made : (n : Next) × (closing_next c at flick ≡ Some n) × (closing_entry s past p flick n ≡ e)
-    made = option_map-some (closing_entry s past p flick) (closing_next c at flick) e (sym stands ∙ h)
+    made = option_map-some (closing_entry s past p flick) (closing_next c at flick) e (sym corresponds ∙ h)
 
     n : Next
     n = made.0
@@ -64,7 +64,7 @@ pub withdrawn-step : (s : Setup) → IsGood s → (events : List Event) (p : ℕ
     → let past : Past = past_of s events in
     last_start (own p past) ≡ Some Withdrew → stage p past ≡ stages.Leaving → stepped s past p flick ≡ Some e → ClosingStep s past p flick e (leaving_at s p (own p past))
 withdrawn-step s g events p flick e b st h =
-    closing-step s past p flick e (leaving_at s p mine) (st ∙ sym stands.0) (stands.1 flick)
+    closing-step s past p flick e (leaving_at s p mine) (st ∙ sym corresponds.0) (corresponds.1 flick)
     (λ n i is. flick-free c (leaving_at s p mine) (leaving-chosen c (map value_written (since starts mine))) (value_written e) flick ∙ i) h
   where
     past : Past
@@ -76,15 +76,15 @@ withdrawn-step s g events p flick e b st h =
     c : Call
     c = last_call s p mine
 
-    stands : (closing_stage (leaving_at s p mine) ≡ stages.Leaving) × ((flick : Bool) → stepped s past p flick ≡ option_map (closing_entry s past p flick) (closing_next c (leaving_at s p mine) flick))
-    stands = withdrawn_stands s g events p b st
+    corresponds : (closing_stage (leaving_at s p mine) ≡ stages.Leaving) × ((flick : Bool) → stepped s past p flick ≡ option_map (closing_entry s past p flick) (closing_next c (leaving_at s p mine) flick))
+    corresponds = withdrawn_corresponds s g events p b st
 
 -- a step of a memory unit
 pub unit-step : (s : Setup) → IsGood s → (events : List Event) (p : ℕ) (flick : Bool) (e : Entry)
     → let past : Past = past_of s events in
     last_start (own p past) ≡ Some Failed → stage p past ≡ stages.Settling → stepped s past p flick ≡ Some e → ClosingStep s past p flick e (failing_at s p (own p past))
 unit-step s g events p flick e b st h =
-    closing-step s past p flick e (failing_at s p mine) (st ∙ sym stands.0) (stands.1 flick)
+    closing-step s past p flick e (failing_at s p mine) (st ∙ sym corresponds.0) (corresponds.1 flick)
     (λ n i is. ap (closing_next c (failing_at s p mine)) (sym (ap value_written is)) ∙ reported-again s past c (before is_failed mine) (map value_written (since is_failed mine)) flick n i) h
   where
     past : Past
@@ -96,8 +96,8 @@ unit-step s g events p flick e b st h =
     c : Call
     c = last_call s p mine
 
-    stands : (closing_stage (failing_at s p mine) ≡ stages.Settling) × ((flick : Bool) → stepped s past p flick ≡ option_map (closing_entry s past p flick) (closing_next c (failing_at s p mine) flick))
-    stands = unit_stands s g events p b st
+    corresponds : (closing_stage (failing_at s p mine) ≡ stages.Settling) × ((flick : Bool) → stepped s past p flick ≡ option_map (closing_entry s past p flick) (closing_next c (failing_at s p mine) flick))
+    corresponds = unit_corresponds s g events p b st
 
 -- where a closing is after an entry that begins no program
 pub leaving-then : (s : Setup) (p : ℕ) (e : Entry) (mine : Past) → has starts e ≡ false → leaving_at s p (e ∷ mine) ≡ closing_after (last_call s p mine) (leaving_at s p mine) (value_written e)

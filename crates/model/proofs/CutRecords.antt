@@ -9,7 +9,7 @@ use Rattle.model.specs.declared.marks.Mark.TheVariants.{Called, Failed, Withdrew
 use Rattle.model.specs.declared.stages.Stage.TheVariants as stages
 use Rattle.model.specs.Closings.{Closing, Withdraws, Settles, Frees, Lowers, Quit, Ended, no_ticket, freeing, withdrawing, failing, settling_from, reply_with, closing_of}
 use Rattle.model.specs.Parts.{Part, Raises, Asks, TakesTicket, Lowers as LowersChoosing, Refuses, Waits, AsksCommit, AsksStamp, AsksImage, WritesImage, WritesStamp, WritesCommit, Clears, Over, is_over, written_at}
-use Rattle.model.proofs.ClosingStanding.{is_unit, keeps-kind}
+use Rattle.model.proofs.ClosingAccesses.{is_unit, keeps-kind}
 use Rattle.model.proofs.Knows.{Knows}
 use Rattle.model.proofs.Left.{bit_left, value_at, value_closing, value-begun, value-withdrawn}
 use Rattle.model.proofs.OpenSteps.{Opens, closed, runs_at, leaves, settles, Cuts, CutsLate, torn_late, place_at, leaving_at}
@@ -20,7 +20,7 @@ use Rattle.model.proofs.Closing.{Fit, ticket_width}
 use Rattle.model.proofs.ClosingScripts.{withdrawal-stays}
 use Rattle.model.proofs.Cursors.{Goes}
 use Rattle.model.proofs.Local.{Running}
-use Rattle.model.proofs.Standing.{at_place}
+use Rattle.model.proofs.NextAccesses.{at_place}
 use Rattle.model.proofs.Ties.{Tie, over, writes, reads, written-width}
 use Rattle.reader_copies.specs.{Writing as BitWriting, Settling}
 

@@ -35,7 +35,7 @@ spot_of c [] = start
 spot_of c (a ∷ past) = moved_on c (spot_of c past) a
 
 -- the place is the position of the script, after the reads and this many accesses
-pub record Stands (c : Call) (r : ReadSoFar) (len : ℕ) (at : Spot) : Type 0 where
+pub record Corresponds (c : Call) (r : ReadSoFar) (len : ℕ) (at : Spot) : Type 0 where
   pub done : List Next
   pub count : length done + at.made ≡ len
   pub bits : r.bits ≡ at.bits
@@ -57,7 +57,7 @@ in_first q tail k n l h =
     single-access q.first q.last q.accesses k n
     (sym (get-remaining (single q.first q.last q.accesses) (singles tail) k (rw length-single l)) ∙ h)
 
-pub next-in_rest : (c : Call) (r : ReadSoFar) (len : ℕ) (at : Spot) (n : Next) → Stands c r len at → scripted c r.finished len ≡ Some n → slice_get (singles (rest c at.part [])) at.made ≡ Some n
+pub next-in_rest : (c : Call) (r : ReadSoFar) (len : ℕ) (at : Spot) (n : Next) → Corresponds c r len at → scripted c r.finished len ≡ Some n → slice_get (singles (rest c at.part [])) at.made ≡ Some n
 next-in_rest c r len at n st h =
     sym (get-append st.done (singles (rest c at.part [])) at.made)
     ∙ ap (λ i. slice_get (st.done ++ singles (rest c at.part [])) i) st.count
@@ -65,7 +65,7 @@ next-in_rest c r len at n st h =
     ∙ ap (λ f. slice_get (singles (local_program c f)) len) (append-nil r.finished)
     ∙ h
 
-pub not_over : (c : Call) (r : ReadSoFar) (len : ℕ) (at : Spot) (n : Next) → Stands c r len at → scripted c r.finished len ≡ Some n → is_over at.part ≡ false
+pub not_over : (c : Call) (r : ReadSoFar) (len : ℕ) (at : Spot) (n : Next) → Corresponds c r len at → scripted c r.finished len ≡ Some n → is_over at.part ≡ false
 not_over c r len at n st h = go (is_over at.part) refl
   where
     go : (b : Bool) → is_over at.part ≡ b → is_over at.part ≡ false
@@ -75,7 +75,7 @@ not_over c r len at n st h = go (is_over at.part) refl
         let f : None ≡ Some n = sym (get-none at.made) ∙ e in cc
 
 -- the next access is that of the place
-pub next_access : (c : Call) (r : ReadSoFar) (len : ℕ) (at : Spot) (n : Next) → Stands c r len at → scripted c r.finished len ≡ Some n → slice_get (doing c at.part) at.made ≡ Some n.access
+pub next_access : (c : Call) (r : ReadSoFar) (len : ℕ) (at : Spot) (n : Next) → Corresponds c r len at → scripted c r.finished len ≡ Some n → slice_get (doing c at.part) at.made ≡ Some n.access
 next_access c r len at n st h = go (is_read at.part) refl
   where
     within : at.made < length (doing c at.part)
@@ -88,8 +88,8 @@ next_access c r len at n st h = go (is_read at.part) refl
         (ap (λ s. slice_get (singles s) at.made) (sym (rest-write c at.part [] e (not_over c r len at n st h))) ∙ next-in_rest c r len at n st h)
 
 -- within a part
-pub stays : (c : Call) (r q : ReadSoFar) (len : ℕ) (at : Spot) (bits : List Bool) → Stands c r len at → q.finished ≡ r.finished → q.bits ≡ bits →
-    (is_read at.part ≡ false → bits ≡ []) → at.made + 1 < length (doing c at.part) → Stands c q (suc len) (record { part = at.part; made = at.made + 1; bits = bits })
+pub stays : (c : Call) (r q : ReadSoFar) (len : ℕ) (at : Spot) (bits : List Bool) → Corresponds c r len at → q.finished ≡ r.finished → q.bits ≡ bits →
+    (is_read at.part ≡ false → bits ≡ []) → at.made + 1 < length (doing c at.part) → Corresponds c q (suc len) (record { part = at.part; made = at.made + 1; bits = bits })
 stays c r q len at bits st f b fresh l = record {
   done = st.done;
   count = omega (arith, st.count);
@@ -100,8 +100,8 @@ stays c r q len at bits st f b fresh l = record {
 }
 
 -- the end of a part that writes
-pub ends_write : (c : Call) → IsGood c.setup → (r : ReadSoFar) (len : ℕ) (at : Spot) → Stands c r len at → is_read at.part ≡ false → is_over at.part ≡ false →
-    at.made + 1 ≡ length (doing c at.part) → Stands c r (suc len) (record { part = part_after c at.part []; made = 0; bits = [] })
+pub ends_write : (c : Call) → IsGood c.setup → (r : ReadSoFar) (len : ℕ) (at : Spot) → Corresponds c r len at → is_read at.part ≡ false → is_over at.part ≡ false →
+    at.made + 1 ≡ length (doing c at.part) → Corresponds c r (suc len) (record { part = part_after c at.part []; made = 0; bits = [] })
 ends_write c g r len at st w o l = record {
   done = st.done ++ mine;
   count = omega (arith, st.count, length-append st.done mine, length-single (first_marks at.part) (last_marks c at.part []) (doing c at.part));
@@ -115,8 +115,8 @@ ends_write c g r len at st w o l = record {
     mine = single (first_marks at.part) (last_marks c at.part []) (doing c at.part)
 
 -- the end of a part that reads
-pub is_end_of_read : (c : Call) → IsGood c.setup → (r q : ReadSoFar) (len : ℕ) (at : Spot) (v : List Bool) → Stands c r len at → is_read at.part ≡ true →
-    q.finished ≡ r.finished ++ v ∷ [] → q.bits ≡ [] → at.made + 1 ≡ length (doing c at.part) → Stands c q (suc len) (record { part = part_after c at.part v; made = 0; bits = [] })
+pub is_end_of_read : (c : Call) → IsGood c.setup → (r q : ReadSoFar) (len : ℕ) (at : Spot) (v : List Bool) → Corresponds c r len at → is_read at.part ≡ true →
+    q.finished ≡ r.finished ++ v ∷ [] → q.bits ≡ [] → at.made + 1 ≡ length (doing c at.part) → Corresponds c q (suc len) (record { part = part_after c at.part v; made = 0; bits = [] })
 is_end_of_read c g r q len at v st w f b l = record {
   done = st.done ++ mine;
   count = omega (arith, st.count, length-append st.done mine, length-single (first_marks at.part) (last_marks c at.part v) (doing c at.part));
@@ -148,8 +148,8 @@ write-no_bits v (Settle b) bits h = refl
 write-no_bits v BeginRead bits h = cc
 write-no_bits v (EndRead b) bits h = cc
 
-pub step_write : (c : Call) → IsGood c.setup → (r : ReadSoFar) (len : ℕ) (at : Spot) (x : Access) (v : Bool) → Stands c r len at → is_read at.part ≡ false → is_over at.part ≡ false →
-    slice_get (doing c at.part) at.made ≡ Some x → Stands c (with_access c.setup (Some (ended_with v x)) r) (suc len) (moved_on c at (ended_with v x))
+pub step_write : (c : Call) → IsGood c.setup → (r : ReadSoFar) (len : ℕ) (at : Spot) (x : Access) (v : Bool) → Corresponds c r len at → is_read at.part ≡ false → is_over at.part ≡ false →
+    slice_get (doing c at.part) at.made ≡ Some x → Corresponds c (with_access c.setup (Some (ended_with v x)) r) (suc len) (moved_on c at (ended_with v x))
 step_write c g r len at x v st w o h =
     rw (write-adds_nothing (width c.setup x.field) x.bit v x.how r is, write-no_bits v x.how at.bits is, st.fresh w) (go (at.made + 1 == length (doing c at.part)) refl)
   where
@@ -159,7 +159,7 @@ step_write c g r len at x v st w o h =
         (ap (λ b. slice_get (cond b (read_of c.setup c.process (read_at c at.part).0 (read_at c at.part).1) (write_of c.setup c.process (written_at c at.part).0 (written_at c at.part).1)) at.made) (sym w) ∙ h)
 
     go : (b : Bool) → (at.made + 1 == length (doing c at.part)) ≡ b →
-        Stands c r (suc len) (cond b (record { part = part_after c at.part []; made = 0; bits = [] }) (record { part = at.part; made = at.made + 1; bits = [] }))
+        Corresponds c r (suc len) (cond b (record { part = part_after c at.part []; made = 0; bits = [] }) (record { part = at.part; made = at.made + 1; bits = [] }))
     go true e = ends_write c g r len at st w o (eqb-true _ _ e)
     go false e = stays c r r len at [] st refl (st.bits ∙ st.fresh w) (λ _. refl) (less e)
       where
@@ -174,8 +174,8 @@ same_end b w m l e f = go (eqb_tells (b + 1) w)
     go (inl h) = eq-eqb (m + 1) l (omega (arith, h.1)) ∙ sym h.0
     go (inr h) = ne_eqb (m + 1) l (λ k. h.1 (omega (arith, k))) ∙ sym h.0
 
-pub step_read : (c : Call) → IsGood c.setup → (r : ReadSoFar) (len : ℕ) (at : Spot) (x : Access) (v : Bool) → Stands c r len at → is_read at.part ≡ true →
-    slice_get (doing c at.part) at.made ≡ Some x → Stands c (with_access c.setup (Some (ended_with v x)) r) (suc len) (moved_on c at (ended_with v x))
+pub step_read : (c : Call) → IsGood c.setup → (r : ReadSoFar) (len : ℕ) (at : Spot) (x : Access) (v : Bool) → Corresponds c r len at → is_read at.part ≡ true →
+    slice_get (doing c at.part) at.made ≡ Some x → Corresponds c (with_access c.setup (Some (ended_with v x)) r) (suc len) (moved_on c at (ended_with v x))
 step_read c g r len at x v st w h = go which.half
   where
     owner : ℕ
@@ -193,7 +193,7 @@ step_read c g r len at x v st w h = go which.half
     size : length (doing c at.part) ≡ 2 * width c.setup field
     size = ap length is_reading ∙ length-reads_from c.process owner field 0 (width c.setup field)
 
-    go : Half 0 (width c.setup field) at.made x → Stands c (with_move (width c.setup x.field) x.bit (ended v x.how) r) (suc len) (moved_on c at (ended_with v x))
+    go : Half 0 (width c.setup field) at.made x → Corresponds c (with_move (width c.setup x.field) x.bit (ended v x.how) r) (suc len) (moved_on c at (ended_with v x))
     go (begins e l) =
         let f : (at.made + 1 == length (doing c at.part)) ≡ false = ne_eqb _ _ (λ k. omega (arith, k, l, size)) in
         rw (e, f) (stays c r r len at at.bits st refl st.bits (λ u. absurd (true≢false (sym w ∙ u))) (omega (arith, l, size)))
@@ -201,7 +201,7 @@ step_read c g r len at x v st w h = go which.half
         (last (x.bit + 1 == width c.setup field) refl)
       where
         last : (b : Bool) → (x.bit + 1 == width c.setup field) ≡ b →
-            Stands c (cond b (record { finished = r.finished ++ (r.bits ++ v ∷ []) ∷ []; bits = [] }) (record { finished = r.finished; bits = r.bits ++ v ∷ [] })) (suc len)
+            Corresponds c (cond b (record { finished = r.finished ++ (r.bits ++ v ∷ []) ∷ []; bits = [] }) (record { finished = r.finished; bits = r.bits ++ v ∷ [] })) (suc len)
             (cond b (record { part = part_after c at.part (at.bits ++ v ∷ []); made = 0; bits = [] }) (record { part = at.part; made = at.made + 1; bits = at.bits ++ v ∷ [] }))
         last true t = is_end_of_read c g r (record { finished = r.finished ++ (r.bits ++ v ∷ []) ∷ []; bits = [] }) len at (at.bits ++ v ∷ []) st w
             (ap (λ bs. r.finished ++ (bs ++ v ∷ []) ∷ []) st.bits) refl (omega (arith, size, k, eqb-true (x.bit + 1) (width c.setup field) t))
@@ -211,20 +211,20 @@ step_read c g r len at x v st w h = go which.half
             within : at.made + 1 < length (doing c at.part)
             within = grind (arith, size, k, t, eq-eqb, st.within (read-not_over at.part w))
 
-pub step : (c : Call) → IsGood c.setup → (r : ReadSoFar) (len : ℕ) (at : Spot) (n : Next) (v : Bool) → Stands c r len at → scripted c r.finished len ≡ Some n →
-    Stands c (with_access c.setup (Some (ended_with v n.access)) r) (suc len) (moved_on c at (ended_with v n.access))
+pub step : (c : Call) → IsGood c.setup → (r : ReadSoFar) (len : ℕ) (at : Spot) (n : Next) (v : Bool) → Corresponds c r len at → scripted c r.finished len ≡ Some n →
+    Corresponds c (with_access c.setup (Some (ended_with v n.access)) r) (suc len) (moved_on c at (ended_with v n.access))
 step c g r len at n v st h = go (is_read at.part) refl
   where
-    go : (b : Bool) → is_read at.part ≡ b → Stands c (with_access c.setup (Some (ended_with v n.access)) r) (suc len) (moved_on c at (ended_with v n.access))
+    go : (b : Bool) → is_read at.part ≡ b → Corresponds c (with_access c.setup (Some (ended_with v n.access)) r) (suc len) (moved_on c at (ended_with v n.access))
     go true w = step_read c g r len at n.access v st w (next_access c r len at n st h)
     go false w = step_write c g r len at n.access v st w (not_over c r len at n st h) (next_access c r len at n st h)
 
 -- if a process has followed its script, its place is the position of the script
-pub stands : (c : Call) → IsGood c.setup → (past : List Access) → IsFollowed c past → Stands c (reads_of c past) (length past) (spot_of c past)
-stands c g [] f = record { done = []; count = refl; bits = refl; script = λ more. refl; within = doing-pos c g Raises; fresh = λ _. refl }
-stands c g (a ∷ past) f = rw (f.1.3) (step c g (reads_of c past) (length past) (spot_of c past) f.1.0 f.1.1 (stands c g past f.0) f.1.2)
+pub corresponds : (c : Call) → IsGood c.setup → (past : List Access) → IsFollowed c past → Corresponds c (reads_of c past) (length past) (spot_of c past)
+corresponds c g [] f = record { done = []; count = refl; bits = refl; script = λ more. refl; within = doing-pos c g Raises; fresh = λ _. refl }
+corresponds c g (a ∷ past) f = rw (f.1.3) (step c g (reads_of c past) (length past) (spot_of c past) f.1.0 f.1.1 (corresponds c g past f.0) f.1.2)
 
 -- so the next access of the script is that of the place
 pub next_is : (c : Call) → IsGood c.setup → (past : List Access) → IsFollowed c past → (n : Next) → scripted c (reads_of c past).finished (length past) ≡ Some n →
     slice_get (doing c (spot_of c past).part) (spot_of c past).made ≡ Some n.access
-next_is c g past f n h = next_access c (reads_of c past) (length past) (spot_of c past) n (stands c g past f) h
+next_is c g past f n h = next_access c (reads_of c past) (length past) (spot_of c past) n (corresponds c g past f) h

@@ -4,7 +4,7 @@ pub use Rattle.safe_number.proofs as safe_number
 pub use Rattle.store_image.proofs as store_image
 -- A place of the program, and its script
 pub mod Place
-pub mod Standing
+pub mod NextAccesses
 pub mod Singles
 pub mod Staging
 pub mod Marking
@@ -14,7 +14,7 @@ pub mod Ties
 pub mod Cursors
 -- The closing of a call that was cut or given up
 pub mod Closing
-pub mod ClosingStanding
+pub mod ClosingAccesses
 pub mod ClosingScripts
 pub mod Left
 pub mod CutRecords

@@ -9,7 +9,7 @@ use Rattle.model.specs.declared.stages.Stage.TheVariants.{Idle, Leaving, Settlin
 use Rattle.model.proofs.Singles
 use Rattle.model.proofs.Singles.{get-append, get-remaining, length-single, Half, begins, ends, read-at, AllWrites-write_of, AllWrites-get}
 use Rattle.model.proofs.Place.{portion, rest, rest-read}
-use Rattle.model.proofs.Follow.{Spot, more_bits, moved_on, Stands, next_access, not_over, write-adds_nothing, step}
+use Rattle.model.proofs.Follow.{Spot, more_bits, moved_on, Corresponds, next_access, not_over, write-adds_nothing, step}
 use Rattle.model.proofs.Ties.{Tied, tied-next, tied-on}
 use Rattle.model.proofs.Marking.{spot_marks, marks_are}
 use Rattle.model.proofs.Width.{IsGood}
@@ -21,7 +21,7 @@ pub record Running (s : Setup) (p : ℕ) (mine : Past) (st : Stage) : Type 0 whe
   pub begun : last_start mine ≡ Some (Called command)
   pub same : since is_called mine ≡ since starts mine
   pub at : Spot
-  pub stands : Stands (last_call s p mine) (read_so_far s (since starts mine)) (length (since starts mine)) at
+  pub corresponds : Corresponds (last_call s p mine) (read_so_far s (since starts mine)) (length (since starts mine)) at
   pub not_over : is_over at.part ≡ false
   pub tied : Tied (last_call s p mine) (place_of (last_call s p mine) (accesses_of (since starts mine))) at
   pub stage : st ≡ stage_of at.part (at.made == 0)
@@ -63,7 +63,7 @@ get_some (x ∷ xs) zero h = (x, refl)
 get_some (x ∷ xs) (suc k) h = get_some xs k (omega arith)
 
 -- the script goes as far when the access is made
-pub made_too : (c : Rattle.model.specs.Scripts.Call) (r : ReadSoFar) (len : ℕ) (at : Spot) (n : Next) (v : Bool) → Stands c r len at → scripted c r.finished len ≡ Some n →
+pub made_too : (c : Rattle.model.specs.Scripts.Call) (r : ReadSoFar) (len : ℕ) (at : Spot) (n : Next) (v : Bool) → Corresponds c r len at → scripted c r.finished len ≡ Some n →
     (m : Next) × (scripted c (with_access c.setup (Some (ended_with v n.access)) r).finished len ≡ Some m)
 made_too c r len at n v st h = go (is_read at.part) refl
   where
@@ -149,9 +149,9 @@ running_on s g p mine st r e n v k ea em h = (plain, go (is_over to.part) refl)
     at_stage = ap (fold stage_after st) em ∙ stage-placed k st (spot_marks (last_call s p mine) r.at a)
         ∙ ap (λ x. fold stage_after x (spot_marks (last_call s p mine) r.at a)) r.stage ∙ stage-moved (last_call s p mine) r.at a
 
-    stands : Stands (last_call s p (e ∷ mine)) (read_so_far s (since starts (e ∷ mine))) (length (since starts (e ∷ mine))) to
-    stands = rw (call-plain s p e mine plain, since-plain e mine plain, ea)
-        (step (last_call s p mine) g (read_so_far s (since starts mine)) (length (since starts mine)) r.at n v r.stands h)
+    corresponds : Corresponds (last_call s p (e ∷ mine)) (read_so_far s (since starts (e ∷ mine))) (length (since starts (e ∷ mine))) to
+    corresponds = rw (call-plain s p e mine plain, since-plain e mine plain, ea)
+        (step (last_call s p mine) g (read_so_far s (since starts mine)) (length (since starts mine)) r.at n v r.corresponds h)
 
     place : Place
     place = place_of (last_call s p mine) (accesses_of (since starts mine))
@@ -159,7 +159,7 @@ running_on s g p mine st r e n v k ea em h = (plain, go (is_over to.part) refl)
     is : n.access ≡ access_at (last_call s p mine) place.part place.run
     is =
         let f : Some n.access ≡ Some (access_at (last_call s p mine) place.part place.run) =
-        sym (next_access (last_call s p mine) (read_so_far s (since starts mine)) (length (since starts mine)) r.at n r.stands h)
+        sym (next_access (last_call s p mine) (read_so_far s (since starts mine)) (length (since starts mine)) r.at n r.corresponds h)
         ∙ tied-next (last_call s p mine) g place r.at (ap is_over (sym r.tied.part) ∙ r.not_over) r.tied in
         cc
 
@@ -180,7 +180,7 @@ running_on s g p mine st r e n v k ea em h = (plain, go (is_over to.part) refl)
       begun = start-plain e mine plain ∙ r.begun;
       same = since_called-plain e mine plain ∙ ap (λ l. e ∷ l) r.same ∙ sym (since-plain e mine plain);
       at = to;
-      stands = stands;
+      corresponds = corresponds;
       not_over = o;
       tied = tied;
       stage = at_stage;
@@ -221,11 +221,11 @@ running_steps s g p past st flick r e h =
     next : scripted c (read_so_far s (since starts mine)).finished len ≡ Some n
     next = ap (λ l. scripted c (read_so_far s l).finished len) (sym r.same) ∙ ap (λ o. nth len (program_from s p flick mine o)) (sym r.begun) ∙ made.1
 
-    there : scripted c (with_access s (Some (ended_with v n.access)) (read_so_far s (since starts mine))).finished len ≡ Some (made_too c (read_so_far s (since starts mine)) len r.at n v r.stands next).0
-    there = (made_too c (read_so_far s (since starts mine)) len r.at n v r.stands next).1
+    there : scripted c (with_access s (Some (ended_with v n.access)) (read_so_far s (since starts mine))).finished len ≡ Some (made_too c (read_so_far s (since starts mine)) len r.at n v r.corresponds next).0
+    there = (made_too c (read_so_far s (since starts mine)) len r.at n v r.corresponds next).1
 
     marks_is : marks_at len (program s p flick (bare ∷ mine)) ≡ spot_marks c r.at (ended_with v n.access)
     marks_is = ap (λ o. marks_at len (program_from s p flick (bare ∷ mine) o)) r.begun
         ∙ ap (λ l. marks_at len (local_program c (with_access s (Some (ended_with v n.access)) (read_so_far s l)).finished)) r.same
         ∙ ap {A = Option Next} (λ o. elim o as (λ _. List Mark) [ None ↦ [] | Some q ↦ q.marks ]) there
-        ∙ marks_are c (read_so_far s (since starts mine)) len r.at n (made_too c (read_so_far s (since starts mine)) len r.at n v r.stands next).0 v r.stands next there
+        ∙ marks_are c (read_so_far s (since starts mine)) len r.at n (made_too c (read_so_far s (since starts mine)) len r.at n v r.corresponds next).0 v r.corresponds next there

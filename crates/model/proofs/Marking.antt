@@ -5,7 +5,7 @@ use Rattle.model.specs.{Access, Call, Clears, Field, Mark, Next, Numbers, Part, 
 use Rattle.model.proofs.Singles
 use Rattle.model.proofs.Singles.{get-append, get-remaining, length-single, length-reads_from, Half, begins, ends, read-at, AllWrites-write_of, AllWrites-get}
 use Rattle.model.proofs.Place.{portion, rest, rest-unread, rest-read, rest-write}
-use Rattle.model.proofs.Follow.{Spot, more_bits, Stands, next_access, not_over, same_end, write-adds_nothing, write-no_bits}
+use Rattle.model.proofs.Follow.{Spot, more_bits, Corresponds, next_access, not_over, same_end, write-adds_nothing, write-no_bits}
 use Rattle.safe_bit.specs.{is_of_write}
 
 -- first on the first access, last on the last one
@@ -40,7 +40,7 @@ marks_in_first q tail k n l h =
     single-marks q.first q.last q.accesses k n
     (sym (get-remaining (single q.first q.last q.accesses) (singles tail) k (rw length-single l)) ∙ h)
 
-pub in_rest : (c : Call) (r : ReadSoFar) (len : ℕ) (at : Spot) (n : Next) (more : Numbers) → Stands c r len at → scripted c (r.finished ++ more) len ≡ Some n → slice_get (singles (rest c at.part more)) at.made ≡ Some n
+pub in_rest : (c : Call) (r : ReadSoFar) (len : ℕ) (at : Spot) (n : Next) (more : Numbers) → Corresponds c r len at → scripted c (r.finished ++ more) len ≡ Some n → slice_get (singles (rest c at.part more)) at.made ≡ Some n
 in_rest c r len at n more st h =
     sym (get-append st.done (singles (rest c at.part more)) at.made)
     ∙ ap (λ i. slice_get (st.done ++ singles (rest c at.part more)) i) st.count
@@ -55,7 +55,7 @@ pub no_first_marks : (part : Part) → is_read part ≡ true → first_marks par
 no_first_marks (Clears a) h = cc
 no_first_marks _ h = refl
 
-pub marks_write : (c : Call) (r : ReadSoFar) (len : ℕ) (at : Spot) (n m : Next) (v : Bool) → Stands c r len at → is_read at.part ≡ false → scripted c r.finished len ≡ Some n →
+pub marks_write : (c : Call) (r : ReadSoFar) (len : ℕ) (at : Spot) (n m : Next) (v : Bool) → Corresponds c r len at → is_read at.part ≡ false → scripted c r.finished len ≡ Some n →
     scripted c (with_access c.setup (Some (ended_with v n.access)) r).finished len ≡ Some m → m.marks ≡ spot_marks c at (ended_with v n.access)
 marks_write c r len at n m v st w h k =
     rw (write-no_bits v n.access.how at.bits is, st.fresh w)
@@ -73,7 +73,7 @@ marks_write c r len at n m v st w h k =
     e : scripted c (r.finished ++ []) len ≡ Some m
     e = ap (λ f. scripted c f len) (append-nil r.finished ∙ ap (λ (q : ReadSoFar). q.finished) (sym (write-adds_nothing (width c.setup n.access.field) n.access.bit v n.access.how r is))) ∙ k
 
-pub marks_read : (c : Call) (r : ReadSoFar) (len : ℕ) (at : Spot) (n m : Next) (v : Bool) → Stands c r len at → is_read at.part ≡ true → scripted c r.finished len ≡ Some n →
+pub marks_read : (c : Call) (r : ReadSoFar) (len : ℕ) (at : Spot) (n m : Next) (v : Bool) → Corresponds c r len at → is_read at.part ≡ true → scripted c r.finished len ≡ Some n →
     scripted c (with_access c.setup (Some (ended_with v n.access)) r).finished len ≡ Some m → m.marks ≡ spot_marks c at (ended_with v n.access)
 marks_read c r len at n m v st w h k = go which.half k
   where
@@ -116,7 +116,7 @@ marks_read c r len at n m v st w h k = go which.half k
             ∙ in_rest c r len at m ((at.bits ++ v ∷ []) ∷ []) st (ap (λ bs. scripted c (r.finished ++ (bs ++ v ∷ []) ∷ []) len) (sym st.bits) ∙ (rw t at k)))
         last false t k = unread (rw t at k) (last_marks c at.part (at.bits ++ v ∷ [])) (same_end n.access.bit (width c.setup field) at.made (length (doing c at.part)) b size ∙ t)
 
-pub marks_are : (c : Call) (r : ReadSoFar) (len : ℕ) (at : Spot) (n m : Next) (v : Bool) → Stands c r len at → scripted c r.finished len ≡ Some n →
+pub marks_are : (c : Call) (r : ReadSoFar) (len : ℕ) (at : Spot) (n m : Next) (v : Bool) → Corresponds c r len at → scripted c r.finished len ≡ Some n →
     scripted c (with_access c.setup (Some (ended_with v n.access)) r).finished len ≡ Some m → m.marks ≡ spot_marks c at (ended_with v n.access)
 marks_are c r len at n m v st h k = go (is_read at.part) refl
   where

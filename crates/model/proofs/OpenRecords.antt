@@ -9,7 +9,7 @@ use Rattle.model.specs.Closings.{Closing, Withdraws, Settles, Frees, Lowers, Qui
 use Rattle.model.proofs.Accepted.{before-plain}
 use Rattle.model.proofs.ClosingScripts.{withdrawal-stays, unit-stays}
 use Rattle.model.proofs.ClosingSteps.{ClosingStep, withdrawn-step, unit-step, leaving-then, failing-then}
-use Rattle.model.proofs.ClosingStanding.{is_unit, keeps-kind, failing-kind}
+use Rattle.model.proofs.ClosingAccesses.{is_unit, keeps-kind, failing-kind}
 use Rattle.model.proofs.Local.{start-plain, call-plain}
 use Rattle.model.proofs.OpenSteps.{Opens, closed, leaves, settles, Out, IsLate, CutsLate, torn_late, leaving_at, failing_at, turn-of, then-of, closing-torn, withdrawal-begun, withdraws-writes, late-writes}
 use Rattle.model.proofs.Opens.{opened, Torn}

@@ -15,7 +15,7 @@ use Rattle.model.specs.declared.stages.Stage.TheVariants as stages
 use Rattle.model.specs.Closings.{Closing, Withdraws, Settles, Frees, Lowers, Quit, Ended, withdrawing, failing, freeing, no_ticket, is_last_written, is_last_settled, is_unwritten, closing_next, closing_after, closing_of}
 use Rattle.model.specs.Parts.{Part, Raises, Asks, TakesTicket, Lowers as LowersChoosing, Refuses, Waits, AsksCommit, AsksStamp, AsksImage, WritesImage, WritesStamp, WritesCommit, Clears, Over, is_over, stage_of, part_after}
 use Rattle.model.proofs.Closing.{Fit}
-use Rattle.model.proofs.ClosingStanding.{is_unit}
+use Rattle.model.proofs.ClosingAccesses.{is_unit}
 use Rattle.model.proofs.Follow.{Spot, moved_on}
 use Rattle.model.proofs.Knows.{Knows, knows-place}
 use Rattle.model.proofs.Left.{remaining-written, remaining-new, remaining-done, value_at, value_closing}
@@ -24,7 +24,7 @@ use Rattle.model.proofs.Marking.{spot_marks}
 use Rattle.model.proofs.Opens.{opened, opened-entry, Torn, IsBegun, torn-write, torn-place, begun-write, begun-place, write-kind}
 use Rattle.model.proofs.PlaceTurns.{enter-closed, place-leads, same-write, access_in}
 use Rattle.model.proofs.Staging.{stage-placed}
-use Rattle.model.proofs.Standing.{at_place, running_next}
+use Rattle.model.proofs.NextAccesses.{at_place, running_next}
 use Rattle.model.proofs.Ties.{Tied, tied-on, tied-marks, end-with}
 use Rattle.model.proofs.Width.{IsGood}
 
@@ -194,7 +194,7 @@ running-out s g events p flick e command b run w t h = record { turns = turn-of 
     cuts = record {
       torn = torn;
       begun = begun-place c mine e at.part at.run r.at.made r.at.bits v (value_of y.how) o r.tied.run access w t.torn t.begun;
-      knows = knows-place c at.part at.run r.at.made r.at.bits v before-it o r.tied.run (ap (λ l. (read_so_far s l).bits) r.same ∙ r.stands.bits) t.knows;
+      knows = knows-place c at.part at.run r.at.made r.at.bits v before-it o r.tied.run (ap (λ l. (read_so_far s l).bits) r.same ∙ r.corresponds.bits) t.knows;
     }
 
     cuts-on : Cuts (last_call s p (e ∷ mine)) (e ∷ mine) (place_at s p (e ∷ mine)) (read_so_far s (since is_called (e ∷ mine))).finished

@@ -10,7 +10,7 @@ use Rattle.safe_number.proofs.Numbers.{length_bits}
 use Rattle.safe_number.proofs.Bits.{length-bits_of_number}
 use Rattle.model.specs.Parts.{Part, Raises, Asks, TakesTicket, Lowers, Refuses, Waits, AsksCommit, AsksStamp, AsksImage, WritesImage, WritesStamp, WritesCommit, Clears, Over, is_read, is_over, read_at, written_at, doing, part_after, stage_of, first_marks, last_marks}
 use Rattle.model.proofs.Cursors.{drop-map, drop-more, get-drop, length-drop, left_written, left_read, remaining-next, remaining-new, remaining-done, write-moves, Goes, Moved, read-begins, read-ends}
-use Rattle.model.proofs.Follow.{Spot, moved_on, more_bits, spot_of, stands, not_over, next_access}
+use Rattle.model.proofs.Follow.{Spot, moved_on, more_bits, spot_of, corresponds, not_over, next_access}
 use Rattle.safe_bit.specs.{Move}
 use Rattle.safe_bit.specs.declared.Move.TheVariants.{BeginWrite, EndWrite}
 use Rattle.model.proofs.Marking.{spot_marks}
@@ -278,7 +278,7 @@ pub follows-tied : (c : Call) → IsGood c.setup → (past : List Access) → Is
 follows-tied c g [] f = enters c g Raises
 follows-tied c g (a ∷ past) f =
     let n = f.1.0 in
-    let st = stands c g past f.0 in
+    let st = corresponds c g past f.0 in
     let t = follows-tied c g past f.0 in
     let o : is_over (place_of c past).part ≡ false = ap is_over (sym t.part) ∙ not_over c (reads_of c past) (length past) (spot_of c past) n st f.1.2 in
     let e : Some n.access ≡ Some (access_at c (place_of c past).part (place_of c past).run) =

@@ -8,7 +8,7 @@ use Rattle.model.specs.declared.marks.Mark.TheVariants.{Answered, Left, Down}
 use Rattle.model.specs.declared.stages.Stage.TheVariants.{Idle, Leaving, Settling, Down}
 use Rattle.model.proofs.Singles.{get-append, get-remaining, length-single}
 use Rattle.model.proofs.Place.{portion, rest, rest-unread, rest-write}
-use Rattle.model.proofs.Follow.{Spot, Stands}
+use Rattle.model.proofs.Follow.{Spot, Corresponds}
 use Rattle.model.proofs.Marking.{marks_on, single-marks}
 use Rattle.model.proofs.Local.{get_some}
 use Rattle.model.proofs.Whole.{flat_map-append}
@@ -16,7 +16,7 @@ use Rattle.model.proofs.Width.{IsGood, written-pos, bits_of_number-pos, width-po
 use Rattle.safe_number.specs.{bits_of_number}
 
 -- a running process has a next access
-pub runs_on : (c : Rattle.model.specs.Scripts.Call) (r : Rattle.model.specs.Calls.ReadSoFar) (len : ℕ) (at : Spot) → Stands c r len at → is_over at.part ≡ false → (n : Next) × (scripted c r.finished len ≡ Some n)
+pub runs_on : (c : Rattle.model.specs.Scripts.Call) (r : Rattle.model.specs.Calls.ReadSoFar) (len : ℕ) (at : Spot) → Corresponds c r len at → is_over at.part ≡ false → (n : Next) × (scripted c r.finished len ≡ Some n)
 runs_on c r len at st o = go (is_read at.part) refl
   where
     one : (q : Portion) (tail : Script) → at.made < length q.accesses → (m : Next) × (slice_get (singles (q ∷ tail)) at.made ≡ Some m)

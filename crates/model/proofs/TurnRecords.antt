@@ -14,7 +14,7 @@ use Rattle.model.proofs.OpenRecords.{withdrawn-out, unit-out}
 use Rattle.model.proofs.OpenSteps.{Opens, closed, runs_at, leaves, settles, Out, IsLate, place_at, running-out}
 use Rattle.model.proofs.Opens.{opened, Torn, open_torn}
 use Rattle.model.proofs.PlaceTurns.{enter-closed}
-use Rattle.model.proofs.Standing.{at_place}
+use Rattle.model.proofs.NextAccesses.{at_place}
 use Rattle.model.proofs.Ties.{Tie, over, writes, reads}
 use Rattle.model.proofs.Turns.{new-closed}
 use Rattle.model.proofs.Width.{IsGood}

@@ -124,7 +124,7 @@ entry_view s g past (Call p c) e h v a =
         begun = refl;
         same = refl;
         at = start;
-        stands = record { done = []; count = refl; bits = refl; script = λ more. refl; within = doing-pos (last_call s p (record { process = p; access = None; marks = Called c ∷ [] } ∷ own p past)) g Raises; fresh = λ _. refl };
+        corresponds = record { done = []; count = refl; bits = refl; script = λ more. refl; within = doing-pos (last_call s p (record { process = p; access = None; marks = Called c ∷ [] } ∷ own p past)) g Raises; fresh = λ _. refl };
         not_over = refl;
         tied = enters (last_call s p (record { process = p; access = None; marks = Called c ∷ [] } ∷ own p past)) g Raises;
         stage = refl;

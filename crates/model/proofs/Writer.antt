@@ -160,7 +160,7 @@ step-own s g past p flick e h v o a = own_access
     next (rests i) = let f : refused_at (Step p flick) Idle ≡ None = ap (refused_at (Step p flick)) (sym i) ∙ h in cc
     next (down i) = let f : refused_at (Step p flick) Down ≡ None = ap (refused_at (Step p flick)) (sym i) ∙ h in cc
     next (runs r) = AllOwn-get p (doing (last_call s p mine) r.at.part) r.at.made made.0.access (doing-own (last_call s p mine) r.at)
-        (next_access (last_call s p mine) _ len r.at made.0 r.stands
+        (next_access (last_call s p mine) _ len r.at made.0 r.corresponds
         (ap (λ l. slice_get (singles (Rattle.model.specs.Program.local_program (last_call s p mine) (Rattle.model.specs.Calls.read_so_far s l).finished)) len) (sym r.same)
         ∙ ap (λ m. nth len (program_from s p flick mine m)) (sym r.begun) ∙ made.1))
     next (withdraws b st) = nexts-get p (singles (withdrawn (last_call s p mine))) len made.0

@@ -41,7 +41,7 @@ pub use Doorways.{ahead, begins_doorway, doorway_begin, doorway_end, first_of, i
 pub use Entries.{Entry, Past, before, has, is_called, is_entered, is_failed, is_waiting, own, since, starts}
 pub use Failures.{begun_at, begun_closing, begun_run, cut, cut_at, cut_closing, taken_with}
 pub use Given.{AreGiven, EachPastGiven, is_event}
-pub use MainTheorem.{AnsweredCallsTakeNoMore, AnswersAreTaken, AnswersNoCutCall, AnswersAreInHistory, AskAnswersTheLatestChange, AskReportsOfCutCalls, CallsTakeOnce, CutCallsAreNotAnswered, EachEntry, EachPast, ImagesAreOfTheStore, ImagesAreRead, IsAlone, IsAnswerTo, KeepsMainTheorem, KeepsMainTheoremThroughout, KeepsOrder, MutualExclusion, NewestIsTheHistorys, NoOvertaking, OvertakesNobody, PlacesKeepOrder, StampsFullAfterAllChanges, StandsAt, IsInHistory, TakenInHistory, TakenOnce, TakesItsPlace, TicketsFullNamesTheLowest, VersionReadsAreUnoverlapped, VersionsAreWholeOutside, WaitersReadNoGreatestTicket, before_image_read, call_of, count_changes, has_change, is_image, is_version, latest_change, lowest_full, tickets_read}
+pub use MainTheorem.{AnsweredCallsTakeNoMore, AnswersAreTaken, AnswersNoCutCall, AnswersAreInHistory, AskAnswersTheLatestChange, AskReportsOfCutCalls, CallsTakeOnce, CutCallsAreNotAnswered, EachEntry, EachPast, ImagesAreOfTheStore, ImagesAreRead, IsAlone, IsAnswerTo, KeepsMainTheorem, KeepsMainTheoremThroughout, KeepsOrder, MutualExclusion, NewestIsTheHistorys, NoOvertaking, OvertakesNobody, PlacesKeepOrder, StampsFullAfterAllChanges, IsTakenAt, IsInHistory, TakenInHistory, TakenOnce, TakesItsPlace, TicketsFullNamesTheLowest, VersionReadsAreUnoverlapped, VersionsAreWholeOutside, WaitersReadNoGreatestTicket, before_image_read, call_of, count_changes, has_change, is_image, is_version, latest_change, lowest_full, tickets_read}
 pub use Histories.{history, reply_taken, store_after}
 pub use Induction.{past-induction}
 pub use Laws.{AcceptedAdds, HasBits, OthersStay, OwnEntry, RefusedAddsNothing}

@@ -82,13 +82,13 @@ abbrev pub AnsweredCallsTakeNoMore : Type 0
 AnsweredCallsTakeNoMore = EachPast λ s past. CallsTakeWhatTheyAnswer past
 
 -- the history has a command of this call at this position, with this reply, which is the sequential store's reply there
-pub record StandsAt (s : Setup) (taken : List Taken) (c : Call) (r : Reply) (k : ℕ) : Type 0 where
+pub record IsTakenAt (s : Setup) (taken : List Taken) (c : Call) (r : Reply) (k : ℕ) : Type 0 where
   pub there : slice_get taken k ≡ Some (record { process = c.process; command = c.command; reply = r; number = c.number })
   pub reply : r ≡ reply_to (store_after s (take k taken)) c.command (caller c)
 
 -- If a call is answered with a store reply, the history contains its command with this reply.
 abbrev pub IsInHistory : Setup → Past → Entry → Type 0
-IsInHistory s past e = (r : Reply) → Contains e.marks (Answered (answer.Reply r)) → (k : ℕ) × StandsAt s (history s (e ∷ past)) (call_of s past e) r k
+IsInHistory s past e = (r : Reply) → Contains e.marks (Answered (answer.Reply r)) → (k : ℕ) × IsTakenAt s (history s (e ∷ past)) (call_of s past e) r k
 
 abbrev pub AnswersAreInHistory : Type 0
 AnswersAreInHistory = EachEntryGiven IsInHistory
@@ -121,7 +121,7 @@ pub record OneHistory : Type 0 where
   pub taken : TakenInHistory
   pub answers : AnswersAreTaken
   pub whole_calls : AnsweredCallsTakeNoMore
-  pub stand : AnswersAreInHistory
+  pub in_history : AnswersAreInHistory
   pub once : TakenOnce
   pub cut : CutCallsAreNotAnswered
   pub order : KeepsOrder
@@ -253,7 +253,7 @@ pub record KeepsMainTheorem (s : Setup) (past : Past) (e : Entry) : Type 0 where
   pub alone : IsAlone (e ∷ past)  -- no two are inside together, a failed one among them until its unit lets go
   pub overtakes : OvertakesNobody past e  -- no process enters past one that waits and had finished its doorway before the other began its own
   pub place : TakesItsPlace s past e  -- a command that is taken has its position, and the sequential store's reply there
-  pub stands : IsInHistory s past e  -- a store answer is in the history, with its process, command, reply and number
+  pub in_history : IsInHistory s past e  -- a store answer is in the history, with its process, command, reply and number
   pub answers : CallsTakeWhatTheyAnswer (e ∷ past)  -- it is the reply of the one command of its call
   pub cut : AnswersNoCutCall past e  -- a call that was cut is never answered
   pub once : CallsTakeOnce (e ∷ past)  -- and is taken at most once

@@ -25,8 +25,8 @@ puts_column column old new is plan state pending last_at bands holds =
 
 pub put_parts : (column placed : Seen) (x : ℕ) (old : SeenPage) (placing : WordEnds) (columns : List Seen) → columns ≡ old.columns ++ placed ∷ [] → placed ≡ moved_to column x → placing ≡ put_at old.placing column x → x ≡ (place_of old.placing column).x →
     Puts column old (record old { columns = columns; placing = placing })
-put_parts column placed x old placing columns are stands put at = puts_column column old (record old { columns = columns; placing = placing })
-    ((λ i. record old { columns = (are ∙ ap (λ (c : Seen). old.columns ++ c ∷ []) stands) i; placing = put i })
+put_parts column placed x old placing columns are moved put at = puts_column column old (record old { columns = columns; placing = placing })
+    ((λ i. record old { columns = (are ∙ ap (λ (c : Seen). old.columns ++ c ∷ []) moved) i; placing = put i })
     ∙ ap (λ (x : ℕ). record old { columns = old.columns ++ moved_to column x ∷ []; placing = put_at old.placing column x }) at)
 
 -- the band that is begun is drawn
@@ -82,13 +82,13 @@ pub draws_parts : (is_last : Bool) (verdict : Option ShownVerdict) (old : SeenPa
     bands ≡ held_in_64 (old.bands + 1) → height ≡ held_in_64 (old.height + (height_with verdict layout.height + 16)) →
     markup ≡ framed old.form bands old.height (height_with verdict layout.height) (drawings (judged_shapes verdict (record { columns = apart; before = old.before; before_at = old.before_at; layout = layout; is_last = is_last; opens = shown; subject = old.subject }) at)) →
     DrawsBand is_last verdict old markup (record old { opens = opens; before = behind.0; before_at = behind.1; accesses = left; placing = placing; columns = columns; bands = bands; height = height })
-draws_parts is_last verdict old opens shown behind placing columns apart at left layout bands height markup none same stands new empty stretched begun passed laid count high drawn =
+draws_parts is_last verdict old opens shown behind placing columns apart at left layout bands height markup none same moved new empty stretched begun passed laid count high drawn =
     let shows : at ≡ accesses_in old.accesses old.columns = begun ∙ ap (accesses_at old.accesses) stretched in
     let leaves : left ≡ accesses_after (accesses_in old.accesses old.columns) (stretched_all old.columns) = passed ∙ (λ i. accesses_after (shows i) (stretched i)) in
     let lies : layout ≡ layout_in old.state.processes old.accesses old.columns is_last = laid ∙ (λ i. layout_of old.state.processes (shows i) (stretched i) is_last) in
     let higher : height ≡ held_in_64 (old.height + (height_with verdict (layout_in old.state.processes old.accesses old.columns is_last).height + 16)) = high ∙ ap (λ (l : Layout). held_in_64 (old.height + (height_with verdict l.height + 16))) lies in
     draws_begun is_last verdict old markup (record old { opens = opens; before = behind.0; before_at = behind.1; accesses = left; placing = placing; columns = columns; bands = bands; height = height })
-    (λ i. record old { opens = none i; before = (stands i).0; before_at = (stands i).1; accesses = leaves i; placing = new i; columns = empty i; bands = count i; height = higher i })
+    (λ i. record old { opens = none i; before = (moved i).0; before_at = (moved i).1; accesses = leaves i; placing = new i; columns = empty i; bands = count i; height = higher i })
     (drawn ∙ (λ i. framed old.form (count i) old.height (height_with verdict (lies i).height) (drawings (judged_shapes verdict (record { columns = stretched i; before = old.before; before_at = old.before_at; layout = lies i; is_last = is_last; opens = same i; subject = old.subject }) (shows i)))))
 
 -- the column has room, or another band begins

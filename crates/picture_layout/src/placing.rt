@@ -105,7 +105,7 @@ impl WordEnds {
         place: ColumnPosition,
     ) -> Result<(), AllocError>
         ensures reported { OnOk result (reported_in column.new ≡ reported_in column.old) }
-        ensures stands { OnOk result (seen column.new ≡ moved_to (seen column.old) place.x) }
+        ensures moved { OnOk result (seen column.new ≡ moved_to (seen column.old) place.x) }
         ensures placed { OnOk result (self.new ≡ put_at self.old (seen column.old) place.x) }
     {
         let width = column.width(alloc)?;

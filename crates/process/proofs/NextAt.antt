@@ -8,7 +8,7 @@ use Rattle.laws.specs.{Closes}
 use Rattle.registers.specs.{CursorState, cursor_after, is_fresh, move_by, next_access}
 use Rattle.registers.proofs.ClosingMoves.{ends}
 use Rattle.registers.proofs.CursorRuns.{moves}
-use Rattle.process.specs.{AreMarksOn, HasMoved, IsStepped, KeepsPlace, PartState, ProcessState, Activity, SettlesAt, changes_at, changes_read, doing_at, given, marks_on, may_step, next_at, reply_taken, settling_at, state_at, stepped, with_doing}
+use Rattle.process.specs.{AreMarksOn, HasMoved, IsStepped, KeepsPlace, PartState, ProcessState, Activity, SettlesAt, changes_at, changes_read, doing_at, value_for_next, marks_on, may_step, next_at, reply_taken, settling_at, state_at, stepped, with_doing}
 use Rattle.process.specs.declared.activity.Activity.TheVariants as work
 
 settling-next : (k : PartState) (inside flick : Bool) (taken : Option (Bool × Reply)) (cur : CursorState) → SettlesAt k.call.setup k.call.process taken cur →
@@ -18,7 +18,7 @@ settling-next k inside flick taken cur at =
     (λ i. record { owner = at.owner i; field = cur.register.field; bit = cur.bit; reader = reader i; how = move_by (at.run i) cur flick })
     ∙ sym (ap (λ r. next_at (with_doing k (Closes k.call.command k.call.number (settling_at r inside (reply_taken taken) cur))) flick) at.run)
 
-pub next-is : (k : PartState) (w : Activity) (cur : CursorState) (flick : Bool) → KeepsPlace k w cur → may_step (doing_at k w cur) ≡ true → next_access cur (given w flick false) ≡ next_at (state_at k w cur) flick
+pub next-is : (k : PartState) (w : Activity) (cur : CursorState) (flick : Bool) → KeepsPlace k w cur → may_step (doing_at k w cur) ≡ true → next_access cur (value_for_next w flick false) ≡ next_at (state_at k w cur) flick
 next-is k work.Rests cur flick keeps goes = absurd (cc)
 next-is k work.Lies cur flick keeps goes = absurd (cc)
 next-is k work.Runs cur flick keeps goes = let m = moves k.call k.part cur false keeps.working.at in sym m.access
@@ -33,7 +33,7 @@ idle-goes k w cur goes (inl rests) = let none : false ≡ true = sym (ap (λ w. 
 idle-goes k w cur goes (inr lies) = let none : false ≡ true = sym (ap (λ w. may_step (doing_at k w cur)) lies) ∙ goes in absurd (cc)
 
 -- the cursor has made the access
-pub has-moved : {k : PartState} {w : Activity} {g fresh : Bool} {a : Access} {before cur : CursorState} (flick value : Bool) → KeepsPlace k w before → may_step (doing_at k w before) ≡ true → g ≡ given w flick value → a ≡ next_access before g → cur ≡ cursor_after before a.how → fresh ≡ is_fresh before →
+pub has-moved : {k : PartState} {w : Activity} {g fresh : Bool} {a : Access} {before cur : CursorState} (flick value : Bool) → KeepsPlace k w before → may_step (doing_at k w before) ≡ true → g ≡ value_for_next w flick value → a ≡ next_access before g → cur ≡ cursor_after before a.how → fresh ≡ is_fresh before →
     HasMoved k w flick value before cur fresh
 has-moved {k} {w} {g} {fresh} {a} {before} {cur} flick value keeps may gives is goes first = record {
   keeps = keeps;

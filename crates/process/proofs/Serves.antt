@@ -14,7 +14,7 @@ use Rattle.registers.specs.declared.cursor.RegisterAccessKind.TheVariants as run
 use Rattle.registers.proofs.CursorRuns.{Moves, moves}
 use Rattle.registers.proofs.Openings.{setup-fits}
 use Rattle.registers.proofs.Runs.{same-by}
-use Rattle.process.specs.{HasMoved, KeepsPlace, PartState, ProcessState, Activity, SettlesAt, answered_at, answered_next, doing_at, given, remaining_at, remaining_of, may_step, newest_of, overlapped_steps, overlaps_step, state_at, step_by, step_of, stepped, steps_of}
+use Rattle.process.specs.{HasMoved, KeepsPlace, PartState, ProcessState, Activity, SettlesAt, answered_at, answered_next, doing_at, value_for_next, remaining_at, remaining_of, may_step, newest_of, overlapped_steps, overlaps_step, state_at, step_by, step_of, stepped, steps_of}
 use Rattle.process.specs.declared.activity.Activity.TheVariants as work
 use Rattle.process.proofs.Left.{remaining-fewer, remaining-runs, remaining-some, live-by, within}
 use Rattle.process.proofs.NextAt.{next-is}
@@ -22,7 +22,7 @@ use Rattle.process.proofs.NextAt.{next-is}
 -- THE POSITION OF THE CURSOR
 
 -- the cursor is on a register of the setup, and not at its end
-pub record Stands (s : Setup) (cur : CursorState) : Type 0 where
+pub record Corresponds (s : Setup) (cur : CursorState) : Type 0 where
   pub owner : cur.register.owner < s.processes
   pub copies : cur.copies ≡ s.processes
   pub wide : cur.width ≡ width s cur.register.field
@@ -30,8 +30,8 @@ pub record Stands (s : Setup) (cur : CursorState) : Type 0 where
   pub at : IsAtCopy cur.run cur.reader cur.copy
   pub going : cur.bit < cur.width
 
-reads-stand : (s : Setup) (p : ℕ) (register : ℕ × Field) (cur : CursorState) → ReadsAt s p register cur → p < s.processes → cur.register.owner < s.processes → Stands s cur
-reads-stand s p register cur at inside owner = record {
+reads-correspond : (s : Setup) (p : ℕ) (register : ℕ × Field) (cur : CursorState) → ReadsAt s p register cur → p < s.processes → cur.register.owner < s.processes → Corresponds s cur
+reads-correspond s p register cur at inside owner = record {
   owner = owner;
   copies = at.copies;
   wide = at.wide ∙ ap (λ r. width s r.field) (sym at.at);
@@ -40,8 +40,8 @@ reads-stand s p register cur at inside owner = record {
   going = at.going;
 }
 
-writes-stand : (s : Setup) (p : ℕ) (written : Field × List Bool) (cur : CursorState) → WritesAt s p written cur → p < s.processes → Stands s cur
-writes-stand s p written cur at inside = record {
+writes-correspond : (s : Setup) (p : ℕ) (written : Field × List Bool) (cur : CursorState) → WritesAt s p written cur → p < s.processes → Corresponds s cur
+writes-correspond s p written cur at inside = record {
   owner = omega (arith, ap (λ r. r.owner) at.at, inside);
   copies = at.copies;
   wide = at.wide ∙ ap (λ r. width s r.field) (sym at.at);
@@ -50,16 +50,16 @@ writes-stand s p written cur at inside = record {
   going = at.going;
 }
 
-part-stands : (c : Call) (part : Part) (cur : CursorState) (b : Bool) → c.process < c.setup.processes → cur.register.owner < c.setup.processes →
-    elim b as (λ _. Type 0) [ true ↦ ReadsAt c.setup c.process (read_at c part) cur | false ↦ WritesAt c.setup c.process (written_at c part) cur ] → Stands c.setup cur × (is_settling cur.run ≡ false)
-part-stands c part cur true inside owner at = (reads-stand c.setup c.process (read_at c part) cur at inside owner, ap is_settling at.run)
-part-stands c part cur false inside owner at = (writes-stand c.setup c.process (written_at c part) cur at inside, ap is_settling at.run)
+part-corresponds : (c : Call) (part : Part) (cur : CursorState) (b : Bool) → c.process < c.setup.processes → cur.register.owner < c.setup.processes →
+    elim b as (λ _. Type 0) [ true ↦ ReadsAt c.setup c.process (read_at c part) cur | false ↦ WritesAt c.setup c.process (written_at c part) cur ] → Corresponds c.setup cur × (is_settling cur.run ≡ false)
+part-corresponds c part cur true inside owner at = (reads-correspond c.setup c.process (read_at c part) cur at inside owner, ap is_settling at.run)
+part-corresponds c part cur false inside owner at = (writes-correspond c.setup c.process (written_at c part) cur at inside, ap is_settling at.run)
 
-pub runs-stand : (k : PartState) (cur : CursorState) → KeepsPlace k work.Runs cur → Stands k.call.setup cur × (is_settling cur.run ≡ false)
-runs-stand k cur keeps = part-stands k.call k.part cur (is_read k.part) keeps.call.process keeps.working.there keeps.working.at
+pub runs-correspond : (k : PartState) (cur : CursorState) → KeepsPlace k work.Runs cur → Corresponds k.call.setup cur × (is_settling cur.run ≡ false)
+runs-correspond k cur keeps = part-corresponds k.call k.part cur (is_read k.part) keeps.call.process keeps.working.there keeps.working.at
 
-settles-stand : (s : Setup) (p : ℕ) (taken : Option (Bool × Reply)) (cur : CursorState) → SettlesAt s p taken cur → p < s.processes → Stands s cur
-settles-stand s p taken cur at inside = record {
+settles-correspond : (s : Setup) (p : ℕ) (taken : Option (Bool × Reply)) (cur : CursorState) → SettlesAt s p taken cur → p < s.processes → Corresponds s cur
+settles-correspond s p taken cur at inside = record {
   owner = omega (arith, at.owner, inside);
   copies = at.copies;
   wide = at.wide;
@@ -68,18 +68,18 @@ settles-stand s p taken cur at inside = record {
   going = at.going;
 }
 
-pub stands : (k : PartState) (w : Activity) (cur : CursorState) → KeepsPlace k w cur → may_step (doing_at k w cur) ≡ true → Stands k.call.setup cur
-stands k work.Rests cur keeps goes = absurd (cc)
-stands k work.Lies cur keeps goes = absurd (cc)
-stands k work.Runs cur keeps goes = (runs-stand k cur keeps).0
-stands k work.Withdraws cur keeps goes = writes-stand k.call.setup k.call.process _ cur keeps.working keeps.call.process
-stands k (work.Settles inside taken) cur keeps goes = settles-stand k.call.setup k.call.process taken cur keeps.working keeps.call.process
-stands k (work.Frees inside) cur keeps goes = writes-stand k.call.setup k.call.process _ cur keeps.working keeps.call.process
-stands k work.Lowers cur keeps goes = writes-stand k.call.setup k.call.process _ cur keeps.working keeps.call.process
+pub corresponds : (k : PartState) (w : Activity) (cur : CursorState) → KeepsPlace k w cur → may_step (doing_at k w cur) ≡ true → Corresponds k.call.setup cur
+corresponds k work.Rests cur keeps goes = absurd (cc)
+corresponds k work.Lies cur keeps goes = absurd (cc)
+corresponds k work.Runs cur keeps goes = (runs-correspond k cur keeps).0
+corresponds k work.Withdraws cur keeps goes = writes-correspond k.call.setup k.call.process _ cur keeps.working keeps.call.process
+corresponds k (work.Settles inside taken) cur keeps goes = settles-correspond k.call.setup k.call.process taken cur keeps.working keeps.call.process
+corresponds k (work.Frees inside) cur keeps goes = writes-correspond k.call.setup k.call.process _ cur keeps.working keeps.call.process
+corresponds k work.Lowers cur keeps goes = writes-correspond k.call.setup k.call.process _ cur keeps.working keeps.call.process
 
 -- so it fits every memory of the setup
-pub stands-fit : (s : Setup) (memory : List (List Cell)) (cur : CursorState) → AreOf s memory → Stands s cur → Fits memory cur
-stands-fit s memory cur of at = setup-fits s memory cur of at.owner at.copies at.wide at.inside at.at
+pub corresponding-fit : (s : Setup) (memory : List (List Cell)) (cur : CursorState) → AreOf s memory → Corresponds s cur → Fits memory cur
+corresponding-fit s memory cur of at = setup-fits s memory cur of at.owner at.copies at.wide at.inside at.at
 
 -- THE VALUE OF ITS ACCESS
 
@@ -97,10 +97,10 @@ answered-plain cur n memory flick x y plain =
 
 -- the access of its work
 plain-works : (k : PartState) (w : Activity) (cur : CursorState) (memory : List (List Cell)) (flick : Bool) → KeepsPlace k w cur → may_step (doing_at k w cur) ≡ true →
-    answered cur.copies memory flick (next_access cur (given w flick false)) ≡ next_answered cur memory flick
+    answered cur.copies memory flick (next_access cur (value_for_next w flick false)) ≡ next_answered cur memory flick
 plain-works k work.Rests cur memory flick keeps goes = absurd (cc)
 plain-works k work.Lies cur memory flick keeps goes = absurd (cc)
-plain-works k work.Runs cur memory flick keeps goes = answered-plain cur cur.copies memory flick false flick (runs-stand k cur keeps).1
+plain-works k work.Runs cur memory flick keeps goes = answered-plain cur cur.copies memory flick false flick (runs-correspond k cur keeps).1
 plain-works k work.Withdraws cur memory flick keeps goes = answered-plain cur cur.copies memory flick false flick (ap is_settling keeps.working.run)
 plain-works k (work.Settles inside taken) cur memory flick keeps goes = refl
 plain-works k (work.Frees inside) cur memory flick keeps goes = answered-plain cur cur.copies memory flick false flick (ap is_settling keeps.working.run)
@@ -110,7 +110,7 @@ pub answered-is : (k : PartState) (w : Activity) (cur : CursorState) (memory : L
     next_answered cur memory flick ≡ answered_at (state_at k w cur) memory flick
 answered-is k w cur memory flick keeps goes =
     sym (plain-works k w cur memory flick keeps goes)
-    ∙ ap (λ n. answered n memory flick (next_access cur (given w flick false))) (stands k w cur keeps goes).copies
+    ∙ ap (λ n. answered n memory flick (next_access cur (value_for_next w flick false))) (corresponds k w cur keeps goes).copies
     ∙ ap (answered k.call.setup.processes memory flick) (next-is k w cur flick keeps goes)
 
 -- WITHIN A REGISTER ACCESS
@@ -149,10 +149,10 @@ settling-moved r cut value cur v x is = let P : RegisterAccessKind → Type 0 = 
 
 -- the cursor of any work advances by the value that the memory returns
 pub works-moved : (k : PartState) (w : Activity) (cur : CursorState) (memory : List (List Cell)) (flick : Bool) → KeepsPlace k w cur → may_step (doing_at k w cur) ≡ true →
-    let how : Move = (next_answered cur memory flick).how in cursor_after cur how ≡ moved cur (given w flick (value_of how))
+    let how : Move = (next_answered cur memory flick).how in cursor_after cur how ≡ moved cur (value_for_next w flick (value_of how))
 works-moved k work.Rests cur memory flick keeps goes = absurd (cc)
 works-moved k work.Lies cur memory flick keeps goes = absurd (cc)
-works-moved k work.Runs cur memory flick keeps goes = sym (cursor-moves cur memory flick (runs-stand k cur keeps).1)
+works-moved k work.Runs cur memory flick keeps goes = sym (cursor-moves cur memory flick (runs-correspond k cur keeps).1)
 works-moved k work.Withdraws cur memory flick keeps goes = sym (cursor-moves cur memory flick (ap is_settling keeps.working.run))
 works-moved k (work.Settles inside taken) cur memory flick keeps goes =
     let at = keeps.working in
@@ -164,7 +164,7 @@ works-moved k work.Lowers cur memory flick keeps goes = sym (cursor-moves cur me
 pub step-moved : {k : PartState} {w : Activity} {fresh : Bool} {a : Access} {before cur : CursorState} (memory : List (List Cell)) (flick : Bool) → KeepsPlace k w before → may_step (doing_at k w before) ≡ true → a ≡ next_answered before memory flick → cur ≡ cursor_after before a.how → fresh ≡ is_fresh before →
     HasMoved k w flick (value_of a.how) before cur fresh
 step-moved {k} {w} {fresh} {a} {before} {cur} memory flick keeps may is goes first =
-    let P : Access → Type 0 = λ a. cursor_after before a.how ≡ moved before (given w flick (value_of a.how)) in
+    let P : Access → Type 0 = λ a. cursor_after before a.how ≡ moved before (value_for_next w flick (value_of a.how)) in
     record { keeps = keeps; goes = may; moves = goes ∙ subst P (sym is) (works-moved k w before memory flick keeps may); first = first }
 
 -- the process advances with its cursor, at its part
@@ -176,7 +176,7 @@ serves-one k cur memory flick keeps more =
     let how : Move = (next_answered cur memory flick).how in
     let v : Bool = value_of how in
     let next : CursorState = cursor_after cur how in
-    let goes : moved cur v ≡ next = cursor-moves cur memory flick (runs-stand k cur keeps).1 in
+    let goes : moved cur v ≡ next = cursor-moves cur memory flick (runs-correspond k cur keeps).1 in
     let live = live-by (is_over k.part) (remaining_of c k.part (run_at cur)) more in
     let m : Moves c k.part cur v = moves c k.part cur v keeps.working.at in
     let w = within c k.part (run_at cur) v (remaining-some c k.part (run_at cur) live.1).0 in
@@ -204,7 +204,7 @@ serves-step k cur memory flick keeps more =
     let now : ProcessState = state_at k work.Runs cur in
     let one = serves-one k cur memory flick keeps more in
     let same : a ≡ answered_at now memory flick = answered-is k work.Runs cur memory flick keeps refl in
-    (λ i. (one.1 i, applied ((runs-stand k cur keeps).0.copies i) memory a))
+    (λ i. (one.1 i, applied ((runs-correspond k cur keeps).0.copies i) memory a))
     ∙ ap (λ (b : Access). let x : ProcessState × List (List Cell) = (stepped now flick (value_of b.how), applied s.processes memory b) in x) same
 
 -- SEVERAL STEPS
@@ -229,7 +229,7 @@ served (suc made) k cur memory flicks keeps within =
     let step = serves-step k x.0 x.1 flick before.keeps more in
     let fewer : remaining_at (stepped (state_at k work.Runs x.0) flick (value_of a.how)) + 1 ≡ remaining_at (state_at k work.Runs x.0) = remaining-fewer (state_at k work.Runs x.0) flick (value_of a.how) more in
     let start : ProcessState × List (List Cell) × FlickState = (state_at k work.Runs cur, memory, flicks) in
-    let copies : x.0.copies ≡ k.call.setup.processes = (runs-stand k x.0 before.keeps).0.copies in
+    let copies : x.0.copies ≡ k.call.setup.processes = (runs-correspond k x.0 before.keeps).0.copies in
     let same : a ≡ answered_at (state_at k work.Runs x.0) x.1 flick = answered-is k work.Runs x.0 x.1 flick before.keeps refl in
     record {
       keeps = one.0;

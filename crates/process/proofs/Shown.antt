@@ -11,7 +11,7 @@ use Rattle.process.specs.{KeepsPlace, PartState, ProcessState, Activity, answere
 use Rattle.process.specs.declared.activity.Activity.TheVariants as work
 use Rattle.process.proofs.Left.{remaining-some, live-by}
 use Rattle.process.proofs.Rests.{rest-is}
-use Rattle.process.proofs.Serves.{answered-is, remaining-works, runs-stand, served, stands, stands-fit}
+use Rattle.process.proofs.Serves.{answered-is, remaining-works, runs-correspond, served, corresponds, corresponding-fit}
 
 -- a process with accesses left has an access to make
 goes-by : (now : ProcessState) (d : Doing) → 0 < remaining_at (record now { doing = d }) → may_step d ≡ true
@@ -26,13 +26,13 @@ remaining-goes now more = goes-by now now.doing more
 -- its cursor fits a memory of its setup
 pub shown-fits : (k : PartState) (w : Activity) (cur : CursorState) (now : ProcessState) (memory : List (List Cell)) → KeepsPlace k w cur → state_at k w cur ≡ now → may_step now.doing ≡ true → AreOf now.setup memory → Fits memory cur
 shown-fits k w cur now memory keeps shown goes of =
-    stands-fit k.call.setup memory cur (subst (λ s. AreOf s memory) (sym (ap (λ (x : ProcessState). x.setup) shown)) of)
-    (stands k w cur keeps (ap (λ (x : ProcessState). may_step x.doing) shown ∙ goes))
+    corresponding-fit k.call.setup memory cur (subst (λ s. AreOf s memory) (sym (ap (λ (x : ProcessState). x.setup) shown)) of)
+    (corresponds k w cur keeps (ap (λ (x : ProcessState). may_step x.doing) shown ∙ goes))
 
 -- each process has a copy of the bits of its register
 pub shown-copies : (k : PartState) (w : Activity) (cur : CursorState) (now : ProcessState) → KeepsPlace k w cur → state_at k w cur ≡ now → may_step now.doing ≡ true → cur.copies ≡ now.setup.processes
 shown-copies k w cur now keeps shown goes =
-    (stands k w cur keeps (ap (λ (x : ProcessState). may_step x.doing) shown ∙ goes)).copies ∙ ap (λ (x : ProcessState). x.setup.processes) shown
+    (corresponds k w cur keeps (ap (λ (x : ProcessState). may_step x.doing) shown ∙ goes)).copies ∙ ap (λ (x : ProcessState). x.setup.processes) shown
 
 -- the process and its cursor get the same value
 pub shown-answered : (k : PartState) (w : Activity) (cur : CursorState) (now : ProcessState) (memory : List (List Cell)) (flick : Bool) → KeepsPlace k w cur → state_at k w cur ≡ now → may_step now.doing ≡ true →
@@ -59,7 +59,7 @@ shown-run steps k w cur now memory flicks keeps shown some within =
     let live = live-by (is_over k.part) (remaining_of k.call k.part (run_at cur)) (omega (arith, some, within)) in
     let remaining = remaining-some k.call k.part (run_at cur) live.1 in
     let same : remaining_at (state_at k work.Runs cur) ≡ remaining_of k.call k.part (run_at cur) = ap (λ b. cond b 0 (remaining_of k.call k.part (run_at cur))) live.0 in
-    record { keeps = all.keeps; now_is = all.now; kind = (runs-stand k cur keeps).1; within = omega (arith, within, same, remaining.2, rest-is k.call k.part cur keeps.working.at); newest = all.newest; overlapped = all.overlapped } in
+    record { keeps = all.keeps; now_is = all.now; kind = (runs-correspond k cur keeps).1; within = omega (arith, within, same, remaining.2, rest-is k.call k.part cur keeps.working.at); newest = all.newest; overlapped = all.overlapped } in
     subst (λ now. RunsShown steps k w cur now memory flicks) shown (subst P (sym (remaining-works k w cur (omega (arith, some, here)))) runs keeps here)
 
 -- A DROPPED READ

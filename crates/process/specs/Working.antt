@@ -88,15 +88,15 @@ pub record KeepsPlace (k : PartState) (w : Activity) (cur : CursorState) : Type 
 -- ITS NEXT ACCESS
 
 -- the value of the next access: the flick for a unit that settles, and otherwise the value that a read returned
-abbrev pub given : Activity → (flick value : Bool) → Bool
-given (work.Settles inside taken) flick value = flick
-given _ flick value = value
+abbrev pub value_for_next : Activity → (flick value : Bool) → Bool
+value_for_next (work.Settles inside taken) flick value = flick
+value_for_next _ flick value = value
 
 -- `before` is the cursor of a process that has an access to make, and `cur` is this cursor after the access
 pub record HasMoved (k : PartState) (w : Activity) (flick value : Bool) (before cur : CursorState) (fresh : Bool) : Type 0 where
   pub keeps : KeepsPlace k w before
   pub goes : may_step (doing_at k w before) ≡ true
-  pub moves : cur ≡ moved before (given w flick value)
+  pub moves : cur ≡ moved before (value_for_next w flick value)
   pub first : fresh ≡ is_fresh before
 
 -- the cursor has made such an access from some cursor, with some flick and value

@@ -1,6 +1,6 @@
 //! The work of a process.
 ghost use Rattle.std.specs.Prelude.{◌≡◌};
-ghost use Rattle.process.specs.Working.{given};
+ghost use Rattle.process.specs.Working.{value_for_next};
 
 use plain_store::Reply;
 
@@ -32,8 +32,8 @@ pub(crate) enum Activity {
 impl Activity {
     /// Returns the value of the next access: the flick for a unit that settles, otherwise the value that a read returned.
     #[inline]
-    pub(crate) fn given(&self, flick: bool, value: bool) -> bool
-        ensures { result ≡ given self.now flick value }
+    pub(crate) fn value_for_next(&self, flick: bool, value: bool) -> bool
+        ensures { result ≡ value_for_next self.now flick value }
     {
         if matches!(self, Activity::Settles { .. }) {
             flick

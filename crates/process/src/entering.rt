@@ -16,7 +16,7 @@ use plain_store::pad;
 use registers::{Cursor, RegisterAccessKind, RegisterName};
 
 /// Puts the cursor at the begin of a part.
-pub(crate) fn enter(called: &CallPart, cursor: &mut Cursor)
+pub(crate) fn begin_part(called: &CallPart, cursor: &mut Cursor)
     requires call { IsCall called.now.call }
     requires going { is_over called.now.part ≡ false }
     ensures cursor { cursor.new ≡ entered called.now.call called.now.part }

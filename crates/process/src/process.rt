@@ -15,7 +15,7 @@ mod serving;
 use crate::access_request::AccessRequest;
 use crate::activity::Activity;
 use crate::call_part::CallPart;
-use crate::entering::enter;
+use crate::entering::begin_part;
 use model::{Field, Stage};
 use plain_store::{Command, Setup};
 use registers::Cursor;
@@ -155,7 +155,7 @@ impl Process {
     {
         self.called.start(command, number);
         self.work = Activity::Runs;
-        enter(&self.called, &mut self.cursor);
+        begin_part(&self.called, &mut self.cursor);
     }
 
     /// Restarts a process that was down, so that it may call again.

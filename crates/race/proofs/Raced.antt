@@ -7,7 +7,7 @@ use Rattle.std.specs.Global.{Vec}
 use Rattle.plain_store.specs.{Command, Contents, Setup, checked}
 use Rattle.plain_store.proofs.GoodSetups.{few-processes}
 use Rattle.model.specs.{Placed, past_of}
-use Rattle.board.specs.{AreInOrder, AreListsOf, AreMadeWith, AreOfAll, ArePortsOf, AreQuiet, BoardState, EachIsInRecord, FirstLeaves, PortState, StandsIn, changes_of, new_own}
+use Rattle.board.specs.{AreInOrder, AreListsOf, AreMadeWith, AreOfAll, ArePortsOf, AreQuiet, BoardState, EachIsInRecord, FirstLeaves, PortState, FitsChanges, changes_of, new_own}
 use Rattle.race.proofs.Lists.{there}
 use Rattle.race.specs.{AllHaveMade, AreMade, AreNew, IsRaced, plans_of}
 
@@ -25,17 +25,17 @@ in_order board plans ports h k port at = (h.1 k port at).2.process
 
 pub raced : (board : BoardState) (plans : List (List Command)) (ports : List PortState) (answers : List (List Placed)) (image : Contents) → AllHaveMade board plans ports → length plans ≡ board.setup.processes → AreListsOf ports answers →
     EachIsInRecord board.setup answers → FirstLeaves board.setup ports image → IsRaced board.setup plans answers image
-raced board plans ports answers image h all lists stand leaves = record {
+raced board plans ports answers image h all lists fit leaves = record {
   all = lists.all ∙ h.0 ∙ all;
   made = λ p calls at.
       let a = answer_at ports answers lists (in_order board plans ports h) p calls at in
       let m = h.1 p a.0 a.1 in
       (m.0, m.1, subst (AreMade m.0) a.2 m.2.calls);
-  stands = stand;
+  fits = fit;
   end = λ calls at.
       let a = answer_at ports answers lists (in_order board plans ports h) 0 calls at in
       let l = leaves 0 a.0 a.1 (in_order board plans ports h 0 a.0 a.1) in
-      (changes_of board.setup (past_of board.setup l.events), record { events = l.events; given = l.given; main_theorem = l.main_theorem; are = refl }, subst (λ (xs : List Placed). StandsIn board.setup 0 xs (changes_of board.setup (past_of board.setup l.events))) a.2 l.stands, l.store);
+      (changes_of board.setup (past_of board.setup l.events), record { events = l.events; given = l.given; main_theorem = l.main_theorem; are = refl }, subst (λ (xs : List Placed). FitsChanges board.setup 0 xs (changes_of board.setup (past_of board.setup l.events))) a.2 l.fits, l.store);
 }
 
 -- The board can be closed: all its ports are present, and at rest.

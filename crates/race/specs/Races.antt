@@ -4,7 +4,7 @@ use Rattle.std.specs.Global.{Vec}
 use Rattle.plain_store.specs.{Answer, Command, Contents, Setup}
 use Rattle.model.specs.{AreGiven, Event, KeepsMainTheoremThroughout, Placed, Taken, past_of, store_after}
 use Rattle.model.specs.declared.stages.Stage.TheVariants.{Idle}
-use Rattle.board.specs.{BoardState, Closing, EachIsInRecord, IsOf, PortState, StandsIn, changes_of, lists_in, new_own, stage_in}
+use Rattle.board.specs.{BoardState, Closing, EachIsInRecord, IsOf, PortState, FitsChanges, changes_of, lists_in, new_own, stage_in}
 use Rattle.race.specs.declared.racing.PlanPromise.{PlanPromise}
 
 -- the plans: list p is that of process p
@@ -27,8 +27,8 @@ pub record AreChanges (s : Setup) (list : List Taken) : Type 0 where
 pub record IsRaced (s : Setup) (plans : List (List Command)) (answers : List (List Placed)) (image : Contents) : Type 0 where
   pub all : length answers ≡ s.processes
   pub made : (p : ℕ) (calls : List Placed) → slice_get answers p ≡ Some calls → (plan : List Command) × (slice_get plans p ≡ Some plan) × AreMade plan calls
-  pub stands : EachIsInRecord s answers
-  pub end : (calls : List Placed) → slice_get answers 0 ≡ Some calls → (list : List Taken) × AreChanges s list × StandsIn s 0 calls list × (image ≡ store_after s list)
+  pub fits : EachIsInRecord s answers
+  pub end : (calls : List Placed) → slice_get answers 0 ≡ Some calls → (list : List Taken) × AreChanges s list × FitsChanges s 0 calls list × (image ≡ store_after s list)
 
 -- a closing is the end of a race of these plans
 abbrev pub IsRacedBy : Setup → List (Vec Command) → Closing → Type 0

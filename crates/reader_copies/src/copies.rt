@@ -24,7 +24,7 @@ struct Flags {
 
 impl Flags {
     /// Creates copies that open at the bits of `word`.
-    fn open(word: u64) -> Flags
+    fn from_word(word: u64) -> Flags
         ensures { result ≡ open_flags word }
     {
         Flags {
@@ -65,7 +65,7 @@ impl Copies {
     pub fn new(alloc: Global, width: usize) -> Result<Copies, AllocError>
         ensures { IfOk result (λ copies. copies ≡ replicate width (new_cell false)) }
     {
-        let flags = vec![in alloc; Flags::open(0); width.div_ceil(64)]?;
+        let flags = vec![in alloc; Flags::from_word(0); width.div_ceil(64)]?;
         Ok(Copies { flags, len: width })
     }
 
@@ -74,13 +74,13 @@ impl Copies {
     /// # Errors
     ///
     /// Returns [`AllocError`] if an allocation fails.
-    pub fn open(alloc: Global, width: usize, words: &[u64]) -> Result<Copies, AllocError>
+    pub fn from_words(alloc: Global, width: usize, words: &[u64]) -> Result<Copies, AllocError>
         requires { width ≤ 64 * length words.now }
         ensures { IfOk result (λ copies. copies ≡ map new_cell (bits_of_words words.now width)) }
     {
         let mut flags = Vec::new(alloc);
         for place in 0..width.div_ceil(64) {
-            flags.push(Flags::open(words[place]))?;
+            flags.push(Flags::from_word(words[place]))?;
         }
         Ok(Copies { flags, len: width })
     }

@@ -21,7 +21,7 @@ fn accepts(alloc: Global, width: u16) -> Result<(), NumberFault> {
 }
 
 /// A number stands in its bytes with the least significant first, and comes back.
-fn stands_in_its_bytes(rt: &impl Abort) {
+fn has_low_byte_first(rt: &impl Abort) {
     assert!(rt; bits_of(258) == [2, 1, 0, 0, 0, 0, 0, 0]);
     assert!(rt; number_of(&[2, 1]) == 258);
     assert!(rt; number_of(&[]) == 0);
@@ -46,6 +46,6 @@ fn widths_and_bytes(rt: HostRuntime) -> Result<(), NumberFault> {
             "a read of width {width}"
         );
     }
-    stands_in_its_bytes(&rt);
+    has_low_byte_first(&rt);
     Ok(())
 }

@@ -322,7 +322,7 @@ impl Cursor {
         ensures { self.new ≡ cursor_after self.old how }
     {
         match self.run {
-            RegisterAccessKind::Reads => self.read_on(given(how)),
+            RegisterAccessKind::Reads => self.read_on(value_returned(how)),
             RegisterAccessKind::Writes => self.write_on(),
             RegisterAccessKind::Settles { cut, value } => {
                 let ends = self.begun || cut == 2 * self.copy + 1;
@@ -369,7 +369,7 @@ pub(crate) fn lane_number(copies: u8, register: RegisterName, reader: u8) -> usi
 
 /// Returns the value that the end of a read returned; `false` for every other access.
 #[inline]
-pub fn given(how: Move) -> bool
+pub fn value_returned(how: Move) -> bool
     ensures { result ≡ value_of how }
 {
     match how {

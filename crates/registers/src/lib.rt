@@ -11,7 +11,7 @@ mod memory;
 mod word_bytes;
 
 pub use access_made::{AccessMade, AccessesMade};
-pub use cursor::{Cursor, RegisterAccessKind, given};
+pub use cursor::{Cursor, RegisterAccessKind, value_returned};
 pub use fields::{BitCopy, RegisterName};
 pub use laws::cursors_follow_places;
 pub use memory::BitMemory;

@@ -226,7 +226,7 @@ fn open_lane(alloc: Global, setup: &Setup, image: &[u64], lane: usize) -> Result
 {
     let register = lane / usize::from(setup.processes);
     if register == 5 {
-        Copies::open(alloc, usize::from(width_of(Field::Image0, setup)), image)
+        Copies::from_words(alloc, usize::from(width_of(Field::Image0, setup)), image)
     } else {
         let field = field_numbered(register % 7);
         Copies::new(alloc, usize::from(width_of(field, setup)))

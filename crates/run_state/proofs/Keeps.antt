@@ -54,12 +54,12 @@ observed_by : (s : Setup) (number : ℕ) (known : EntryFacts) (o : Option Access
 observed_by s number known o marks k None = marked_by number (accessed_by s number known o k) marks ∙ ap (λ k. marked_all number k marks) (opened_by s number known o k)
 observed_by s number known o marks k (Some c) = refl
 
-standing_on : (s : Setup) (p : ℕ) (e : Entry) (past : Past) → e.process ≡ p →
+call_state_on : (s : Setup) (p : ℕ) (e : Entry) (past : Past) → e.process ≡ p →
     without_accesses (call_state s p (e ∷ past)) ≡ elim (called_in e.marks) as (λ _. CallState) [
       | Some c ↦ begun (length past) c (without_accesses (call_state s p past))
       | None ↦ marked_all (length past) (opened_if (is_some e.access) (length past) (without_accesses (call_state s p past))) e.marks
     ]
-standing_on s p e past h =
+call_state_on s p e past h =
     let (known, is) = known_of s past e in
     ap (λ q. without_accesses (call_state s q (e ∷ past))) (sym h) ∙ ap without_accesses (call_state-observed s e past known is) ∙ ap (λ q. without_accesses (observed s (length past) known e.access e.marks (call_state s q past))) h
     ∙ observed_by s (length past) known e.access e.marks (call_state s p past) (called_in e.marks)
@@ -79,7 +79,7 @@ read_none s n e found (m ∷ marks) some = refl
 pub kept_with : (s : Setup) (p : ℕ) (e : Entry) (past : Past) → e.process ≡ p → (e.marks ≡ [] → ⊥) → kept s p (e ∷ past) ≡ kept_marked (length past) (is_some e.access) e.marks (kept s p past)
 kept_with s p e past h some =
     kept_by (kept s p (e ∷ past)) (kept_marked (length past) (is_some e.access) e.marks (kept s p past))
-    (standing_on s p e past h) (failed_on s p e past h)
+    (call_state_on s p e past h) (failed_on s p e past h)
     (read_on s p e past h ∙ read_none s (number_read (doing s p past)) e (read_last s p past) e.marks some)
 
 -- without a mark
@@ -97,7 +97,7 @@ read_reported s a n m found same = by (ends_number (width s a.field) a.bit a.how
 pub kept_on : (s : Setup) (p : ℕ) (a : Access) (past : Past) (n : ℕ) → (ends_number (width s a.field) a.bit a.how ≡ true → n ≡ number_read (doing s p past)) → kept s p (quiet_entry p a ∷ past) ≡ kept_stepped s (length past) a n (kept s p past)
 kept_on s p a past n reports =
     kept_by (kept s p (quiet_entry p a ∷ past)) (kept_stepped s (length past) a n (kept s p past))
-    (standing_on s p (quiet_entry p a) past refl) (failed_on s p (quiet_entry p a) past refl)
+    (call_state_on s p (quiet_entry p a) past refl) (failed_on s p (quiet_entry p a) past refl)
     (read_on s p (quiet_entry p a) past refl ∙ sym (read_reported s a n (number_read (doing s p past)) (read_last s p past) reports))
 
 -- Entries within a number access.

@@ -5,7 +5,7 @@ pub mod CopyTexts
 pub mod Keeps
 pub mod FirstAccesses
 pub mod OfCalls
-pub mod Stand
+pub mod ObservedWorlds
 pub mod Makers
 pub mod Observed
 pub mod RecordTexts

@@ -8,7 +8,7 @@ use Rattle.plain_store.specs.{Setup}
 use Rattle.model.specs.{Entry, Past, entry_of}
 use Rattle.calls.specs.scenario.{Line}
 use Rattle.calls.specs.scenario_run.{Happening, IsFront, IsLineMade, Lacks, LineMade, Looks, MadeNewest, Run, Tires, Tries, events_in, past_after, past_in, run_after, run_at_start, runs}
-use Rattle.calls.proofs.course_proofs.Grows.{Grows, lines_grow}
+use Rattle.calls.proofs.scenario_run_proofs.Grows.{Grows, lines_grow}
 use Rattle.run_state.specs.{EventsAreMade, IsMade, first_of, made_line, makes_event, making_line, number_in}
 
 -- The events of a run.

@@ -37,9 +37,9 @@ module _ (said : Script) (n : ℕ) (scenario_run : ScenarioRunState) (was observ
   pub core_setup : core.setup ≡ observer.observed_run.setup
   core_setup = setup_is ∙ sym now_seen.setup
 
-  -- the snapshot has observed the past of the course
-  stands : (taken : List Taken) → taken ≡ history scenario_run.world.setup (past_in scenario_run.world.setup p.now) → HasObservedWorld observer.observed_run core taken past
-  stands taken are = record {
+  -- the observed run has observed the past of the scenario run
+  corresponds : (taken : List Taken) → taken ≡ history scenario_run.world.setup (past_in scenario_run.world.setup p.now) → HasObservedWorld observer.observed_run core taken past
+  corresponds taken are = record {
     observed = now_seen.observed;
     setup = core_setup;
     events = events;
@@ -58,5 +58,5 @@ module _ (said : Script) (n : ℕ) (scenario_run : ScenarioRunState) (was observ
       let rest : List ℕ = state_lines s past in
       let headed : head ≡ head_lines past = writes now_seen ∙ ap (λ l. l ++ head_lines past) none in
       let lined : made ≡ head_lines past ++ line = second s p.now p.newest_made count_is ∙ (λ i. headed i ++ making_line numbers s (count_is i) run_at_start said.lines) in
-      third past (stands taken are) ∙ (λ i. lined i ++ state_lines (now_seen.setup i) past) ∙ append_assoc (head_lines past) line rest
+      third past (corresponds taken are) ∙ (λ i. lined i ++ state_lines (now_seen.setup i) past) ∙ append_assoc (head_lines past) line rest
       ∙ ap (state_of numbers said) (front_is s n p.now _ p.part)

@@ -28,9 +28,9 @@ newest_written (n ∷ numbers) [] same = absurd (omega (arith, same))
 in_order : (count newest made rest : List ℕ) → (count ++ (newest ++ made)) ++ rest ≡ (count ++ newest) ++ (made ++ rest)
 in_order count newest made rest = ap (λ l. l ++ rest) (sym (append_assoc count newest made)) ∙ append_assoc (count ++ newest) made rest
 
--- the snapshot has observed the past of the judge's core
-stands : (o : RecordStateObserver) (s : Setup) (entries : List Entry) (numbers : List ℕ) → HasAudited o.judge.auditor s (reverse entries) → IsStored o.good s entries numbers → HasObservedWorld o.good.observed_run o.judge.auditor.core o.good.taken.items (reverse entries)
-stands o s entries numbers observed stores =
+-- the observed run has observed the past of the judge's core
+corresponds : (o : RecordStateObserver) (s : Setup) (entries : List Entry) (numbers : List ℕ) → HasAudited o.judge.auditor s (reverse entries) → IsStored o.good s entries numbers → HasObservedWorld o.good.observed_run o.judge.auditor.core o.good.taken.items (reverse entries)
+corresponds o s entries numbers observed stores =
     let core : CoreState = o.judge.auditor.core in
     let past : Past = reverse entries in
     let taken : o.good.taken.items ≡ history core.setup past = stores.taken ∙ ap (λ (t : Setup). history t past) (sym observed.setup) in
@@ -69,7 +69,7 @@ reported_is o s entries numbers counted newest lined reported status h first sec
     made = line_of_newest (reverse lines)
 
     here : HasObservedWorld o.good.observed_run o.judge.auditor.core o.good.taken.items past
-    here = stands o s good lines (audited o.judge s entries h.judged) h.stores
+    here = corresponds o s good lines (audited o.judge s entries h.judged) h.stores
 
     same : length (reverse lines) ≡ length past
     same = length-reverse lines ∙ good_length v numbers entries h.counted ∙ sym (length-reverse good)

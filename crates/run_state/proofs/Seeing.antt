@@ -4,7 +4,7 @@ use Rattle.plain_store.specs.{Setup}
 use Rattle.model.specs.{Access, Entry, Past, entry_of, width}
 use Rattle.model.specs.declared.events.Event.TheVariants.{Step}
 use Rattle.model.proofs.Width.{is_good}
-use Rattle.calls.proofs.course_proofs.laws.Steps.{step_is}
+use Rattle.calls.proofs.scenario_run_proofs.laws.Steps.{step_is}
 use Rattle.calls.specs.scenario_run.world.laws.{doing}
 use Rattle.calls.specs.scenario_run.world.process.{number_read}
 use Rattle.calls.specs.{ends_number}

@@ -7,7 +7,7 @@ use Rattle.calls.specs.scenario.files.{Fault, LineFault, ReadsInput, UnlessMemor
 use Rattle.calls.specs.scenario.files.declared.faults.Fault.TheVariants as fault
 use Rattle.calls.specs.scenario.{Script, scenario_of}
 use Rattle.calls.proofs.scenario_proofs.CutTexts.{scenario_ended, scenario_reported}
-use Rattle.calls.proofs.course_proofs.Written.{front_none as none_is_front}
+use Rattle.calls.proofs.scenario_run_proofs.Written.{front_none as none_is_front}
 
 -- a fact on a result is one on an equal result
 same_if : (f g : List ℕ → Result (List ℕ) LineFault) (P : Result (List ℕ) LineFault → Type 0) (o : Option (List ℕ)) → IfSome o (λ input. f input ≡ g input) → IfSome o (λ input. P (f input)) → IfSome o (λ input. P (g input))

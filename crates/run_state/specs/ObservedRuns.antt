@@ -1,4 +1,4 @@
--- The state of a run: what a snapshot keeps, and how it is written.
+-- The state of a run: what an observed run keeps, and how it is written.
 use Rattle.std.specs.Prelude.{◌≡◌, ◌<◌, ℕ, List, ◌++◌, Ok, Some, flat_map, length, slice_get}
 use Rattle.plain_store.specs.{Setup, checked}
 use Rattle.model.specs.{Event, Past, Taken, history, past_of, processes}

@@ -1,5 +1,5 @@
 //! The state of a run after its first events: where each process is and what it does next, what the registers hold, and the
-//! history. A snapshot observes the entries of a run that have marks or end a register access, and counts the others, in memory
+//! history. An observed run observes the entries of a run that have marks or end a register access, and counts the others, in memory
 //! of a fixed size. All else that it prints it asks of the run's core. The engine `state` makes the first events of a scenario's
 //! run, and writes the state after them. Another engine does the same for the first entries of a record, which a judge checks. The
 //! crate re-exports the engines `calls`, and what finds the place of a fault in a file.

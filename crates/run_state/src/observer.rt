@@ -1,4 +1,4 @@
-//! A listener that keeps the state of a run.
+//! An observer that keeps the state of a run.
 ghost use Rattle.std.specs.Prelude.{◌≡◌, ◌+◌, ◌-◌, ◌^◌, ◌<◌, ◌≤◌, ◌++◌, [], IfOk, Ok, OnOk, refl, false};
 ghost use Rattle.plain_store.specs.{checked};
 ghost use Rattle.calls.specs.scenario.files.declared.faults.Fault.TheVariants.{Memory};
@@ -175,7 +175,7 @@ impl RunObserver for StateObserver {
         false
     }
 
-    fn events(&self) -> u64 {
+    fn event_count(&self) -> u64 {
         self.observed_run.entries()
     }
 

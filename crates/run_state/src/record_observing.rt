@@ -173,7 +173,7 @@ impl GoodEntries {
     }
 }
 
-/// Adds an entry to a snapshot. `read` is the number read before it.
+/// Adds an entry to an observed run. `read` is the number read before it.
 fn add_entry(entry: &Entry, read: u32, observed_run: &mut ObservedRun)
     requires { observed_run.old.entries < 2 ^ 64 - 1 }
     ensures setup { observed_run.new.setup ≡ observed_run.old.setup }

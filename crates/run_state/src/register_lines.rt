@@ -178,13 +178,14 @@ fn push_readers(
 /// Writes the word of a reader, if it belongs to the line.
 fn push_reader_if(
     alloc: Global,
-    stands: bool,
+    is_listed: bool,
     reader: usize,
     text: &mut Vec<u8>,
 ) -> Result<(), AllocError>
-    ensures { OnOk result (text.new.items ≡ text.old.items ++ cond stands (number_word reader) []) }
+    ensures { OnOk result
+        (text.new.items ≡ text.old.items ++ cond is_listed (number_word reader) []) }
 {
-    if !stands {
+    if !is_listed {
         return Ok(());
     }
     let word = format!(in alloc; " {reader}")?;

@@ -31,7 +31,7 @@ pub fn events_said(word: &str) -> Option<u64>
 
 /// Reads a whole scenario file, makes the first `events` events of its run, or all if there are fewer, and then writes the
 /// state. It takes at most `INPUT_LIMIT` bytes from the start of the input, even if it fails. It reports its progress to the
-/// onlooker; `NoObserver` ignores the reports.
+/// progress observer; `NoObserver` ignores the reports.
 ///
 /// # Errors
 ///
@@ -80,7 +80,7 @@ fn state_text<L: ProgressObserver>(
     )
 }
 
-/// Plays the first events of a scenario's run on a new course, and returns the state after them. It is a function of its
+/// Plays the first events of a scenario's run on a new scenario run, and returns the state after them. It is a function of its
 /// own because values that are dropped at each return of a function are costly to prove.
 fn played_text<L: ProgressObserver>(
     alloc: Global,

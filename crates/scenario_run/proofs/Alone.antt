@@ -121,14 +121,14 @@ walked (suc n) newest overlapped w w' flicks flicks' l remaining p floor run few
       within = subst (λ b. PassWithin s p (suc n) run.happened (Tries (Step p b) ∷ happened)) is (passes_then s p n run.happened happened b.within (flick_of flicks1) step);
     }
 
--- the listener is passed these Steps in one call
+-- the observer is passed these Steps in one call
 pub alone_pass : {L : Type 0} (Observes : L → Setup → List Happening → List Happening → L → Type 0) (n : ℕ) (w w' : WorldState) (flicks flicks' : FlickState) (newest : Access) (overlapped : ℕ) (l : Line) (remaining p floor : ℕ) (run : Run) (was is : L) → n + floor ≤ remaining → 0 < n → Walks w flicks p n newest overlapped w' flicks' →
     ((s : Setup) (before after : List Happening) → PassBy s p n newest overlapped before after → Observes was s before after is) → Follows (scenario_run w flicks remaining) run → IsAlone p floor w.setup l run → ComesOn Observes w.setup l remaining run was is (scenario_run w' flicks' (remaining - n)) (IsAlone p floor)
 alone_pass Observes n w w' flicks flicks' newest overlapped l remaining p floor run was is few some walks pass follows next =
     let b = walked n newest overlapped w w' flicks flicks' l remaining p floor run few walks follows next in
     record { quiet = n; now = b.now; turns = b.turns; observes = pass w.setup run.happened b.now.happened (record { within = b.within; newest_is = b.newest_is some; overlapped_are = b.overlapped_are }); follows = b.follows; setup = b.setup; next = b.next }
 
--- A turn: the listener is passed some Steps in one call, and then one Step is made.
+-- A turn: the observer is passed some Steps in one call, and then one Step is made.
 module _ {L : Type 0} (Observes : L → Setup → List Happening → List Happening → L → Type 0) (observes_on : (a b c : L) (s : Setup) (x y z : List Happening) → Observes a s x y b → Observes b s y z c → Observes a s x z c) (s : Setup) (l : Line) (had p floor : ℕ) (run : Run) (was mid now is : L) (first : ScenarioRunState) (w w' : WorldState) (flicks flicks' : FlickState) (remaining : ℕ)
     (u : ComesOn Observes s l had run was mid first (IsAlone p floor)) (passes : PassesAlone Observes first p floor (scenario_run w flicks remaining) mid now) where
   abbrev here : ScenarioRunState
@@ -155,7 +155,7 @@ module _ {L : Type 0} (Observes : L → Setup → List Happening → List Happen
           (λ run follows next. alone_reported w w' l remaining p floor run flicks flicks' more after follows next Observes now answer remaining' (λ reports. observes_nothing now w.setup run.happened) both.0 fewer)),
     )
 
-    -- a fault when the listener observes a Step without a mark
+    -- a fault when the observer observes a Step without a mark
     pub alone_stops : (Stops : L → Setup → List Happening → List Happening → Fault → L → Type 0) → ((a b c : L) (s : Setup) (x y z : List Happening) (fault : Fault) → Observes a s x y b → Stops b s y z fault c → Stops a s x z fault c) → (fault : Fault) → ObservesStep (StopsBy Stops fault) w p (flick_of flicks) w' now is →
         ComesOn (StopsBy Stops fault) s l had run was is (scenario_run w' flicks' (remaining - 1)) (IsAlone p floor)
     alone_stops Stops stops_on fault h =

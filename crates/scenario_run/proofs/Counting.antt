@@ -1,4 +1,4 @@
--- A listener counts the events of a run, and the text of its reports is the text of the run.
+-- An observer counts the events of a run, and the text of its reports is the text of the run.
 use Rattle.std.proofs.Common.{◌≡◌, ℕ, zero, suc, ◌+◌, List, ◌∷◌, ◌++◌, length, Some, refl, ap, sym, subst, ◌∙◌, arith, add-zero, append-nil}
 use Rattle.plain_store.specs.{Setup}
 use Rattle.model.specs.declared.events.Event.TheVariants.{Step}

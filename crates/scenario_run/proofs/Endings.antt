@@ -1,4 +1,4 @@
--- Consequences of how a listener's writing ended.
+-- Consequences of how an observer's writing ended.
 use Rattle.std.proofs.Common.{◌≡◌, ℕ, ◌+◌, Result, Ok, Err, IfErr, OnOk, List, Option, subst, sym, ◌∙◌, add-zero}
 use Rattle.scenario.specs.files.{Fault}
 use Rattle.scenario.specs.files.declared.faults.Fault.TheVariants as fault

@@ -94,7 +94,7 @@ lone_quiet s steps n p bit (suc quiet) (suc remaining) run source remaining' run
       count = let count = u.count in omega (arith, count);
     }
 
--- the course after the words of the picks are drawn
+-- the scenario run after the words of the picks are drawn
 abbrev pub lone_run : ℕ → ScenarioRunState → ScenarioRunState
 lone_run had mid = scenario_run mid.world (picks_after (had - mid.remaining) mid.flicks) mid.remaining
 

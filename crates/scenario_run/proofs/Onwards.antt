@@ -19,7 +19,7 @@ pub record Onward (s : Setup) (lines rest : List Line) (scenario_run : ScenarioR
   pub taken : Appends old new text
   pub whole : runs s rest now ≡ runs s lines run_at_start
 
--- the numbers are the counts and the number of commands that the course returns
+-- the numbers are the counts and the number of commands that the scenario run returns
 pub run_numbers : (s : Setup) (run : Run) (scenario_run : ScenarioRunState) (summary : Summary) (taken : ℕ) → Follows scenario_run run → scenario_run.world.setup ≡ s → Counts s run.happened summary →
     ((run : Run) → Follows scenario_run run → taken ≡ (summary_of scenario_run.world.setup run.happened).taken) → (let last : Summary = record summary { taken = taken } in last) ≡ summary_of s run.happened
 run_numbers s run scenario_run summary taken follows setup counts counted =

@@ -13,7 +13,7 @@ use Rattle.scenario_run.proofs.Reportings.{counts_more}
 use Rattle.scenario_run.proofs.TurnLaw.{rest_whole, turn_on}
 use Rattle.scenario_run.proofs.Underways.{Turned, One, Nothing, silent_one, reported_none, reported_one, turned}
 
--- the setup of the run that a course shows is good, and its events are in range
+-- the setup of the run that a scenario run shows is good, and its events are in range
 pub good_of : (s : Setup) (scenario_run : ScenarioRunState) (run : Run) → scenario_run.world.setup ≡ s → Follows scenario_run run → (checked s ≡ Ok tt) × AreGiven s (tried run.happened)
 good_of s scenario_run run setup follows = subst (λ s. (checked s ≡ Ok tt) × AreGiven s (tried run.happened)) setup (follows.shows.good, follows.shows.given)
 
@@ -186,7 +186,7 @@ module _ {L : Type 0} (Observes : L → Setup → List Happening → List Happen
                   (subst (λ l. Observes was s start.happened l is') (sym same) (observed_to None c)) (last ∙ quiet_events None c)
 
       module _ (Stops : L → Setup → List Happening → List Happening → Fault → L → Type 0) (stops_on : (a b c : L) (s : Setup) (x y z : List Happening) (fault : Fault) → Observes a s x y b → Stops b s y z fault c → Stops a s x z fault c) (fault : Fault) where
-        -- a fault when the listener observes a turn
+        -- a fault when the observer observes a turn
         pub played_cut : (is'' : L) (answer : TurnReport) → ((a b : L) (s : Setup) (x y more : List Happening) (fault : Fault) → Stops a s x y fault b → Stops a s x (more ++ y) fault b) → Comes (Some answer) →
             ((s : Setup) (before : List Happening) (this : Happening) → Happens s before this answer → Stops is' s before (this ∷ before) fault is'') → Stops was s start.happened (run_after s line start).happened fault is''
         played_cut is'' answer stops_before comes cut =
@@ -207,7 +207,7 @@ module _ {L : Type 0} (Observes : L → Setup → List Happening → List Happen
         (stops_on was is is' s start.happened u.now.happened (rest_of s line scenario_run.remaining u.now).happened fault u.observes
         (subst (λ s. Stops is s u.now.happened (rest_of s line scenario_run.remaining u.now).happened fault is') u.setup (cut u.now u.follows)))
 
--- a fault before the listener has observed anything
+-- a fault before the observer has observed anything
 pub unobserved : {L : Type 0} (Stops : L → Setup → List Happening → List Happening → Fault → L → Type 0) (s : Setup) (line : Line) (remaining : ℕ) (run : Run) (a : L) (fault : Fault) → ((a b : L) (s : Setup) (x y more : List Happening) (fault : Fault) → Stops a s x y fault b → Stops a s x (more ++ y) fault b) →
     Stops a s run.happened run.happened fault a → Stops a s run.happened (rest_of s line remaining run).happened fault a
 unobserved Stops s line remaining run a fault stops_before cut =

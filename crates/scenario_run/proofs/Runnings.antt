@@ -167,7 +167,7 @@ module _ {L : Type 0} (Observes : L → Setup → List Happening → List Happen
         ((run : Run) → Follows scenario_run run → Next scenario_run.world.setup line run → ComesOn (StopsBy Stops fault) scenario_run.world.setup line scenario_run.remaining run mid is scenario_run' Then) → ComesOn (StopsBy Stops fault) s line had start was is scenario_run' Then
     comes_stop Stops stops_on fault scenario_run' Then = comes_both Observes (StopsBy Stops fault) (StopsBy Stops fault) s line had start was mid is scenario_run Next u (λ x y z before cut. stops_on was mid is s x y z fault before cut) scenario_run' Then
 
--- a fault when Steps without a mark are observed: the listener has observed a prefix of what the line makes
+-- a fault when Steps without a mark are observed: the observer has observed a prefix of what the line makes
 pub line_stops : {L : Type 0} (Stops : L → Setup → List Happening → List Happening → Fault → L → Type 0) (s : Setup) (line : Line) (had : ℕ) (run : Run) (was is : L) (fault : Fault) (scenario_run : ScenarioRunState) (Next : Setup → Line → Run → Type 0) →
     ((a b : L) (s : Setup) (x y more : List Happening) (fault : Fault) → Stops a s x y fault b → Stops a s x (more ++ y) fault b) → ComesOn (StopsBy Stops fault) s line had run was is scenario_run Next → had ≤ turns_in line → Stops was s run.happened (rest_of s line had run).happened fault is
 line_stops Stops s line had run was is fault scenario_run Next stops_before u few =

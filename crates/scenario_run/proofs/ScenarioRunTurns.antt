@@ -1,4 +1,4 @@
--- One turn of a course, by the result of the world.
+-- One turn of a scenario run, by the result of the world.
 use Rattle.std.proofs.Common.{◌≡◌, ℕ, zero, suc, arith, ◌-◌, ◌<◌, ◌≤◌, Bool, true, false, nat_lt, cond, length, List, [], ◌∷◌, IfOk, Result, Ok, Err, Option, None, Some, option_map, refl, ap, sym, subst, ◌∙◌, inl, inr}
 use Rattle.std.proofs.lemmas.Bool.Decides.{nat_tests}
 use Rattle.std.specs.declared.alloc.AllocError.{AllocError}

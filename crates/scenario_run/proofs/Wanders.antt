@@ -64,7 +64,7 @@ wander_ends w flicks remaining steps ps none run follows are =
 
 -- The words that the turns of `wander` draw.
 
--- the flicks after all turns of a course except `remaining`
+-- the flicks after all turns of a scenario run except `remaining`
 abbrev pub drawn_to : ScenarioRunState → ℕ → FlickState
 drawn_to scenario_run remaining = turns_drawn (scenario_run.remaining - remaining) scenario_run.flicks
 
@@ -76,7 +76,7 @@ drawn_none old flicks remaining same all = let none : old.remaining - remaining 
 pub drawn_more : (old : ScenarioRunState) (remaining : ℕ) → 0 < remaining → remaining ≤ old.remaining → drawn_to old (remaining - 1) ≡ after_flick (after_pick (drawn_to old remaining))
 drawn_more old remaining some few = let more : old.remaining - (remaining - 1) ≡ suc (old.remaining - remaining) = omega (arith, some, few) in ap (λ n. turns_drawn n old.flicks) more
 
--- The course of `wander` after the next turn, a Step whose flick comes from `source`.
+-- The scenario run of `wander` after the next turn, a Step whose flick comes from `source`.
 module _ {L : Type 0} (Observes : L → Setup → List Happening → List Happening → L → Type 0) (observes_on : (a b c : L) (s : Setup) (x y z : List Happening) → Observes a s x y b → Observes b s y z c → Observes a s x z c) (old : ScenarioRunState) (steps remaining p : ℕ) (ps : List ℕ) (run : Run) (was mid is : L) (w w' : WorldState) (source : FlickState)
     (more : 0 < remaining) (few : remaining ≤ old.remaining) (some : 0 < length ps) (picked : p ≡ slice_index ps (pick_of (length ps) (drawn_to old remaining))) (from : source ≡ after_pick (drawn_to old remaining))
     (u : ComesOn Observes old.world.setup (line.Wander steps) old.remaining run was mid (scenario_run w (drawn_to old remaining) remaining) (ArePicked ps)) where
@@ -110,7 +110,7 @@ module _ {L : Type 0} (Observes : L → Setup → List Happening → List Happen
             (λ run follows are. picked_reported w w' steps remaining p ps (flick_of source) run now.flicks flicks some_remaining some picked (ap flick_of from) (same ∙ drawn_more old remaining more few) follows are Observes mid answer (λ reports. observes_nothing mid w.setup run.happened) both.0)),
       )
 
-  -- a fault when the listener observes a Step without a mark
+  -- a fault when the observer observes a Step without a mark
   pub wander_stops : (Stops : L → Setup → List Happening → List Happening → Fault → L → Type 0) → ((a b c : L) (s : Setup) (x y z : List Happening) (fault : Fault) → Observes a s x y b → Stops b s y z fault c → Stops a s x z fault c) →
       ((a b : L) (s : Setup) (x y more : List Happening) (fault : Fault) → Stops a s x y fault b → Stops a s x (more ++ y) fault b) → (fault : Fault) → ObservesStep (StopsBy Stops fault) w p (flick_of source) w' mid is → old.remaining ≤ steps →
       Stops was old.world.setup run.happened (rest_of old.world.setup (line.Wander steps) old.remaining run).happened fault is

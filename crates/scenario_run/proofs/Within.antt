@@ -1,4 +1,4 @@
--- Steps within a register access, as a listener observes them.
+-- Steps within a register access, as an observer observes them.
 use Rattle.std.proofs.Common.{◌≡◌, ◌∙◌, ℕ, zero, suc, ◌+◌, ◌<◌, Bool, cond, List, [], ◌∷◌, Option, None, Some, ap, refl, subst, sym, arith}
 use Rattle.plain_store.specs.{Setup}
 use Rattle.model.specs.{Access, AreGiven, Entry, Past, entry_of}

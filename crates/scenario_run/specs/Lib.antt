@@ -6,7 +6,7 @@ pub use Rattle.model.specs as model
 pub use Rattle.auditor.specs.safe_monitor as safe_monitor
 pub use Rattle.run_lines.specs as run_lines
 pub mod Counts
-pub mod Courses
+pub mod ScenarioRuns
 pub mod Growing
 pub mod Happenings
 pub mod Judging
@@ -23,7 +23,7 @@ pub mod Texts
 pub mod Turns
 pub mod Writing
 pub use Counts.{IsCounted}
-pub use Courses.{ScenarioRunState, Follows, IsQuiet, KeepsScenarioRun, Makes, QuietTurns, scenario_run}
+pub use ScenarioRuns.{ScenarioRunState, Follows, IsQuiet, KeepsScenarioRun, Makes, QuietTurns, scenario_run}
 pub use Growing.{text_longer}
 pub use Happenings.{Happening, Lacks, Looks, Tires, Tries, accepted, past_after, refusals, refusals_at, tried}
 pub use Judging.{Audits}

@@ -1,4 +1,4 @@
--- Listeners of a run: the reports that they receive, and what they have observed once a line has made its turns.
+-- Observers of a run: the reports that they receive, and what they have observed once a line has made its turns.
 use Rattle.std.specs.Prelude.{◌≡◌, ◌⊎◌, ◌+◌, ◌<◌, ℕ, zero, suc, Bool, if◌then◌else◌, List, [], ◌∷◌, Option, None, Some, Ok}
 use Rattle.plain_store.specs.{Setup, checked}
 use Rattle.model.specs.{Access, AreGiven, Event, Past, entry_of, moves_of, past_of}
@@ -11,7 +11,7 @@ use Rattle.world.specs.process.{remaining_at, number_read, process_after}
 use Rattle.world.specs.{GoesOn}
 use Rattle.world.specs.Shows.{Shows, WorldState}
 use Rattle.world.specs.Walks.{StepsQuietly, ends_overlapped, ends_overlapped_read}
-use Rattle.scenario_run.specs.Courses.{ScenarioRunState, Follows, IsQuiet, QuietTurns}
+use Rattle.scenario_run.specs.ScenarioRuns.{ScenarioRunState, Follows, IsQuiet, QuietTurns}
 use Rattle.scenario_run.specs.Happenings.{Happening, Tries, past_after, tried}
 use Rattle.scenario_run.specs.Runs.{Run, past_in, run_after, runs}
 use Rattle.scenario_run.specs.Steppers.{IsAlone}
@@ -68,24 +68,24 @@ pub record PassBy (s : Setup) (p steps : ℕ) (newest : Access) (overlapped : �
   pub newest_is : IsNewest s p newest after
   pub overlapped_are : overlapped ≡ overlapped_in steps (past_after s after)
 
--- the room that a listener needs for a report and for the turns left after it
+-- the room that an observer needs for a report and for the turns left after it
 abbrev pub room_wanted : Option TurnReport → ℕ → ℕ
 room_wanted None remaining = remaining
 room_wanted (Some reported) remaining = remaining + 1
 
--- the listener observes what a turn reports
+-- the observer observes what a turn reports
 abbrev pub ObservesReported : {L : Type 0} → (L → Setup → List Happening → List Happening → L → Type 0) → TurnReport → L → L → Type 0
 ObservesReported Observes reported was is = (s : Setup) (before : List Happening) (this : Happening) → Happens s before this reported → Observes was s before (this ∷ before) is
 
--- the listener observes a Step without a mark
+-- the observer observes a Step without a mark
 abbrev pub ObservesUnmarked : {L : Type 0} → (L → Setup → List Happening → List Happening → L → Type 0) → UnmarkedStep → L → L → Type 0
 ObservesUnmarked Observes made was is = (s : Setup) (before : List Happening) → StepsOn s before made → Observes was s before (Tries (Step made.process made.flick) ∷ before) is
 
--- the listener observes `steps` Steps of p within a register access: the move of the newest, and how many end a read that a write overlapped
+-- the observer observes `steps` Steps of p within a register access: the move of the newest, and how many end a read that a write overlapped
 abbrev pub ObservesPassing : {L : Type 0} → (L → Setup → List Happening → List Happening → L → Type 0) → ℕ → ℕ → Move → ℕ → L → L → Type 0
 ObservesPassing Observes p steps how overlapped was is = (s : Setup) (before after : List Happening) (newest : Access) → newest.how ≡ how → PassBy s p steps newest overlapped before after → Observes was s before after is
 
--- a listener that stops by this fault has observed a prefix of what it would have observed
+-- an observer that stops by this fault has observed a prefix of what it would have observed
 abbrev pub StopsBy : {L : Type 0} → (L → Setup → List Happening → List Happening → Fault → L → Type 0) → Fault → L → Setup → List Happening → List Happening → L → Type 0
 StopsBy Stops fault was s before after is = Stops was s before after fault is
 
@@ -97,17 +97,17 @@ TakesRoom HasRoom was things is = (more : ℕ) → HasRoom was (more + things) �
 abbrev pub LeavesRoom : {L : Type 0} → (L → ℕ → Type 0) → L → ℕ → L → ℕ → Option TurnReport → Type 0
 LeavesRoom HasRoom was turns is remaining reported = (more : ℕ) → HasRoom was (more + turns) → HasRoom is (more + room_wanted reported remaining)
 
--- a statement holds of each run that the course shows
+-- a statement holds of each run that the scenario run shows
 abbrev pub InItsRun : ScenarioRunState → (Run → Type 0) → Type 0
 InItsRun scenario_run Holds = (run : Run) → Follows scenario_run run → Holds run
 
--- a run continues to another, and the listener has observed what happened between them
+-- a run continues to another, and the observer has observed what happened between them
 pub record Plays {L : Type 0} (Observes : L → Setup → List Happening → List Happening → L → Type 0) (s : Setup) (before after : Run) (scenario_run : ScenarioRunState) (was is : L) : Type 0 where
   pub follows : Follows scenario_run after
   pub setup : scenario_run.world.setup ≡ s
   pub observes : Observes was s before.happened after.happened is
 
--- a Step without a mark is made, and the listener observes it
+-- a Step without a mark is made, and the observer observes it
 pub record ObservesStep {L : Type 0} (Observes : L → Setup → List Happening → List Happening → L → Type 0) (old : WorldState) (p : ℕ) (flick : Bool) (new : WorldState) (was is : L) : Type 0 where
   pub step : StepsQuietly old p flick new
   pub observes : (before : List Happening) → Shows old (tried before) → Observes was old.setup before (Tries (Step p flick) ∷ before) is
@@ -119,7 +119,7 @@ pub record ReportsStep (old : WorldState) (p : ℕ) (flick : Bool) (answer : Tur
   pub shows : GoesOn old (Step p flick) new
   pub setup : new.setup ≡ old.setup
 
--- a Step is made and observed, or it is reported and the listener is unchanged
+-- a Step is made and observed, or it is reported and the observer is unchanged
 abbrev pub MakesStep : {L : Type 0} (Observes : L → Setup → List Happening → List Happening → L → Type 0) → WorldState → ℕ → Bool → Option TurnReport → WorldState → L → L → Type 0
 MakesStep Observes old p flick None new was is = ObservesStep Observes old p flick new was is
 MakesStep Observes old p flick (Some answer) new was is = ReportsStep old p flick answer new × (is ≡ was)
@@ -166,29 +166,29 @@ abbrev pub ComesAlong : {L : Type 0} (Observes : L → Setup → List Happening 
 ComesAlong Observes s line had run was is floor before (Some answer) scenario_run = (floor < before) × ComesTo Observes s line had run was is before (Some answer) scenario_run
 ComesAlong Observes s line had run was is floor before None scenario_run = ComesDown Observes s line had run was is floor before scenario_run ⊎ ((floor < before) × ComesTo Observes s line had run was is before None scenario_run)
 
--- the turns are made so in each run that the course shows
+-- the turns are made so in each run that the scenario run shows
 abbrev pub Comes : {L : Type 0} → (L → Setup → List Happening → List Happening → L → Type 0) → ScenarioRunState → Line → ℕ → ℕ → ScenarioRunState → L → L → Option TurnReport → Type 0
 Comes Observes old line floor before new was is reported = InItsRun old (λ run. ComesAlong Observes old.world.setup line old.remaining run was is floor before reported new)
 
--- a listener stops during the turns that a line has left, or during all turns of the line
+-- an observer stops during the turns that a line has left, or during all turns of the line
 abbrev pub StopsAmid : {L : Type 0} → (L → Setup → List Happening → List Happening → Fault → L → Type 0) → ScenarioRunState → Line → L → L → Fault → Type 0
 StopsAmid Stops old line was is fault = InItsRun old (λ run. Stops was old.world.setup run.happened (rest_of old.world.setup line old.remaining run).happened fault is)
 
 abbrev pub StopsLine : {L : Type 0} → (L → Setup → List Happening → List Happening → Fault → L → Type 0) → ScenarioRunState → Line → L → L → Fault → Type 0
 StopsLine Stops old line was is fault = InItsRun old (λ run. Stops was old.world.setup run.happened (run_after old.world.setup line run).happened fault is)
 
--- one process makes the Steps of a line, in each run that the course shows, or the listener stops at a Step without a mark
+-- one process makes the Steps of a line, in each run that the scenario run shows, or the observer stops at a Step without a mark
 abbrev pub RunsAlone : {L : Type 0} → (L → Setup → List Happening → List Happening → L → Type 0) → ScenarioRunState → ℕ → ℕ → ℕ → ScenarioRunState → L → L → Option TurnReport → Type 0
 RunsAlone Observes old p floor before new was is reported = (line : Line) → InItsRun old (λ run. IsAlone p floor old.world.setup line run → RunsTo Observes old.world.setup line old.remaining run was is p floor before reported new)
 
 abbrev pub StopsAlone : {L : Type 0} → (L → Setup → List Happening → List Happening → Fault → L → Type 0) → ScenarioRunState → ℕ → ℕ → ScenarioRunState → L → L → Fault → Type 0
 StopsAlone Stops old p floor new was is fault = (line : Line) → InItsRun old (λ run. IsAlone p floor old.world.setup line run → ComesOn (StopsBy Stops fault) old.world.setup line old.remaining run was is new (IsAlone p floor))
 
--- one process makes Steps of a line without a mark, and the listener observes them
+-- one process makes Steps of a line without a mark, and the observer observes them
 abbrev pub PassesAlone : {L : Type 0} → (L → Setup → List Happening → List Happening → L → Type 0) → ScenarioRunState → ℕ → ℕ → ScenarioRunState → L → L → Type 0
 PassesAlone Observes old p floor new was is = (line : Line) → InItsRun old (λ run. IsAlone p floor old.world.setup line run → ComesOn Observes old.world.setup line old.remaining run was is new (IsAlone p floor))
 
--- all turns of a line are made, in each run that the course shows
+-- all turns of a line are made, in each run that the scenario run shows
 abbrev pub PlaysLine : {L : Type 0} → (L → Setup → List Happening → List Happening → L → Type 0) → ScenarioRunState → Line → ScenarioRunState → L → L → Type 0
 PlaysLine Observes old line new was is = InItsRun old (λ run. Plays Observes old.world.setup run (run_after old.world.setup line run) new was is)
 
@@ -196,6 +196,6 @@ PlaysLine Observes old line new was is = InItsRun old (λ run. Plays Observes ol
 abbrev pub PlaysLines : {L : Type 0} → (L → Setup → List Happening → List Happening → L → Type 0) → ScenarioRunState → List Line → ScenarioRunState → L → L → Type 0
 PlaysLines Observes old lines new was is = InItsRun old (λ run. Plays Observes old.world.setup run (runs old.world.setup lines run) new was is)
 
--- a listener stops during these lines
+-- an observer stops during these lines
 abbrev pub StopsLines : {L : Type 0} → (L → Setup → List Happening → List Happening → Fault → L → Type 0) → ScenarioRunState → List Line → L → L → Fault → Type 0
 StopsLines Stops old lines was is fault = InItsRun old (λ run. Stops was old.world.setup run.happened (runs old.world.setup lines run).happened fault is)

@@ -2,7 +2,7 @@
 use Rattle.std.specs.Prelude.{◌≡◌, ◌⊎◌, ◌+◌, ◌-◌, ◌^◌, ◌<◌, ◌≤◌, ℕ, List, ◌∷◌, ◌++◌, length, Option, None, Some}
 use Rattle.plain_store.specs.{Setup}
 use Rattle.scenario.specs.{Line}
-use Rattle.scenario_run.specs.Courses.{ScenarioRunState}
+use Rattle.scenario_run.specs.ScenarioRuns.{ScenarioRunState}
 use Rattle.scenario_run.specs.Happenings.{Happening}
 use Rattle.scenario_run.specs.Observing.{InItsRun, Plays}
 use Rattle.scenario_run.specs.Runs.{Run, past_in, run_after, runs}
@@ -54,6 +54,6 @@ pub record PlaysPart {L : Type 0} (Observes : L → Setup → List Happening →
   pub part : IsPart s until run now (runs s lines run)
   pub newest_made : MadeNewest s lines run now newest
 
--- lines are played so in each run that the course shows
+-- lines are played so in each run that the scenario run shows
 abbrev pub PlaysUntil : {L : Type 0} → (L → Setup → List Happening → List Happening → L → Type 0) → PlayLimit → ScenarioRunState → List Line → ScenarioRunState → L → L → Option LineMade → Type 0
 PlaysUntil Observes until old lines new was is newest = InItsRun old (λ run. PlaysPart Observes old.world.setup lines until run new was is newest)

@@ -1,4 +1,4 @@
--- The part of a growing text that a sink took, while a listener observes a run.
+-- The part of a growing text that a sink took, while an observer observes a run.
 use Rattle.std.specs.Prelude.{◌≡◌, ◌+◌, ℕ, List, ◌++◌, Option, Err, refl}
 use Rattle.std.proofs.Common.{ap, sym, ◌∙◌, add-zero}
 use Rattle.scenario.specs.files.{Fault}

@@ -1,4 +1,4 @@
-//! A listener, together with an auditor that observes each entry.
+//! An observer, together with an auditor that observes each entry.
 ghost use Rattle.std.specs.Prelude.{◌≡◌, ◌↔◌, [], ◌∷◌, List, IfOk, IsTrue, None, Ok, Some, true};
 ghost use Rattle.plain_store.specs.{checked};
 ghost use Rattle.plain_store.specs.declared.setups.Setup.{Setup as Given};
@@ -104,7 +104,7 @@ impl RunAudit {
     }
 }
 
-/// A listener, and the audit of what it observes.
+/// An observer, and the audit of what it observes.
 #[derive(Drop)]
 pub struct WithAudit<L: RunObserver + Drop> {
     pub observer: L,
@@ -119,8 +119,8 @@ impl<L: RunObserver + Drop> RunObserver for WithAudit<L> {
         true
     }
 
-    fn events(&self) -> u64 {
-        self.observer.events()
+    fn event_count(&self) -> u64 {
+        self.observer.event_count()
     }
 
     ghost HasRoom = { λ judged more. L.HasRoom judged.observer more };

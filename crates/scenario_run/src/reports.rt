@@ -70,7 +70,7 @@ pub enum TurnReport {
 
 impl TurnReport {
     /// Returns 1 for an accepted event, and 0 for any other report.
-    pub(crate) fn events(&self) -> u32
+    pub(crate) fn event_count(&self) -> u32
         ensures events { result ≡ events_reported self.now }
         ensures one { result ≤ 1 }
     {

@@ -1,4 +1,4 @@
-//! Listeners, which observe a run while its course makes it.
+//! Observers, which observe a run while its scenario run makes it.
 ghost use Rattle.std.specs.Prelude.{◌≡◌, ◌+◌, ◌<◌, ◌≤◌, ◌++◌, ℕ, List, ◌∷◌, Bool, false, OnOk, IfErr};
 ghost use Rattle.plain_store.specs.{Setup};
 ghost use Rattle.model.specs.declared.events.Event.TheVariants.{Step};
@@ -11,33 +11,33 @@ use crate::reports::{TurnReport, UnmarkedStep};
 use model::Move;
 use scenario::Fault;
 
-/// A listener, which observes a run. Two relations describe what it has observed between two moments: the happenings of a
+/// An observer, which observes a run. Two relations describe what it has observed between two moments: the happenings of a
 /// run of a setup, from the first list of them to the second.
 pub trait RunObserver {
-    /// Whether the listener observes each Step without a mark. If not, those within a register access are passed in groups.
+    /// Whether the observer observes each Step without a mark. If not, those within a register access are passed in groups.
     ghost observes_steps: { Self → Bool };
 
-    /// Returns whether the listener observes each Step without a mark.
+    /// Returns whether the observer observes each Step without a mark.
     fn observes_steps(&self) -> bool
         ensures { result ≡ observes_steps self.now };
 
-    /// Returns the number of events observed so far, for an onlooker.
-    fn events(&self) -> u64;
+    /// Returns the number of events observed so far, for a progress observer.
+    fn event_count(&self) -> u64;
 
-    /// The listener has room for this number of things more.
+    /// The observer has room for this number of things more.
     ghost HasRoom: { Self → ℕ → Type 0 };
 
-    /// The listener has observed these happenings.
+    /// The observer has observed these happenings.
     ghost Observes: { Self → Setup → List Happening → List Happening → Self → Type 0 };
 
-    /// The listener has observed a prefix of these happenings; then this fault occurred.
+    /// The observer has observed a prefix of these happenings; then this fault occurred.
     ghost Stops: { Self → Setup → List Happening → List Happening → WhyEnded → Self → Type 0 };
 
     /// Observes what a turn reports.
     ///
     /// # Errors
     ///
-    /// Returns the fault by which the listener stops. The relation `Stops` describes what it has then observed.
+    /// Returns the fault by which the observer stops. The relation `Stops` describes what it has then observed.
     fn observe(&mut self, reported: &TurnReport) -> Result<(), Fault>
         requires { HasRoom self.old 1 }
         ensures observed { OnOk result (ObservesReported Observes reported.now self.old self.new) }
@@ -49,7 +49,7 @@ pub trait RunObserver {
     ///
     /// # Errors
     ///
-    /// Returns the fault by which the listener stops. The relation `Stops` describes what it has then observed.
+    /// Returns the fault by which the observer stops. The relation `Stops` describes what it has then observed.
     fn step(&mut self, made: UnmarkedStep) -> Result<(), Fault>
         requires { HasRoom self.old 1 }
         ensures observed { OnOk result (ObservesUnmarked Observes made self.old self.new) }
@@ -72,7 +72,7 @@ pub trait RunObserver {
 
     ghost observes_on: { (a b c : Self) (s : Setup) (x y z : List Happening) → Observes a s x y b → Observes b s y z c → Observes a s x z c };
 
-    /// A course may run out of memory before the listener has observed anything.
+    /// A scenario run may run out of memory before the observer has observed anything.
     ghost stops_unobserved: { (a : Self) (s : Setup) (x : List Happening) → Stops a s x x Memory a };
 
     ghost stops_before: { (a b : Self) (s : Setup) (x y more : List Happening) (fault : WhyEnded) → Stops a s x y fault b → Stops a s x (more ++ y) fault b };

@@ -63,7 +63,7 @@ impl RunObserver for Summary {
         false
     }
 
-    fn events(&self) -> u64 {
+    fn event_count(&self) -> u64 {
         self.events
     }
 

@@ -7,7 +7,7 @@ ghost use Rattle.model.specs.{history, is_event, past_of};
 ghost use Rattle.world.specs.choices.{constant_flicks};
 ghost use Rattle.world.specs.{with_history};
 ghost use Rattle.world.specs.Shows.{Shows};
-ghost use Rattle.scenario_run.specs.Courses.{Follows, Makes, ScenarioRunState};
+ghost use Rattle.scenario_run.specs.ScenarioRuns.{Follows, Makes, ScenarioRunState};
 ghost use Rattle.scenario_run.specs.Happenings.{Tries};
 ghost use Rattle.scenario_run.specs.Observing.{InItsRun, room_wanted};
 ghost use Rattle.scenario_run.specs.Runs.{Run, run_at_start, taken_in};
@@ -42,7 +42,7 @@ pub struct ScenarioRun {
 }
 
 impl Model for ScenarioRun {
-    ghost use Rattle.scenario_run.specs.Courses.{ScenarioRunState, KeepsScenarioRun};
+    ghost use Rattle.scenario_run.specs.ScenarioRuns.{ScenarioRunState, KeepsScenarioRun};
 
     ghost Value = { ScenarioRunState };
 

@@ -28,7 +28,7 @@ true_replies input old new (text, is, written) (said, reads, keeps) = (
   reads,
   record {
     text = let same : Ok text ≡ Ok (replayed said) = sym is ∙ ap (λ r. r >>= λ said. Ok (replayed said)) reads in subst (Appends old new) (cc) written;
-    replies = λ later earlier e split. (keeps.main_theorem later earlier e split).stands;
+    replies = λ later earlier e split. (keeps.main_theorem later earlier e split).in_history;
   },
 )
 

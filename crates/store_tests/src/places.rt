@@ -17,7 +17,7 @@ fn reports_the_number_of_each_line_that_is_run(rt: HostRuntime) -> Result<(), Fa
         let ProgressPoint::Line(line) = place.begin_line(events) else {
             panic!(rt; "a line begins");
         };
-        assert!(rt; line.number() == number && line.events() == events);
+        assert!(rt; line.number() == number && line.event_count() == events);
     }
     Ok(())
 }

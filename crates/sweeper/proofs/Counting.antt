@@ -137,8 +137,8 @@ module _ (calls : List (ℕ × Command)) (event : Event) (old : Sweeper) (walker
       ap (λ b. b && is_accepted s (event ∷ before) (Fail (process_of event))) (accepted_as true is s calls before swept)
       ∙ sym (asks (event ∷ before) then.follows ∙ (λ i. is_accepted (then.walker_setup i) (event ∷ before) (Fail (own i)))) ∙ fails
 
-  pub standing_on : (p : ℕ) (may : Bool) → reported ≡ true → p ≡ process_of event → Accepts walker (Fail p) may → may ≡ false → SweepsOn calls event old mid
-  standing_on p may is own asks fails = uncut_on (cut_as p may false is own asks fails)
+  pub unfailing_on : (p : ℕ) (may : Bool) → reported ≡ true → p ≡ process_of event → Accepts walker (Fail p) may → may ≡ false → SweepsOn calls event old mid
+  unfailing_on p may is own asks fails = uncut_on (cut_as p may false is own asks fails)
 
   -- two runs are cut
   pub cut_on : (once new : Sweeper) (p : ℕ) (may : Bool) → reported ≡ true → p ≡ process_of event → Accepts walker (Fail p) may → may ≡ true → CountsRun p false calls mid once → CountsRun p true calls once new → SweepsOn calls event old new

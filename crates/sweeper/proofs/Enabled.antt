@@ -5,7 +5,7 @@ use Rattle.model.specs.declared.events.Event.TheVariants.{Step, Fail}
 use Rattle.model.specs.{Refusal, Stage, is_at_work, past_of, refused_at, stage}
 use Rattle.model.specs.declared.refusals.Refusal.TheVariants.{CallsFull, NoProcess}
 use Rattle.model.specs.declared.stages.Stage.TheVariants as stages
-use Rattle.sweeper.specs.{FailsAreOfUnfailed, StepsAreOfEnabled, stands}
+use Rattle.sweeper.specs.{FailsAreOfUnfailed, StepsAreOfEnabled, is_unfailed}
 
 -- an event that is not a call is refused by the stage of its process alone
 by_stage : Bool → Option Refusal → Bool
@@ -22,7 +22,7 @@ step_by p v true stages.Waiting = refl
 step_by p v true stages.Inside = refl
 step_by p v true stages.Leaving = refl
 
-fail_by : (p : ℕ) (there : Bool) (x : Stage) → by_stage there (refused_at (Fail p) x) ≡ (there && stands x)
+fail_by : (p : ℕ) (there : Bool) (x : Stage) → by_stage there (refused_at (Fail p) x) ≡ (there && is_unfailed x)
 unfolding by_stage
 fail_by p false x = refl
 fail_by p true stages.Idle = refl
@@ -37,6 +37,6 @@ pub steps_of_enabled : StepsAreOfEnabled
 unfolding by_stage
 steps_of_enabled s events p v = step_by p v (nat_lt p s.processes) (stage p (past_of s events))
 
-pub fails_of_standing : FailsAreOfUnfailed
+pub fails_of_unfailed : FailsAreOfUnfailed
 unfolding by_stage
-fails_of_standing s events p = fail_by p (nat_lt p s.processes) (stage p (past_of s events))
+fails_of_unfailed s events p = fail_by p (nat_lt p s.processes) (stage p (past_of s events))

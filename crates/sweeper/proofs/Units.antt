@@ -8,9 +8,9 @@ use Rattle.model.specs.declared.events.Event.TheVariants.{Step, Fail}
 use Rattle.model.specs.declared.marks.Mark.TheVariants.{Failed}
 use Rattle.model.specs.declared.stages.Stage.TheVariants as stages
 use Rattle.auditor.proofs.laws.UnitSteps.{GoesOn, few_accesses, unit_goes_on}
-use Rattle.sweeper.specs.{AreDownInTime, UnitsAreDownInTime, is_accepted, most, stands, steps_of}
+use Rattle.sweeper.specs.{AreDownInTime, UnitsAreDownInTime, is_accepted, most, is_unfailed, steps_of}
 use Rattle.sweeper.proofs.Going.{ended}
-use Rattle.sweeper.proofs.Enabled.{fails_of_standing, steps_of_enabled}
+use Rattle.sweeper.proofs.Enabled.{fails_of_unfailed, steps_of_enabled}
 
 -- the number of accesses that the unit of p has made
 abbrev pub made_by : Setup → ℕ → List Event → ℕ
@@ -62,7 +62,7 @@ down_in_time s good events p v may = unit_ends s good p v there most (Fail p ∷
     e = record { process = p; access = None; marks = Failed ∷ [] }
 
     there : nat_lt p s.processes ≡ true
-    there = (and_parts (nat_lt p s.processes) (stands (stage p past)) (sym (fails_of_standing s events p) ∙ may)).0
+    there = (and_parts (nat_lt p s.processes) (is_unfailed (stage p past)) (sym (fails_of_unfailed s events p) ∙ may)).0
 
     after : past_of s (Fail p ∷ events) ≡ e ∷ past
     after = failed_past s events p (none_of (refused s past (Fail p)) may)

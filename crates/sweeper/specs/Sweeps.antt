@@ -152,10 +152,10 @@ AreDownInTime s [] = Unit {0}
 AreDownInTime s (event ∷ before) = AreDownInTime s before × ((v : Bool) → IsDownInTime s (process_of event) v (event ∷ before))
 
 -- a process has not failed and is not down
-abbrev pub stands : Stage → Bool
-stands Settling = false
-stands Down = false
-stands _ = true
+abbrev pub is_unfailed : Stage → Bool
+is_unfailed Settling = false
+is_unfailed Down = false
+is_unfailed _ = true
 
 -- the process exists, and its stage passes the test
 abbrev pub is_there : (Stage → Bool) → Setup → List Event → ℕ → Bool
@@ -167,4 +167,4 @@ StepsAreOfEnabled = (s : Setup) (events : List Event) (p : ℕ) (v : Bool) → i
 
 -- A failure is accepted if and only if its process has not failed and is not down.
 abbrev pub FailsAreOfUnfailed : Type 0
-FailsAreOfUnfailed = (s : Setup) (events : List Event) (p : ℕ) → is_accepted s events (Fail p) ≡ is_there stands s events p
+FailsAreOfUnfailed = (s : Setup) (events : List Event) (p : ℕ) → is_accepted s events (Fail p) ≡ is_there is_unfailed s events p

@@ -85,7 +85,7 @@ impl Sweeper {
         ensures room { (more : ℕ) → CanSweep calls.now (more + 1) self.old
             → CanSweep calls.now more self.new }
     {
-        let cut = self.events();
+        let cut = self.event_count();
         if !self.walker.make(event) {
             return;
         }
@@ -98,7 +98,7 @@ impl Sweeper {
     }
 
     /// Returns the number of events that were accepted.
-    pub fn events(&self) -> u64 {
+    pub fn event_count(&self) -> u64 {
         self.walker.entries()
     }
 

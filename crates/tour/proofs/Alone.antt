@@ -43,8 +43,8 @@ doing_inside (Closes command number Quit) h = absurd (cc)
 doing_inside (Closes command number Ended) h = absurd (cc)
 
 -- a process whose stage is `Inside` is inside
-pub stands_inside : (s : Setup) → checked s ≡ Ok tt → (events : List Event) (p : ℕ) → stage p (past_of s events) ≡ stages.Inside → inside p (past_of s events) ≡ true
-stands_inside s g events p h =
+pub stage_inside : (s : Setup) → checked s ≡ Ok tt → (events : List Event) (p : ℕ) → stage p (past_of s events) ≡ stages.Inside → inside p (past_of s events) ≡ true
+stage_inside s g events p h =
     inside-is s (is_good s g) events p ∙ doing_inside (doing s p (past_of s events)) (sym (stage-is s (is_good s g) events p) ∙ h)
 
 there : (b : Bool) (x y : Stage) → cond b (Some x) Option.None ≡ Some y → x ≡ y
@@ -52,8 +52,8 @@ there true x y h = cc
 there false x y h = absurd (cc)
 
 -- in a world, a process that is inside is the only one inside
-pub stands_alone : MutualExclusion → (w : WorldState) (events : List Event) → Shows w events → (p : ℕ) → stage_in w.setup (past_of w.setup events) p ≡ Some stages.Inside →
+pub inside_alone : MutualExclusion → (w : WorldState) (events : List Event) → Shows w events → (p : ℕ) → stage_in w.setup (past_of w.setup events) p ≡ Some stages.Inside →
     (other : ℕ) → IsTrue (inside other (past_of w.setup events)) → other ≡ p
-stands_alone law w events shows p h other i =
-    let here = stands_inside w.setup shows.good events p (there (nat_lt p w.setup.processes) (stage p (past_of w.setup events)) stages.Inside h) in
+inside_alone law w events shows p h other i =
+    let here = stage_inside w.setup shows.good events p (there (nat_lt p w.setup.processes) (stage p (past_of w.setup events)) stages.Inside h) in
     law w.setup shows.good events other p i here

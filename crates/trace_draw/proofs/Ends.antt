@@ -10,7 +10,7 @@ use Rattle.trace_engine.specs.trace_file.TraceFiles.{TraceProgress, line_read, t
 use Rattle.trace_engine.specs.{IsOfTrace, IsTraceFault, Observes, ObservesAt, count_by}
 use Rattle.trace_engine.proofs.Ends.{Onwards, onwards_all, onwards_fault, onwards_few, onwards_none, onwards_on, onwards_start}
 use Rattle.trace_engine.proofs.Trials.{unless_then}
-use Rattle.trace_draw.specs.{DrawnTrace, DrawsAllBands, DrawsLine, EndsSheet, EndsTrace, HasShown, IsDrawFault, IsReported, NothingYet, SoFar, Stands, TracePicture, TraceView, count_of, with_output}
+use Rattle.trace_draw.specs.{DrawnTrace, DrawsAllBands, DrawsLine, EndsSheet, EndsTrace, HasShown, IsDrawFault, IsReported, NothingYet, SoFar, Corresponds, TracePicture, TraceView, count_of, with_output}
 use Rattle.trace_draw.proofs.Shown.{shown_count}
 
 -- a picture that there is
@@ -66,15 +66,15 @@ module _ (view : TraceView) where
     pub nothing : NothingYet picture first now
 
   -- so it stands
-  stands_at : (to_come rest : Option (List ℕ)) (taken : ℕ) (reader : Option TraceProgress) (picture : Option TracePicture) (first now : Option (List ℕ)) (u : DrawnUpTo to_come rest taken reader picture first now) → Stands view reader picture first now u.onwards.before u.onwards.entries u.onwards.numbers
-  stands_at to_come rest taken reader picture first now u = record { read_up_to = u.onwards.read_up_to; nothing = u.nothing }
+  corresponds_at : (to_come rest : Option (List ℕ)) (taken : ℕ) (reader : Option TraceProgress) (picture : Option TracePicture) (first now : Option (List ℕ)) (u : DrawnUpTo to_come rest taken reader picture first now) → Corresponds view reader picture first now u.onwards.before u.onwards.entries u.onwards.numbers
+  corresponds_at to_come rest taken reader picture first now u = record { read_up_to = u.onwards.read_up_to; nothing = u.nothing }
 
   -- before the first line
-  pub drawn_start : (to_come : Option (List ℕ)) (ahead : Given) (taken : ℕ) (reader : Option TraceProgress) (picture : Option TracePicture) (first : Option (List ℕ)) → ahead.bytes ≡ [] → ahead.ended ≡ false → taken ≡ 0 → Stands view reader picture first first None [] [] →
+  pub drawn_start : (to_come : Option (List ℕ)) (ahead : Given) (taken : ℕ) (reader : Option TraceProgress) (picture : Option TracePicture) (first : Option (List ℕ)) → ahead.bytes ≡ [] → ahead.ended ≡ false → taken ≡ 0 → Corresponds view reader picture first first None [] [] →
       DrawnUpTo to_come (coming ahead to_come) taken reader picture first first
-  drawn_start to_come ahead taken reader picture first fresh open_yet none stands = record {
-    onwards = onwards_start (HasShown view first) to_come ahead taken reader (with_output first picture) fresh open_yet none stands.read_up_to;
-    nothing = stands.nothing;
+  drawn_start to_come ahead taken reader picture first fresh open_yet none corresponds = record {
+    onwards = onwards_start (HasShown view first) to_come ahead taken reader (with_output first picture) fresh open_yet none corresponds.read_up_to;
+    nothing = corresponds.nothing;
   }
 
   -- no more entries are drawn than lines were taken
@@ -89,7 +89,7 @@ module _ (view : TraceView) where
   drawn_on to_come mid rest l l' n line reader reader' picture picture' first now then u takes number is draws =
       let v = u.onwards in
       let on = subst (λ (line : List ℕ). DrawsLine view reader picture now reader' picture' then l'.taken line) is (subst (λ n. DrawsLine view reader picture now reader' picture' then n line) number draws)
-      first v.before v.entries v.numbers (stands_at to_come mid l.taken reader picture first now u) in
+      first v.before v.entries v.numbers (corresponds_at to_come mid l.taken reader picture first now u) in
       record {
         onwards = onwards_on (HasShown view first) to_come mid rest l l' reader reader' (with_output now picture) (with_output then picture') v takes on.goes_on;
         nothing = on.nothing;
@@ -119,8 +119,8 @@ module _ (view : TraceView) where
   drawn_all to_come mid taken reader picture first now then u p d is ends end =
       let v = u.onwards in
       let before : v.before ≡ Some p = sym v.read_up_to.read ∙ is in
-      let stands = subst (λ (o : Option TraceProgress). Stands view reader picture first now o v.entries v.numbers) before (stands_at to_come mid taken reader picture first now u) in
-      onwards_all (HasShown view first) (IsReported view.judged (λ s shown reported. EndsTrace view.form view.options d s shown reported first then) d.status) to_come mid taken reader (with_output now picture) v p before (ends first p v.entries v.numbers stands) end
+      let corresponds = subst (λ (o : Option TraceProgress). Corresponds view reader picture first now o v.entries v.numbers) before (corresponds_at to_come mid taken reader picture first now u) in
+      onwards_all (HasShown view first) (IsReported view.judged (λ s shown reported. EndsTrace view.form view.options d s shown reported first then) d.status) to_come mid taken reader (with_output now picture) v p before (ends first p v.entries v.numbers corresponds) end
 
 -- a fault of what the input says is told as such
 pub input_fault : (e : Fault) (to_come : Option (List ℕ)) → IsTraceFault e to_come → IsDrawFault e to_come

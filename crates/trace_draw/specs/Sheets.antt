@@ -26,24 +26,24 @@ NothingYet (Some picture) first now = Unit {0}
 
 module _ (view : TraceView) where
   -- this was read, these entries were said in the lines with these numbers, and they were judged and drawn
-  pub record Stands (reader : Option TraceProgress) (picture : Option TracePicture) (first now : Option (List ℕ)) (before : Option TraceProgress) (entries : List TraceEntry) (numbers : List ℕ) : Type 0 where
+  pub record Corresponds (reader : Option TraceProgress) (picture : Option TracePicture) (first now : Option (List ℕ)) (before : Option TraceProgress) (entries : List TraceEntry) (numbers : List ℕ) : Type 0 where
     pub read_up_to : IsReadUpTo (HasShown view first) reader (with_output now picture) before entries numbers
     pub nothing : NothingYet picture first now
 
   -- what a line means was read, and judged and drawn if it is an entry
-  pub record StandsOn (reader : Option TraceProgress) (picture : Option TracePicture) (first now : Option (List ℕ)) (n : ℕ) (line : List ℕ) (before : Option TraceProgress) (entries : List TraceEntry) (numbers : List ℕ) : Type 0 where
+  pub record CorrespondsAfter (reader : Option TraceProgress) (picture : Option TracePicture) (first now : Option (List ℕ)) (n : ℕ) (line : List ℕ) (before : Option TraceProgress) (entries : List TraceEntry) (numbers : List ℕ) : Type 0 where
     pub goes_on : GoesOn (HasShown view first) n line before reader (with_output now picture) entries numbers
     pub nothing : NothingYet picture first now
 
   -- a line was read, behind whatever was read before it
   abbrev pub DrawsLine : (reader : Option TraceProgress) (picture : Option TracePicture) (now : Option (List ℕ)) (reader' : Option TraceProgress) (picture' : Option TracePicture) (then : Option (List ℕ)) → ℕ → List ℕ → Type 0
   DrawsLine reader picture now reader' picture' then n line =
-      (first : Option (List ℕ)) (before : Option TraceProgress) (entries : List TraceEntry) (numbers : List ℕ) → Stands reader picture first now before entries numbers → StandsOn reader' picture' first then n line before entries numbers
+      (first : Option (List ℕ)) (before : Option TraceProgress) (entries : List TraceEntry) (numbers : List ℕ) → Corresponds reader picture first now before entries numbers → CorrespondsAfter reader' picture' first then n line before entries numbers
 
   -- all bands were drawn behind whatever was read
   abbrev pub EndsSheet : DrawnTrace → (reader : Option TraceProgress) (picture : Option TracePicture) (now then : Option (List ℕ)) → Type 0
   EndsSheet drawn reader picture now then =
-      (first : Option (List ℕ)) (p : TraceProgress) (entries : List TraceEntry) (numbers : List ℕ) → Stands reader picture first now (Some p) entries numbers →
+      (first : Option (List ℕ)) (p : TraceProgress) (entries : List TraceEntry) (numbers : List ℕ) → Corresponds reader picture first now (Some p) entries numbers →
       IsReported view.judged (λ s shown reported. EndsTrace view.form view.options drawn s shown reported first then) drawn.status p.setup entries numbers
 
 -- all bands of the trace that a text says were written

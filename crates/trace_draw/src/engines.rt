@@ -6,7 +6,7 @@ ghost use Rattle.draw.specs.{IsWriteFault, failed_write};
 ghost use Rattle.picture.specs.declared.page.Form.TheVariants as form_variants;
 ghost use Rattle.picture.specs.declared.reads.PictureOptions.{PictureOptions as Options};
 ghost use Rattle.trace.specs.{TraceEntry as Entry, TraceSetup as Setup};
-ghost use Rattle.trace_draw.specs.Sheets.{DrawsAllBands, DrewTrace, IsDrawFault, Stands};
+ghost use Rattle.trace_draw.specs.Sheets.{DrawsAllBands, DrewTrace, IsDrawFault, Corresponds};
 ghost use Rattle.trace_draw.specs.Showing.{DrawsTraceSaid, EndsTrace};
 
 use crate::drawing::DrawnBands;
@@ -170,8 +170,8 @@ fn draw_lines<R: Source, W: Sink>(
     requires ahead { lines.old.ahead.bytes ≡ [] }
     requires ended { lines.old.ahead.ended ≡ false }
     requires taken { lines.old.taken ≡ 0 }
-    requires stands { (taken : Option (List ℕ)) →
-        Stands sheet.old.view sheet.old.reader sheet.old.picture taken taken None [] [] }
+    requires corresponds { (taken : Option (List ℕ)) →
+        Corresponds sheet.old.view sheet.old.reader sheet.old.picture taken taken None [] [] }
     requires reads { R.failures input.old < 2 ^ 64 - 1 }
     requires writes { W.failures output.old < 2 ^ 64 - 1 }
     ensures drawn { IfOk result (λ drawn. IfSome (R.to_come input.old)

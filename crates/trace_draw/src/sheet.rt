@@ -5,7 +5,7 @@ ghost use Rattle.trace.specs.{TraceEntry as Entry, is_trace_setup};
 ghost use Rattle.trace_engine.specs.{Observes, count_by};
 ghost use Rattle.trace_engine.specs.trace_file.TraceFiles.{TraceProgress, line_read};
 ghost use Rattle.trace_draw.specs.Showing.{EndsTrace, HasShown, IsReported, count_of};
-ghost use Rattle.trace_draw.specs.Sheets.{DrawsLine, EndsSheet, NothingYet, Stands, with_output};
+ghost use Rattle.trace_draw.specs.Sheets.{DrawsLine, EndsSheet, NothingYet, Corresponds, with_output};
 
 use crate::pictures::{DrawnTrace, TracePicture};
 use crate::views::TraceView;
@@ -25,8 +25,8 @@ impl TraceSheet {
     /// Creates a sheet of which no line was read.
     pub fn new(view: TraceView) -> TraceSheet
         ensures view { result.view ≡ view }
-        ensures stands { (taken : Option (List ℕ)) →
-            Stands view result.reader result.picture taken taken None [] [] }
+        ensures corresponds { (taken : Option (List ℕ)) →
+            Corresponds view result.reader result.picture taken taken None [] [] }
     {
         TraceSheet {
             view,

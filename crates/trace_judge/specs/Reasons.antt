@@ -2,7 +2,7 @@
 use Rattle.std.specs.Prelude.{◌≡◌, ℕ, nat_lt, Bool, List, [], filter, length, cond, option_map, Option, None, Some, is_none, is_some}
 use Rattle.trace.specs.{TraceEntry, TracePast, TraceSetup, access_reading}
 use Rattle.lock_stages.specs.{AreSince, LockStage, ahead_since, inside_since, lock_passage}
-use Rattle.lock_stages.specs.runs.{first_of}
+use Rattle.lock_stages.specs.model.{first_of}
 use Rattle.trace_memory.specs.{allowed_values, if_few, number_of, opened, present, read_ended, register_of}
 use Rattle.trace_judge.specs.declared.reasons.TraceReasons.{TraceReasons}
 use Rattle.trace_judge.specs.declared.reasons.TraceRefused.{TraceRefused}

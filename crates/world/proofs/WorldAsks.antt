@@ -30,9 +30,9 @@ stage-beyond c p none taken events shows =
 pub ahead-there : (c : CoreState) (p : ℕ) (seat : Seat) (queued : Bool) → slice_get c.seats p ≡ Some seat → seat_at_door seat ≡ queued →
     InEachCorePast c (λ s past. elim queued as (λ _. List ℕ) [ true ↦ listed seat.before | false ↦ [] ] ≡ ahead s p past)
 ahead-there c p seat queued there h taken events shows =
-    let stands : is_at_door (stage p (past_of c.setup events)) ≡ queued = ap is_at_door (sym (stage-reported c taken events (event.Fail p) seat shows there)) ∙ h in
+    let at_door : is_at_door (stage p (past_of c.setup events)) ≡ queued = ap is_at_door (sym (stage-reported c taken events (event.Fail p) seat shows there)) ∙ h in
     let before = ap (λ (x : Seat). x.before) (seat-shown (with_history c taken) events p seat shows there) in
-    sym (ahead-listed c.setup shows.good events p ∙ (λ i. elim (stands i) as (λ _. List ℕ) [ true ↦ listed (sym before i) | false ↦ [] ]))
+    sym (ahead-listed c.setup shows.good events p ∙ (λ i. elim (at_door i) as (λ _. List ℕ) [ true ↦ listed (sym before i) | false ↦ [] ]))
 
 -- the processes ahead of one that does not exist
 pub ahead-beyond : (c : CoreState) (p : ℕ) → slice_get c.seats p ≡ None → InEachCorePast c (λ s past. [] ≡ ahead s p past)

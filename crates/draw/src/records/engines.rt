@@ -8,7 +8,7 @@ ghost use Rattle.picture.specs.declared.reads.PictureOptions.{PictureOptions as 
 ghost use Rattle.draw.specs.Writing.{IsWriteFault, failed_write};
 ghost use Rattle.judge.specs.record_file.{Said};
 ghost use Rattle.draw.specs.Judges.{DrewJudgedBy};
-ghost use Rattle.draw.specs.Sheets.{DrawsAllBands, DrawsAsked, DrawsBandsOf, DrewRecord, DrewJudged, IsDrawFault, Stands};
+ghost use Rattle.draw.specs.Sheets.{DrawsAllBands, DrawsAsked, DrawsBandsOf, DrewRecord, DrewJudged, IsDrawFault, Corresponds};
 
 use crate::records::held::{StoredBands, held_fault};
 use crate::records::judged_bands::judge_bands;
@@ -265,7 +265,7 @@ fn draw_lines<R: Source, W: Sink>(
     requires ahead { lines.old.ahead.bytes ≡ [] }
     requires ended { lines.old.ahead.ended ≡ false }
     requires taken { lines.old.taken ≡ 0 }
-    requires stands { (taken : Option (List ℕ)) → Stands sheet.old None [] taken taken }
+    requires corresponds { (taken : Option (List ℕ)) → Corresponds sheet.old None [] taken taken }
     requires reads { R.failures input.old < 2 ^ 64 - 1 }
     requires writes { W.failures output.old < 2 ^ 64 - 1 }
     ensures drawn { IfOk result

@@ -4,12 +4,12 @@ ghost use Rattle.model.specs.plain_store.{checked};
 ghost use Rattle.std.specs.Io.KnownBytes.{IsAtEnd};
 ghost use Rattle.scenario.specs.files.{failed_reading};
 ghost use Rattle.judge.specs.{IsOfRecord};
-ghost use Rattle.judge.specs.Trials.{Stands as ObserverStands};
+ghost use Rattle.judge.specs.Trials.{Corresponds as ObserverCorresponds};
 ghost use Rattle.draw.specs.Writing.{failed_write};
 ghost use Rattle.model.specs.{Entry as Noted};
 ghost use Rattle.judge.specs.record_file.{Progress};
 ghost use Rattle.draw.specs.Judgings.{HasRead, ReportsOfLines};
-ghost use Rattle.draw.specs.Sheets.{DrawsBandsOf, IsDrawFault, IsJudged, Stands};
+ghost use Rattle.draw.specs.Sheets.{DrawsBandsOf, IsDrawFault, IsJudged, Corresponds};
 
 use crate::records::sheet::{DrawnEntry, RecordPicture};
 use judge::source_lines::Lines;
@@ -56,7 +56,7 @@ fn judge_sheet<H: Judging, R: Source, W: Sink>(
     requires ahead { lines.old.ahead.bytes ≡ [] }
     requires ended { lines.old.ahead.ended ≡ false }
     requires taken { lines.old.taken ≡ 0 }
-    requires stands { (taken : Option (List ℕ)) → Stands sheet.old None [] taken taken }
+    requires corresponds { (taken : Option (List ℕ)) → Corresponds sheet.old None [] taken taken }
     requires reads { R.failures input.old < 2 ^ 64 - 1 }
     requires writes { W.failures output.old < 2 ^ 64 - 1 }
     ensures drawn { IfOk result
@@ -87,9 +87,9 @@ fn judge_lines<H: Judging, R: Source, W: Sink>(
     requires ahead { lines.old.ahead.bytes ≡ [] }
     requires ended { lines.old.ahead.ended ≡ false }
     requires taken { lines.old.taken ≡ 0 }
-    requires trial { ObserverStands H.HasObserved trial.old.reader trial.old.observer None
+    requires trial { ObserverCorresponds H.HasObserved trial.old.reader trial.old.observer None
         [] [] }
-    requires stands { (taken : Option (List ℕ)) → Stands sheet.old None [] taken taken }
+    requires corresponds { (taken : Option (List ℕ)) → Corresponds sheet.old None [] taken taken }
     requires reads { R.failures input.old < 2 ^ 64 - 1 }
     requires writes { W.failures output.old < 2 ^ 64 - 1 }
     ensures read { OnOk result
@@ -156,7 +156,7 @@ fn end_judged<H: Judging, W: Sink>(
 fn reporting_of<H: Judging>(alloc: Global, trial: Trial<H>) -> Result<Option<Reporting>, AllocError>
     ensures { IfOk result
         (λ reporting. (before : Option Progress) (entries : List Noted) (numbers : List ℕ) →
-        ObserverStands H.HasObserved trial.reader trial.observer before entries numbers →
+        ObserverCorresponds H.HasObserved trial.reader trial.observer before entries numbers →
         ReportsOfLines H.Reports reporting before entries numbers) }
 {
     match trial.into_observer()? {

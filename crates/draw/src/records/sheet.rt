@@ -4,7 +4,7 @@ ghost use Rattle.model.specs.plain_store.{checked};
 ghost use Rattle.model.specs.{Past};
 ghost use Rattle.judge.specs.record_file.{Progress, line_read};
 ghost use Rattle.draw.specs.Writing.{IsWriteFault, failed_write};
-ghost use Rattle.draw.specs.Sheets.{EndsAsked, GoesOn, LineStops, Stands, entries_of};
+ghost use Rattle.draw.specs.Sheets.{EndsAsked, GoesOn, LineStops, Corresponds, entries_of};
 
 use crate::records::around::PictureForm;
 use crate::records::stored::RecordEntries;
@@ -40,7 +40,7 @@ impl RecordPicture {
     pub fn new(alloc: Global, form: Form, options: PictureOptions) -> RecordPicture
         ensures form { result.form ≡ form }
         ensures options { result.options ≡ options }
-        ensures stands { (taken : Option (List ℕ)) → Stands result None [] taken taken }
+        ensures corresponds { (taken : Option (List ℕ)) → Corresponds result None [] taken taken }
     {
         RecordPicture {
             alloc,
@@ -67,7 +67,7 @@ impl RecordPicture {
         ensures options { self.new.options ≡ self.old.options }
         ensures drawn { OnOk result
             ((before : Option Progress) (past : Past) (first : Option (List ℕ)) →
-            Stands self.old before past first (W.taken output.old) →
+            Corresponds self.old before past first (W.taken output.old) →
             GoesOn (line_read line.now before) self.new past first (W.taken output.new)) }
         ensures fault { IfErr result
             (λ fault. LineStops fault number
@@ -96,7 +96,7 @@ impl RecordPicture {
         ensures options { self.new.options ≡ self.old.options }
         ensures drawn { OnOk result
             ((before : Option Progress) (past : Past) (first : Option (List ℕ)) →
-            Stands self.old before past first (W.taken output.old) →
+            Corresponds self.old before past first (W.taken output.old) →
             GoesOn (line_read line.now before) self.new past first (W.taken output.new)) }
         ensures fault { IfErr result
             (λ fault. LineStops fault number
@@ -136,7 +136,7 @@ impl RecordPicture {
         ensures observed { IfOk result
             (λ observed. observed ≡ true →
             (before : Option Progress) (past : Past) (first : Option (List ℕ)) →
-            Stands self.old before past first (W.taken output.old) →
+            Corresponds self.old before past first (W.taken output.old) →
             GoesOn (line_read line.now before) self.new past first (W.taken output.new)) }
         ensures same { IfOk result (λ observed. observed ≡ false → self.new ≡ self.old) }
         ensures unwritten { IfOk result (λ observed. observed ≡ false → output.new ≡ output.old) }
@@ -164,7 +164,7 @@ impl RecordPicture {
         ensures options { self.new.options ≡ self.old.options }
         ensures drawn { OnOk result
             ((before : Option Progress) (past : Past) (first : Option (List ℕ)) →
-            Stands self.old before past first (W.taken output.old) →
+            Corresponds self.old before past first (W.taken output.old) →
             GoesOn (line_read line.now before) self.new past first (W.taken output.new)) }
         ensures fault { IfErr result
             (λ fault. LineStops fault number
@@ -208,7 +208,7 @@ impl RecordPicture {
             (λ drawn. IfSome drawn
             (λ d. (p : Progress) (past : Past) (first : Option (List ℕ)) →
             self.old.reader ≡ Some p →
-            Stands self.old (Some p) past first (W.taken output.old) →
+            Corresponds self.old (Some p) past first (W.taken output.old) →
             (d.setup ≡ p.head.setup)
             × EndsAsked self.old.options self.old.form p.head.setup past reported.now d.shows
             d.opening.items d.height first (W.taken output.new))) }

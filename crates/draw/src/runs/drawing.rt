@@ -77,7 +77,7 @@ pub(crate) fn draw_bands<W: Sink, L: ProgressObserver>(
     )
 }
 
-/// Does the work of [`draw_bands`] with a course and a drawing that have just begun. It borrows them, because a value that
+/// Does the work of [`draw_bands`] with a scenario run and a drawing that have just begun. It borrows them, because a value that
 /// is dropped at each way out of a function takes long to prove.
 fn draw_lines<W: Sink, L: ProgressObserver>(
     scenario: &Scenario,

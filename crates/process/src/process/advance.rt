@@ -12,7 +12,7 @@ ghost use Rattle.process.specs.Working.{AreMarksOn, IsMoved, IsStepped, KeepsPla
 use super::Process;
 use crate::activity::Activity;
 use crate::call_part::CallPart;
-use crate::entering::{clear, enter, part_over};
+use crate::entering::{begin_part, clear, part_over};
 use crate::outcomes::StepOutcome;
 use model::{Access, Field};
 use plain_store::{Answer, Reply};
@@ -27,7 +27,7 @@ impl Process {
         ensures in_range { IsThere self.now.setup result }
         ensures register { IsOfRegister self.now.setup self.now.process self.now.doing result }
     {
-        self.cursor.next(self.work.given(flick, false))
+        self.cursor.next(self.work.value_for_next(flick, false))
     }
 
     /// Advances by that access, and returns its outcome. The end of a read returns `value`.
@@ -40,7 +40,7 @@ impl Process {
             (λ changes. changes ≡ changes_read self.old.doing) }
     {
         let fresh = self.cursor.is_fresh();
-        let how = self.cursor.next(self.work.given(flick, value)).how;
+        let how = self.cursor.next(self.work.value_for_next(flick, value)).how;
         self.cursor.advance(how);
         go_on(&mut self.called, &mut self.work, &mut self.cursor, fresh)
     }
@@ -95,7 +95,7 @@ fn run_on(
     if called.is_over() {
         *work = Activity::Rests;
     } else {
-        enter(called, cursor);
+        begin_part(called, cursor);
     }
     reported
 }

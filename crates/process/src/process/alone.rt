@@ -6,7 +6,7 @@ ghost use Rattle.process.specs.Places.{changes_read, withdrawn};
 
 use super::Process;
 use crate::activity::Activity;
-use crate::entering::{clear, enter};
+use crate::entering::{begin_part, clear};
 use model::{Field, TornBit};
 use plain_store::{Answer, Command, Reply};
 
@@ -86,7 +86,7 @@ impl Process {
     {
         self.called.start_inside(command, number);
         self.work = Activity::Runs;
-        enter(&self.called, &mut self.cursor);
+        begin_part(&self.called, &mut self.cursor);
     }
 
     /// Begins to clear its ticket, as a process does that gave up waiting.

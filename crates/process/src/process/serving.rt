@@ -13,7 +13,7 @@ use crate::activity::Activity;
 use crate::outcomes::StepOutcome;
 use choices::Flicks;
 use model::Access;
-use registers::{AccessMade, AccessesMade, BitMemory, given};
+use registers::{AccessMade, AccessesMade, BitMemory, value_returned};
 
 impl Process {
     /// Returns the number of its next accesses that are within a register access of its call. They have no mark, and none is
@@ -76,7 +76,7 @@ impl Process {
         ensures marks { marks_reported result.1 ≡ marks_on self.now flick (value_of result.0.how) }
     {
         let access = self.next_access(memory, flick);
-        let reported = self.copied().advance(flick, given(access.how));
+        let reported = self.copied().advance(flick, value_returned(access.how));
         (access, reported)
     }
 

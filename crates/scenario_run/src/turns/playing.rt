@@ -1,6 +1,6 @@
-//! Playing lines: the turns of each line are made, one after the other, and a listener observes what they report.
+//! Playing lines: the turns of each line are made, one after the other, and an observer observes what they report.
 ghost use Rattle.std.specs.Prelude.{◌≡◌, ◌+◌, ◌-◌, ◌*◌, ◌^◌, ◌<◌, ◌≤◌, ℕ, IfErr, IfOk, OnOk, length};
-ghost use Rattle.scenario_run.specs.Courses.{Follows};
+ghost use Rattle.scenario_run.specs.ScenarioRuns.{Follows};
 ghost use Rattle.scenario_run.specs.Observing.{Comes, InItsRun, LeavesRoom, Plays, PlaysLine, PlaysLines, StopsAmid, StopsLine, StopsLines, TakesRoom, room_wanted};
 ghost use Rattle.scenario_run.specs.Parts.{PlaysUntil, events_in, events_to};
 ghost use Rattle.scenario_run.specs.Runs.{Run};
@@ -16,12 +16,12 @@ use scenario::{Fault, Line, Scenario};
 
 impl ScenarioRun {
     /// Plays the lines of a scenario, one after the other, to the end or up to an event. Returns the line that made the
-    /// newest event, or `None` if no event was made. Before each line it reports to the onlooker the line's number in the file
-    /// and how many events the listener has counted, even if the line makes no further turn.
+    /// newest event, or `None` if no event was made. Before each line it reports to the progress observer the line's number in the file
+    /// and how many events the observer has counted, even if the line makes no further turn.
     ///
     /// # Errors
     ///
-    /// Returns [`Fault::Memory`] if a turn runs out of memory, and otherwise the listener's fault. The listener has then
+    /// Returns [`Fault::Memory`] if a turn runs out of memory, and otherwise the observer's fault. The observer has then
     /// observed a prefix of the lines.
     pub fn play_all<L: RunObserver, O: ProgressObserver>(
         &mut self,
@@ -69,7 +69,7 @@ impl ScenarioRun {
         let mut made = 0;
         let mut newest = None;
         for (index, line) in lines.iter().enumerate() {
-            progress_observer.reached(place.begin_line(observer.events()));
+            progress_observer.reached(place.begin_line(observer.event_count()));
             let events = self.play_part(line, until.events_after(made), observer)?;
             if events > 0 {
                 newest = Some(LineMade {
@@ -82,11 +82,11 @@ impl ScenarioRun {
         Ok(newest)
     }
 
-    /// Makes the turns of a line. The listener observes each turn before the next is made.
+    /// Makes the turns of a line. The observer observes each turn before the next is made.
     ///
     /// # Errors
     ///
-    /// Returns [`Fault::Memory`] if there is no memory for a turn, which is then not made, and otherwise the listener's fault.
+    /// Returns [`Fault::Memory`] if there is no memory for a turn, which is then not made, and otherwise the observer's fault.
     pub fn play<L: RunObserver>(&mut self, line: &Line, observer: &mut L) -> Result<(), Fault>
         requires { L.HasRoom observer.old (2 ^ 32) }
         ensures observed { OnOk result
@@ -134,13 +134,13 @@ impl ScenarioRun {
             let Some(reported) = reported else {
                 return Ok(made);
             };
-            made += reported.events();
+            made += reported.event_count();
             observer.observe(&reported)?;
         }
         Ok(made)
     }
 
-    /// Does nothing. Its contract states that the course shows a run.
+    /// Does nothing. Its contract states that the scenario run shows a run.
     #[inline(always)]
     fn shows_a_run(&self)
         ensures { (run : Run) × Follows self.now run }
@@ -148,7 +148,7 @@ impl ScenarioRun {
         self.world.shown();
     }
 
-    /// Makes the turns of a line up to one that is reported, while more than `floor` turns are left. The listener has not yet
+    /// Makes the turns of a line up to one that is reported, while more than `floor` turns are left. The observer has not yet
     /// observed the reported turn. Returns `None` at the floor, or once the line has ended. `before` receives how many turns
     /// were left before the turn that is reported or ends the line, or the floor.
     #[inline]

@@ -1,11 +1,11 @@
-//! Steps of a run: they are passed to the listener in groups, observed one by one, or reported.
+//! Steps of a run: they are passed to the observer in groups, observed one by one, or reported.
 ghost use Rattle.std.specs.Prelude.{◌≡◌, ◌+◌, ◌<◌, ◌≤◌, IfErr, IfOk, IfSome, None, Ok, OnOk, false, is_some, true};
 ghost use Rattle.model.specs.declared.Event.TheVariants.{Step};
 ghost use Rattle.world.specs.choices.{after_flick, flick_of};
 ghost use Rattle.world.specs.{KeepOthers, remaining_in};
 ghost use Rattle.world.specs.process.declared.outcomes.StepOutcome.TheVariants.{Nothing};
 ghost use Rattle.world.specs.process.registers.declared.access_made.AccessMade.{AccessMade as MadeSeen};
-ghost use Rattle.scenario_run.specs.Courses.{scenario_run};
+ghost use Rattle.scenario_run.specs.ScenarioRuns.{scenario_run};
 ghost use Rattle.scenario_run.specs.Observing.{ObservesStep, LeavesRoom, MakesStep, PassesAlone, StopsBy};
 ghost use Rattle.scenario_run.specs.Reporting.{reported_step};
 
@@ -17,7 +17,7 @@ use scenario::Fault;
 use world::{AccessMade, EventOutcome, Flicks, StepOutcome, World};
 
 /// Makes the Steps of a process that are within a register access, so that none has a mark, while more than `floor` turns
-/// are left. They are passed to the listener as one group, unless it observes each Step.
+/// are left. They are passed to the observer as one group, unless it observes each Step.
 #[inline]
 pub(super) fn pass_by<L: RunObserver>(
     world: &mut World,
@@ -55,7 +55,7 @@ pub(super) fn pass_by<L: RunObserver>(
 }
 
 /// Makes a turn's Step, by the next flick. Returns whether it is made within a register access, where it has no mark, and the
-/// listener observes it without a fault. Otherwise `outcome` receives what the Step reports, if anything, or the fault. At
+/// observer observes it without a fault. Otherwise `outcome` receives what the Step reports, if anything, or the fault. At
 /// least `known - 1` of the process's next Steps are known to be within a register access. (An outcome by value would be
 /// cleared at each Step.)
 #[inline(always)]
@@ -134,7 +134,7 @@ pub(super) fn is_quiet(world: &World, known: &mut u32, process: u8) -> bool
     true
 }
 
-/// Makes a Step by this flick, wherever its process is. The listener observes it if it has no mark; otherwise what it reports
+/// Makes a Step by this flick, wherever its process is. The observer observes it if it has no mark; otherwise what it reports
 /// is returned.
 #[inline(never)]
 pub(super) fn any_step<L: RunObserver>(

@@ -79,7 +79,7 @@ loop-others-preserved c =
     let shorter : length xs ≡ length rest + 1 = ap length whole ∙ (let z : suc (length (drop 1 xs)) ≡ length (drop 1 xs) + 1 = omega arith in z) ∙ ap (λ zs. length zs + 1) (sym cut) in
     let more : lists_of after.items ≡ lists_of before.items ++ list.items ∷ [] = ap lists_of c.push_reserved.ensures.items ∙ map-append (λ (v : Vec Placed). v.items) before.items (list ∷ []) in
     let here : AreInRecord key (length (lists_of before.items)) list.items =
-    subst (λ (p : ℕ). AreInRecord key p list.items) (number ∙ (let z : n ≡ length before.items = omega arith in z) ∙ sym (length-map before.items (λ (v : Vec Placed). v.items))) (subst (λ (s : Setup). AreInRecord s port.view.own.process list.items) at.1 seat.stands) in
+    subst (λ (p : ℕ). AreInRecord key p list.items) (number ∙ (let z : n ≡ length before.items = omega arith in z) ∙ sym (length-map before.items (λ (v : Vec Placed). v.items))) (subst (λ (s : Setup). AreInRecord s port.view.own.process list.items) at.1 seat.fits) in
     record {
       table = j.0 ∙ i.table;
       id = j.1 ∙ i.id;
@@ -96,7 +96,7 @@ loop-others-preserved c =
       quiet = λ k x is. rest_of (λ _ (x : PortState). IsStill x.setup x.view.own) xs i.quiet k x (ap (λ zs. slice_get zs k) (sym cut) ∙ is);
       all = let all = i.all in omega (arith, all, one, shorter);
       room = let room = i.room in let same = c.push_reserved.ensures.capacity in omega (arith, room, one, shorter, same);
-      stand = subst (λ ls. (p : ℕ) (calls : List Placed) → slice_get ls p ≡ Some calls → AreInRecord key p calls) (sym more) (all_push (λ p calls. AreInRecord key p calls) (lists_of before.items) list.items i.stand here);
+      fit = subst (λ ls. (p : ℕ) (calls : List Placed) → slice_get ls p ≡ Some calls → AreInRecord key p calls) (sym more) (all_push (λ p calls. AreInRecord key p calls) (lists_of before.items) list.items i.fit here);
       lists =
           ap (λ ls. ls ++ done_calls rest) more
           ∙ append_assoc (lists_of before.items) (list.items ∷ []) (done_calls rest)

@@ -15,7 +15,7 @@ invariant-loop-others l = record {
   quiet : AreQuiet l.others.items;
   all : vec_len l.answers + vec_len l.others ≡ vec_len l.fn.others + 1;
   room : vec_len l.answers + vec_len l.others ≤ vec_capacity l.answers;
-  stand : EachIsInRecord l.words.key (lists_of l.answers.items);
+  fit : EachIsInRecord l.words.key (lists_of l.answers.items);
   lists : lists_of l.answers.items ++ done_calls l.others.items ≡ lists_of l.fn.answers.items ++ done_calls l.fn.others.items;
 }
 

@@ -56,5 +56,5 @@ returns-in_default c = let s = c.args.words.now.key in let n = c.next-access.res
       step = c.write.ensures.step;
       leads = c.write.ensures.leads;
       lists = c.write.ensures.lists;
-      stands = c.write.ensures.stands;
+      fits = c.write.ensures.fits;
     }

@@ -1,4 +1,4 @@
-//! A listener that draws the turns of a run.
+//! An observer that draws the turns of a run.
 ghost use Rattle.std.specs.Prelude.{◌≡◌, ◌+◌, ◌-◌, ◌^◌, ◌<◌, ℕ, Err, IfErr, OnOk, refl};
 ghost use Rattle.std.proofs.Common.{add-zero, ap, sym, ◌∙◌};
 ghost use Rattle.draw.specs.Writing.{IsWriteFault, failed_write};
@@ -50,7 +50,7 @@ impl<'a, W: Sink> RunObserver for RunDrawer<'a, W> {
         self.run.drawing.observes()
     }
 
-    fn events(&self) -> u64 {
+    fn event_count(&self) -> u64 {
         self.run.drawing.entries
     }
 

@@ -19,7 +19,7 @@ lines-preserved g c =
     let old = c.lines.trial in
     let new = c.line_within.new.self in
     let takes = subst (λ (b : Bool). GoesToNext (Ok b) c.lines.lines c.next.new.self mid rest) c.if-branch.true c.in_ok-next.ensures.next in
-    let numbered = subst (λ (n : ℕ). GoesOn observed n c.line.result.now u.before new.reader new.observer u.entries u.numbers) c.taken.ensures.taken (c.in_default.ensures u.before u.entries u.numbers u.view_of) in
+    let numbered = subst (λ (n : ℕ). GoesOn observed n c.line.result.now u.before new.reader new.observer u.entries u.numbers) c.taken.ensures.taken (c.in_default.ensures u.before u.entries u.numbers u.corresponds) in
     let on = subst (λ (line : List ℕ). GoesOn observed c.next.new.self.taken line u.before new.reader new.observer u.entries u.numbers) c.line.ensures numbered in
     record {
       onwards = onwards_on observed all mid rest c.lines.lines c.next.new.self old.reader new.reader old.observer new.observer u takes on;
@@ -34,7 +34,7 @@ returns-in-Err-clause-fault g c =
     let mid = coming c.lines.lines.ahead (g.R.Source.to_come c.lines.input) in
     let rest = coming c.next.new.self.ahead (g.R.Source.to_come c.next.new.input) in
     let takes = subst (λ (b : Bool). GoesToNext (Ok b) c.lines.lines c.next.new.self mid rest) c.if-branch.true c.in_ok-next.ensures.next in
-    let fault = subst (λ (line : List ℕ). UnlessMemory c.in-Err.kind (line_read line u.before ≡ Err c.in-Err.kind)) c.line.ensures (c.in-Err.ensures u.before u.entries u.numbers u.view_of) in
+    let fault = subst (λ (line : List ℕ). UnlessMemory c.in-Err.kind (line_read line u.before ≡ Err c.in-Err.kind)) c.line.ensures (c.in-Err.ensures u.before u.entries u.numbers u.corresponds) in
     subst (λ (f : Fault). IsInputFault f all) (sym c.here.ensures) (onwards_fault (HasObservedFirsts c.args.limit g.H.EntryObserver.HasObserved) all mid rest c.lines.lines c.next.new.self c.lines.trial.reader c.lines.trial.observer c.in-Err.kind u takes fault)
 
 pub returns-clause-observed : goal.returns-clause-observed
@@ -45,7 +45,7 @@ returns-clause-observed g c =
     let mid = coming c.lines.lines.ahead (g.R.Source.to_come c.lines.input) in
     let rest = coming c.next.new.self.ahead (g.R.Source.to_come c.next.new.input) in
     let ends = subst (λ (b : Bool). GoesToNext (Ok b) c.lines.lines c.next.new.self mid rest) c.if-branch.false c.in_ok-next.ensures.next in
-    let is = subst (λ (h : Option g.row.H.Denot). IsObserved observed h u.before u.entries u.numbers) c.in-Some.is (c.in_ok-into_observer.ensures c.args.limit u.before u.entries u.numbers u.view_of) in
+    let is = subst (λ (h : Option g.row.H.Denot). IsObserved observed h u.before u.entries u.numbers) c.in-Some.is (c.in_ok-into_observer.ensures c.args.limit u.before u.entries u.numbers u.corresponds) in
     onwards_all observed (observed c.in-Some.observer) all mid c.lines.lines.taken c.lines.trial.reader c.lines.trial.observer u is.0 is.1 is.2 ends.before
 
 pub returns-in_err-next-clause-fault : goal.returns-in_err-next-clause-fault
@@ -84,6 +84,6 @@ returns-in-None-clause-fault g c =
     let mid = coming c.lines.lines.ahead (g.R.Source.to_come c.lines.input) in
     let rest = coming c.next.new.self.ahead (g.R.Source.to_come c.next.new.input) in
     let ends = subst (λ (b : Bool). GoesToNext (Ok b) c.lines.lines c.next.new.self mid rest) c.if-branch.false c.in_ok-next.ensures.next in
-    let none = subst (λ (h : Option g.row.H.Denot). IsObserved observed h u.before u.entries u.numbers) c.in-None.is (c.in_ok-into_observer.ensures c.args.limit u.before u.entries u.numbers u.view_of) in
+    let none = subst (λ (h : Option g.row.H.Denot). IsObserved observed h u.before u.entries u.numbers) c.in-None.is (c.in_ok-into_observer.ensures c.args.limit u.before u.entries u.numbers u.corresponds) in
     subst (λ (f : Fault). IsInputFault f all) (sym c.behind.ensures)
     (subst (λ (n : ℕ). IsInputFault (fault.Line (record { line = n + 1; kind = NotFirst })) all) (sym ends.taken) (onwards_none observed all mid c.lines.lines.taken c.lines.trial.reader c.lines.trial.observer u none ends.before))

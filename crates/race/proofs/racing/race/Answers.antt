@@ -29,4 +29,4 @@ returns-clause-raced g c =
     let all = plans_all c.args.setup.now board c.args.plans.now c.in_ok-board.ensures.setup c.requires.all in
     let closing = c.in-Ok.closing in
     subst (λ (s : Setup). IsRaced s plans (lists_of closing.answers.items) closing.image) c.in_ok-board.ensures.setup
-    (raced board plans ports (lists_of closing.answers.items) closing.image c.in_ok-ports.ensures.made all c.in-Ok.ensures.answers c.in-Ok.ensures.stand c.in-Ok.ensures.leaves)
+    (raced board plans ports (lists_of closing.answers.items) closing.image c.in_ok-ports.ensures.made all c.in-Ok.ensures.answers c.in-Ok.ensures.fit c.in-Ok.ensures.leaves)

@@ -1,7 +1,7 @@
 use Rattle.std.proofs.Common.{ℕ, List, Option, ◌++◌, sym, ap, ◌∙◌}
 use Rattle.run_state.specs.{line_if}
 use Rattle.run_state.specs.Lines.{span_words}
-use Rattle.run_state.proofs.Stand.{ok_then}
+use Rattle.run_state.proofs.ObservedWorlds.{ok_then}
 use Rattle.run_state.proofs.called.push_span.Goals as goal
 
 pub returns : goal.returns

@@ -6,7 +6,7 @@ use Rattle.std.specs.List.{range_with_len}
 use Rattle.run_state.specs.{are_all, line_of_first, text_at, texts_in}
 use Rattle.run_state.proofs.CopyTexts.{text_here}
 use Rattle.run_state.proofs.Ranges.{text_more}
-use Rattle.run_state.proofs.Stand.{ok_then}
+use Rattle.run_state.proofs.ObservedWorlds.{ok_then}
 use Rattle.run_state.proofs.register_lines.push_copies.Goals as goal
 
 pub loop-reader-preserved : goal.loop-reader-preserved

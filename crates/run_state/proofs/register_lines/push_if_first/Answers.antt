@@ -3,7 +3,7 @@ use Rattle.std.specs.Prelude.{codes}
 use Rattle.std.specs.List.{range_with_len}
 use Rattle.run_state.specs.{copies_line, is_among, reader_if, text_at, texts_in}
 use Rattle.run_state.proofs.CopyTexts.{first_texts, text_here}
-use Rattle.run_state.proofs.Stand.{ok_then}
+use Rattle.run_state.proofs.ObservedWorlds.{ok_then}
 use Rattle.run_state.proofs.register_lines.push_if_first.Goals as goal
 
 pub returns-then-is_among : goal.returns-then-is_among

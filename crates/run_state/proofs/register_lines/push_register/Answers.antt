@@ -3,7 +3,7 @@ use Rattle.std.specs.List.{list_any}
 use Rattle.model.specs.{processes, width}
 use Rattle.run_state.specs.{are_other, bits_read, bits_text, copies_lines, copy_text, is_copy_changed, register_words, texts_in}
 use Rattle.run_state.proofs.CopyBits.{changed-held, texts-held}
-use Rattle.run_state.proofs.Stand.{ok_then}
+use Rattle.run_state.proofs.ObservedWorlds.{ok_then}
 use Rattle.run_state.proofs.register_lines.push_register.Goals as goal
 
 pub returns-then-not-are_changed : goal.returns-then-not-are_changed

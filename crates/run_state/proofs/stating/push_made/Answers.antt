@@ -6,7 +6,7 @@ use Rattle.calls.specs.scenario.{Line}
 use Rattle.calls.specs.scenario_run.{IsLineMade, MadeNewest, events_in, run_at_start}
 use Rattle.run_state.specs.{made_line, making_line}
 use Rattle.run_state.proofs.Makers.{line_there, line_within, newest_written, none_made}
-use Rattle.run_state.proofs.Stand.{ok_then}
+use Rattle.run_state.proofs.ObservedWorlds.{ok_then}
 use Rattle.run_state.proofs.stating.push_made.Goals as goal
 
 -- the text that is written, where no allocation failed

@@ -1,5 +1,5 @@
 use Rattle.std.proofs.Common.{IfOk, IfSome, subst, sym, [], None}
-use Rattle.trace_draw.specs.{DrawnTrace, DrawsAllBands, Stands, TraceView}
+use Rattle.trace_draw.specs.{DrawnTrace, DrawsAllBands, Corresponds, TraceView}
 use Rattle.trace_draw.proofs.engines.draw_bands.Goals as goal
 
 pub returns : goal.returns
@@ -13,6 +13,6 @@ returns g c =
       write_failures = drew.write_failures;
     }
 
-pub draw_lines-requires-clause-stands : goal.draw_lines-requires-clause-stands
-draw_lines-requires-clause-stands g c = λ taken.
-    subst (λ (v : TraceView). Stands v c.new-sheet.result.reader c.new-sheet.result.picture taken taken None [] []) (sym c.new-sheet.ensures.view) (c.new-sheet.ensures.stands taken)
+pub draw_lines-requires-clause-corresponds : goal.draw_lines-requires-clause-corresponds
+draw_lines-requires-clause-corresponds g c = λ taken.
+    subst (λ (v : TraceView). Corresponds v c.new-sheet.result.reader c.new-sheet.result.picture taken taken None [] []) (sym c.new-sheet.ensures.view) (c.new-sheet.ensures.corresponds taken)

@@ -32,7 +32,7 @@ lines-preserved g c =
 pub lines-init : goal.lines-init
 lines-init g c = record {
   drawn = drawn_start c.args.sheet.now.view (g.R.Source.to_come c.args.input.now) c.args.lines.now.ahead c.args.lines.now.taken c.args.sheet.now.reader c.args.sheet.now.picture (g.W.Sink.taken c.args.output.now)
-      c.requires.ahead c.requires.ended c.requires.taken (c.requires.stands (g.W.Sink.taken c.args.output.now));
+      c.requires.ahead c.requires.ended c.requires.taken (c.requires.corresponds (g.W.Sink.taken c.args.output.now));
   holds = none_reported c.args.lines.now.ahead (g.R.Source.to_come c.args.input.now) c.requires.ended;
   view = refl;
   whole = refl;

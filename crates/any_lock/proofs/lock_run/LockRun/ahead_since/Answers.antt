@@ -1,7 +1,7 @@
 use Rattle.std.proofs.Common.{List, sym, subst, ap, ◌∙◌}
 use Rattle.any_lock.specs.{LockRunState, Knows, ProcessView, passage_in}
 use Rattle.lock_stages.specs.{HavePassages, ahead_since}
-use Rattle.any_lock.proofs.StandsThere.{passages_known}
+use Rattle.any_lock.proofs.LookedUpViews.{passages_known}
 use Rattle.any_lock.proofs.lock_run.LockRun.ahead_since.Goals as goal
 
 pub returns : goal.returns

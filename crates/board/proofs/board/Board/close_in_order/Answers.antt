@@ -43,7 +43,7 @@ shut-requires-clause-calls c =
     let some = c.requires.nonempty in
     let each = c.requires.ports.each 0 c.remove.result (item_at c.args.ports.items 0 c.remove.result some c.remove.ensures.value) in
     let calls = c.into_parts-first.result.1.items in
-    subst (λ (p : ℕ). AreInRecord c.args.self.setup p calls) each.1 (subst (λ (s : Setup). AreInRecord s c.remove.result.view.own.process calls) each.0.1 c.into_parts-first.ensures.stands)
+    subst (λ (p : ℕ). AreInRecord c.args.self.setup p calls) each.1 (subst (λ (s : Setup). AreInRecord s c.remove.result.view.own.process calls) each.0.1 c.into_parts-first.ensures.fits)
 
 pub returns-clause-leaves : goal.returns-clause-leaves
 returns-clause-leaves c =

@@ -32,5 +32,5 @@ returns-clause-leaves c =
     subst (λ s. Leaves s first.own.calls first.seen c.image_shown-image.result) same
     (subst (λ (o : OwnView). Leaves s o.calls first.seen c.image_shown-image.result) j.own (subst (λ seen. Leaves s v.own.calls seen c.image_shown-image.result) j.seen left))
 
-pub returns-clause-stand : goal.returns-clause-stand
-returns-clause-stand c = subst (λ (s : Setup). EachIsInRecord s (lists_of c.join_all.new.answers.items)) (c.self.invariant.keyed ∙ ap (λ (b : BoardState). b.setup) c.self.view_is) c.join_all.ensures.stand
+pub returns-clause-fit : goal.returns-clause-fit
+returns-clause-fit c = subst (λ (s : Setup). EachIsInRecord s (lists_of c.join_all.new.answers.items)) (c.self.invariant.keyed ∙ ap (λ (b : BoardState). b.setup) c.self.view_is) c.join_all.ensures.fit

@@ -9,7 +9,7 @@ use Rattle.board.specs.{KnowsPlace, PortState, AreInSeen, ViewState, answer_to, 
 use Rattle.board.specs.declared.pending.Pending.{Pending}
 use Rattle.board.proofs.Listings.{place_called}
 use Rattle.board.proofs.Pendings.{accepted, happens, joins_call, refused}
-use Rattle.board.proofs.SeenStands.{stands_called}
+use Rattle.board.proofs.SeenCallsFit.{fits_called}
 use Rattle.board.proofs.port.Port.begin.Goals as goal
 
 where_ok : {A E : Type 0} (P : Type 0) (r : Result A E) → OnOk r P → false ≡ is_err r → P
@@ -30,7 +30,7 @@ pub invariant_of-self : goal.invariant_of-self
 invariant_of-self c =
     let same = where_err (c.begin.new.self ≡ c.self.inside.calls) c.begin.result c.begin.ensures.unchanged c.if-is_err.ensures.value in
     let inv = c.self.invariant in
-    record { tied = inv.tied; calls = same ∙ inv.calls; place = inv.place; stands = inv.stands; none = inv.none }
+    record { tied = inv.tied; calls = same ∙ inv.calls; place = inv.place; fits = inv.fits; none = inv.none }
 
 pub returns-then-is_err : goal.returns-then-is_err
 returns-then-is_err c =
@@ -56,7 +56,7 @@ invariant_of-self-2 c =
       tied = joins.0;
       calls = begun ∙ ap (λ (k : Calls). calls_after 0 k (Called command)) c.self.invariant.calls ∙ ap (λ (w : ViewState). w.own.calls) (sym then);
       place = subst (KnowsPlace f.stamp) (sym then) (place_called s b b.own.process command f.stamp);
-      stands = subst (λ (q : Setup). AreInSeen q (with_pending c.call.new.self.setup pending v)) (sym (ap (λ (q : ProcessState). q.setup) c.call.ensures)) (subst (AreInSeen s) (sym then) (stands_called s b b.own.process command c.self.invariant.stands));
+      fits = subst (λ (q : Setup). AreInSeen q (with_pending c.call.new.self.setup pending v)) (sym (ap (λ (q : ProcessState). q.setup) c.call.ensures)) (subst (AreInSeen s) (sym then) (fits_called s b b.own.process command c.self.invariant.fits));
       none = c.self.invariant.none;
     }
 

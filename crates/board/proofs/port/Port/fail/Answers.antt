@@ -24,7 +24,7 @@ invariant_of-self c =
       tied = joins.0;
       calls = c.self.invariant.calls ∙ ap (λ (w : ViewState). w.own.calls) (sym then);
       place = subst (KnowsPlace c.changes_pending-self-inside.result) (sym then) (place_failed s b b.own.process f.stamp c.changes_pending-self-inside.result c.self.invariant.place stamp);
-      stands = subst (λ (q : Setup). AreInSeen q (with_pending c.cut.new.self.setup pending v)) (sym (ap (λ (q : ProcessState). q.setup) cut)) (subst (AreInSeen s) (sym then) c.self.invariant.stands);
+      fits = subst (λ (q : Setup). AreInSeen q (with_pending c.cut.new.self.setup pending v)) (sym (ap (λ (q : ProcessState). q.setup) cut)) (subst (AreInSeen s) (sym then) c.self.invariant.fits);
       none = c.self.invariant.none;
     }
 

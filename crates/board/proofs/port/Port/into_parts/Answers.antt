@@ -1,7 +1,7 @@
 use Rattle.std.proofs.Common.{sym, ap, ◌∙◌, subst}
 use Rattle.board.specs.Calls.{Calls}
 use Rattle.board.specs.{IsStill, PortState, AreInRecord, ViewState, events_of, with_pending}
-use Rattle.board.proofs.SeenStands.{in_record}
+use Rattle.board.proofs.SeenCallsFit.{in_record}
 use Rattle.board.proofs.Happenings.{same_process_all}
 use Rattle.board.proofs.StillSeats.{still_seat}
 use Rattle.board.proofs.port.Port.into_parts.Goals as goal
@@ -20,10 +20,10 @@ returns-clause-seat c = let f = c.self.inside in let s = f.process.setup in let 
 pub returns-clause-calls : goal.returns-clause-calls
 returns-clause-calls c = c.into_done.ensures ∙ ap (λ (k : Calls). k.done) c.self.invariant.calls ∙ ap (λ (p : PortState). p.view.own.calls.done) c.self.view_is
 
-pub returns-clause-stands : goal.returns-clause-stands
-returns-clause-stands c =
+pub returns-clause-fits : goal.returns-clause-fits
+returns-clause-fits c =
     let f = c.self.inside in
     let s = f.process.setup in
     let b : ViewState = with_pending s f.pending f.seat.me.0 in
     subst (λ (p : PortState). AreInRecord p.setup p.view.own.process c.into_done.result.items) c.self.view_is
-    (subst (AreInRecord s b.own.process) (sym (c.into_done.ensures ∙ ap (λ (k : Calls). k.done) c.self.invariant.calls)) (in_record s b c.self.invariant.stands))
+    (subst (AreInRecord s b.own.process) (sym (c.into_done.ensures ∙ ap (λ (k : Calls). k.done) c.self.invariant.calls)) (in_record s b c.self.invariant.fits))

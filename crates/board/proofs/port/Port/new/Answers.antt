@@ -1,7 +1,7 @@
 use Rattle.std.proofs.Common.{◌≡◌, ap, sym, subst, ◌∙◌}
 use Rattle.board.proofs.Listings.{place_new}
 use Rattle.board.proofs.Pendings.{new_tied}
-use Rattle.board.proofs.SeenStands.{stands_new}
+use Rattle.board.proofs.SeenCallsFit.{fits_new}
 use Rattle.board.specs.{IsTied, KnowsPlace, AreInSeen, ViewState, new_view, with_pending}
 use Rattle.board.specs.declared.pending.Pending.{Pending}
 use Rattle.std.specs.Prelude.{None}
@@ -18,6 +18,6 @@ invariant_of-result c =
       tied = subst (λ (q : Pending). IsTied s q c.args.process Rattle.std.proofs.Common.false c.args.seat.me.0) (sym c.new.ensures) (new_tied c.args.process c.args.seat.me.0 made c.requires.process is);
       calls = c.new-2.ensures ∙ ap (λ (v : ViewState). v.own.calls) (sym then);
       place = subst (KnowsPlace None) (sym then) (place_new p made None);
-      stands = subst (AreInSeen s) (sym then) (stands_new s c.requires.pairs p made);
+      fits = subst (AreInSeen s) (sym then) (fits_new s c.requires.pairs p made);
       none = ap (λ m. m.1) c.requires.seat.1;
     }

@@ -30,7 +30,7 @@ invariant_of-self c =
       tied = subst (λ (s : Setup). IsTied s c.clear.new.self process c.word_step-reported.new.value v) (sym setup) (subst (λ (p : Pending). IsTied key p process c.word_step-reported.new.value v) (sym c.clear.ensures) step.tied);
       calls = c.report.ensures lists.place lists.is ∙ ap (λ (k : Calls). fold (calls_after lists.place) k (marks_reported reported)) calls ∙ sym lists.calls ∙ ap (λ (w : ViewState). w.own.calls) (sym then);
       place = subst (KnowsPlace f.stamp) (sym then) lists.known;
-      stands = subst (λ (s : Setup). AreInSeen s (with_pending process.setup c.clear.new.self v)) (sym setup) (subst (AreInSeen key) (sym then) step.stands);
+      fits = subst (λ (s : Setup). AreInSeen s (with_pending process.setup c.clear.new.self v)) (sym setup) (subst (AreInSeen key) (sym then) step.fits);
       none = step.same.2 ∙ c.self.invariant.none;
     }
 

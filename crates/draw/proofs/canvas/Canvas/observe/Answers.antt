@@ -1,7 +1,7 @@
 use Rattle.std.proofs.Common.{◌∷◌, ◌++◌, sym, subst}
 use Rattle.draw.specs.{ObservesAll, overlapped_by}
 use Rattle.std.proofs.lemmas.Result.{on_ok_weaker}
-use Rattle.draw.proofs.Overhearing.{observes_all_nothing, observes_all_on}
+use Rattle.draw.proofs.ObservedReads.{observes_all_nothing, observes_all_on}
 use Rattle.draw.proofs.canvas.Canvas.observe.Goals as goal
 
 pub returns-in-Some-clause-observes : goal.returns-in-Some-clause-observes

@@ -4,7 +4,7 @@ use Rattle.picture.specs.picture_layout.{OverlappedRead}
 use Rattle.judge.specs.safe_monitor.{ends_overlapped}
 use Rattle.draw.specs.{BegunRead, OverlapsObserved, first_three, overlapped_with}
 use Rattle.std.proofs.lemmas.Result.{on_ok_weaker}
-use Rattle.draw.proofs.Overhearing.{IsQuiet, ends_no_read, still_begun, still_ended, reported_ended}
+use Rattle.draw.proofs.ObservedReads.{IsQuiet, ends_no_read, still_begun, still_ended, reported_ended}
 use Rattle.draw.proofs.overlaps.OverlapsObserved.keep.Goals as goal
 use Rattle.model.specs.safe_bit.{is_begin_of_read}
 

@@ -1,7 +1,7 @@
 use Rattle.std.proofs.Common.{◌≡◌, Option, Some, IfSome, subst, ◌∙◌}
 use Rattle.model.specs.{Access}
 use Rattle.draw.specs.{ReportsOver}
-use Rattle.draw.proofs.Overhearing.{observes_none, observes_on}
+use Rattle.draw.proofs.ObservedReads.{observes_none, observes_on}
 use Rattle.draw.proofs.Written.{ok_then_all}
 use Rattle.draw.proofs.overlaps.OverlapsObserved.observe.Goals as goal
 

@@ -2,7 +2,7 @@ use Rattle.std.proofs.Common.{◌∷◌, false, Option, Some, subst, sym, ◌∙
 use Rattle.model.specs.{Access}
 use Rattle.judge.specs.safe_monitor.{MonitorState}
 use Rattle.draw.specs.{ReportsEnd, Monitors}
-use Rattle.draw.proofs.Overhearing.{monitors_nothing, monitors_on}
+use Rattle.draw.proofs.ObservedReads.{monitors_nothing, monitors_on}
 use Rattle.draw.proofs.read_monitor.ReadMonitor.observe.Goals as goal
 
 pub returns-in_default : goal.returns-in_default

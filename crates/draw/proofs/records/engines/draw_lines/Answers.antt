@@ -8,7 +8,7 @@ use Rattle.picture.specs.declared.reads.PictureOptions.{PictureOptions}
 use Rattle.model.specs.{Past}
 use Rattle.judge.specs.record_file.{Progress, line_read}
 use Rattle.draw.specs.{failed_write}
-use Rattle.draw.specs.{DrawnEntry, DrawsAllBands, EndsAsked, IsDrawFault, Stands}
+use Rattle.draw.specs.{DrawnEntry, DrawsAllBands, EndsAsked, IsDrawFault, Corresponds}
 use Rattle.judge.proofs.Ends.{if_err, none_reported}
 use Rattle.draw.proofs.RecordEnds.{drawing_read, next_wrote, no_value, onwards_drawn, onwards_fault, onwards_few, onwards_none, onwards_on, onwards_start, onwards_stop, reading_same, read_some}
 use Rattle.draw.proofs.Written.{failed_same}
@@ -31,7 +31,7 @@ lines-preserved g c =
 pub lines-init : goal.lines-init
 lines-init g c =
     record {
-      onwards = onwards_start (g.R.Source.to_come c.args.input.now) c.args.lines.now.ahead c.args.lines.now.taken c.args.sheet.now (g.W.Sink.taken c.args.output.now) c.requires.ahead c.requires.ended c.requires.taken (c.requires.stands (g.W.Sink.taken c.args.output.now));
+      onwards = onwards_start (g.R.Source.to_come c.args.input.now) c.args.lines.now.ahead c.args.lines.now.taken c.args.sheet.now (g.W.Sink.taken c.args.output.now) c.requires.ahead c.requires.ended c.requires.taken (c.requires.corresponds (g.W.Sink.taken c.args.output.now));
       holds = none_reported c.args.lines.now.ahead (g.R.Source.to_come c.args.input.now) c.requires.ended;
       form = refl;
       options = refl;
@@ -109,7 +109,7 @@ returns-in-Some g c =
     record {
       drawn = subst (λ (m : PictureOptions). drawn m c.args.sheet.now.form) c.lines.invariant.options (subst (λ (f : Form). drawn t.options f) c.lines.invariant.form
           (onwards_drawn all mid c.lines.lines.taken t first now then c.lines.invariant.onwards read.0 d read.1 ends.before
-          (subst (λ (o : Option DrawnEntry). IfSome o (λ d. (p : Progress) (past : Past) (first : Option (List ℕ)) → t.reader ≡ Some p → Stands t (Some p) past first now → (d.setup ≡ p.head.setup) × EndsAsked t.options t.form p.head.setup past [] d.shows d.opening.items d.height first then)) c.in-Some.is ended.drawn)));
+          (subst (λ (o : Option DrawnEntry). IfSome o (λ d. (p : Progress) (past : Past) (first : Option (List ℕ)) → t.reader ≡ Some p → Corresponds t (Some p) past first now → (d.setup ≡ p.head.setup) × EndsAsked t.options t.form p.head.setup past [] d.shows d.opening.items d.height first then)) c.in-Some.is ended.drawn)));
       good = subst (λ (o : Option DrawnEntry). IfSome o (λ d. checked d.setup ≡ Ok tt)) c.in-Some.is ended.good;
       end = c.in_ok-next.ensures.holds c.lines.invariant.holds (c.in_ok-next.ensures.ended c.if-branch.false);
       fault = tt;

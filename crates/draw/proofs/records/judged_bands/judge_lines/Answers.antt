@@ -12,7 +12,7 @@ use Rattle.draw.proofs.records.judged_bands.judge_lines.Goals as goal
 pub lines-init : goal.lines-init
 lines-init g c = record {
   judged = judged_start g.H.EntryObserver.HasObserved g.H.Judging.Keeps g.H.Judging.finds_good (g.R.Source.to_come c.args.input.now) c.args.lines.now.ahead c.args.lines.now.taken c.args.trial.now.reader c.args.trial.now.observer c.args.sheet.now (g.W.Sink.taken c.args.output.now)
-      c.requires.ahead c.requires.ended c.requires.taken c.requires.trial (c.requires.stands (g.W.Sink.taken c.args.output.now));
+      c.requires.ahead c.requires.ended c.requires.taken c.requires.trial (c.requires.corresponds (g.W.Sink.taken c.args.output.now));
   holds = none_reported c.args.lines.now.ahead (g.R.Source.to_come c.args.input.now) c.requires.ended;
   form = refl;
   options = refl;
@@ -108,7 +108,7 @@ returns-in-Err g c =
     let rest = coming c.next.new.self.ahead (g.R.Source.to_come c.next.new.input) in
     let v = c.lines.invariant.judged.onwards in
     let takes = subst (λ (b : Bool). GoesToNext (Ok b) c.lines.lines c.next.new.self mid rest) c.if-branch.true c.in_ok-next.ensures.next in
-    let why = subst (λ (line : List ℕ). UnlessMemory c.in-Err.kind (line_read line v.before ≡ Err c.in-Err.kind)) c.line-line.ensures (c.in-Err.ensures v.before v.entries v.numbers v.view_of) in
+    let why = subst (λ (line : List ℕ). UnlessMemory c.in-Err.kind (line_read line v.before ≡ Err c.in-Err.kind)) c.line-line.ensures (c.in-Err.ensures v.before v.entries v.numbers v.corresponds) in
     let kind = onwards_fault g.H.EntryObserver.HasObserved all mid rest c.lines.lines c.next.new.self _ _ c.in-Err.kind v takes why in
     record {
       read = tt;

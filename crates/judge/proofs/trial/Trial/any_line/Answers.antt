@@ -19,7 +19,7 @@ returns-in_ok-observe g c =
     let says : now.entry ≡ Some e = c.in-Some-last_entry.ensures in
     let read : words_read record_grammar (words_of c.args.line.now) old.reader ≡ Ok (Some now) = c.in_ok-read_any_line.ensures ∙ ap (λ (o : Option Progress). Ok o) c.in-Some.is in
     let observes = subst (λ (s : Setup). (entries : List Entry) (numbers : List ℕ) → Observes observed old.observer s entries numbers → Observes observed c.observe.new.observer s (entries ++ e ∷ []) (numbers ++ c.args.number ∷ [])) c.setup.ensures.value c.in_ok-observe.ensures.observed in
-    λ before entries numbers view_of. ends_observed observed c.args.number c.args.line.now old.reader (Some c.forget_entry.new.self) now e old.observer c.observe.new.observer before entries numbers c.requires.short view_of read says remaining c.in_ok-observe.ensures.present observes
+    λ before entries numbers corresponds. ends_observed observed c.args.number c.args.line.now old.reader (Some c.forget_entry.new.self) now e old.observer c.observe.new.observer before entries numbers c.requires.short corresponds read says remaining c.in_ok-observe.ensures.present observes
 
 pub returns-in_default-last_entry : goal.returns-in_default-last_entry
 returns-in_default-last_entry g c =
@@ -28,4 +28,4 @@ returns-in_default-last_entry g c =
     let says : now.entry ≡ None = c.in_default-last_entry.ensures in
     let none : entry_in (Some now) ≡ [] = ap option_to_list says in
     let read : words_read record_grammar (words_of c.args.line.now) old.reader ≡ Ok (Some now) = c.in_ok-read_any_line.ensures ∙ ap (λ (o : Option Progress). Ok o) c.in-Some.is in
-    λ before entries numbers view_of. ends_quiet g.H.EntryObserver.HasObserved c.args.number c.args.line.now old.reader (Some now) (Some now) old.observer before entries numbers c.requires.short view_of read (quiet_is_cleared now says) none
+    λ before entries numbers corresponds. ends_quiet g.H.EntryObserver.HasObserved c.args.number c.args.line.now old.reader (Some now) (Some now) old.observer before entries numbers c.requires.short corresponds read (quiet_is_cleared now says) none

@@ -10,7 +10,7 @@ pub returns-clause-page : goal.returns-clause-page
 returns-clause-page c =
     put_parts (seen c.args.column) (seen c.put.new.column) c.in_ok-place.place.x (seen_page c.args.self.now) c.put.new.self (map seen c.push.new.self.items)
     (ap (map seen) c.in_ok-push.ensures.items ∙ map-append seen c.args.self.now.columns.items (c.put.new.column ∷ []))
-    c.in_ok-put.ensures.stands c.in_ok-put.ensures.placed (ap (λ (p : ColumnPosition). p.x) c.in_ok-place.ensures)
+    c.in_ok-put.ensures.moved c.in_ok-put.ensures.placed (ap (λ (p : ColumnPosition). p.x) c.in_ok-place.ensures)
 
 pub returns-clause-lines : goal.returns-clause-lines
 returns-clause-lines c = put_last c.args.self.now.columns.items c.push.new.self.items c.args.column c.put.new.column c.in_ok-push.ensures.items c.in_ok-put.ensures.reported

@@ -6,9 +6,9 @@ use Rattle.picture_layout.proofs.state.State.mark.Goals as goal
 pub returns-clause-whole : goal.returns-clause-whole
 returns-clause-whole c =
     let old : State = c.args.self.now in
-    let stood : c.set_stage.new.self ≡ record old { stages = stages_marked old.stages c.args.process c.args.mark.now } =
+    let staged : c.set_stage.new.self ≡ record old { stages = stages_marked old.stages c.args.process c.args.mark.now } =
     c.set_stage.ensures ∙ ap (λ s. record old { stages = set old.stages c.args.process s }) (c.stage_after.ensures ∙ ap (λ s. stage_after s c.args.mark.now) c.stage.ensures) in
-    let seated = c.set_seats.ensures ∙ ap (λ (s : State). with_seats_marked s c.args.process c.args.mark.now) stood in
+    let seated = c.set_seats.ensures ∙ ap (λ (s : State). with_seats_marked s c.args.process c.args.mark.now) staged in
     λ i. record (seated i) {
       inside = (c.inside_after-self.ensures ∙ ap (λ (s : State). inside_marked s.inside c.args.process c.args.mark.now) seated) i;
       places = (c.places_after-self.ensures ∙ ap (λ (s : State). places_marked s.places c.args.mark.now) seated) i;

@@ -1,18 +1,18 @@
 use Rattle.std.proofs.Common.{ap, ◌∙◌}
 use Rattle.process.specs.{HasMoved, ProcessState, changes_reported, may_step}
 use Rattle.process.proofs.NextAt.{has-moved, then-changes, then-marks, then-stepped}
-use Rattle.process.proofs.Serves.{stands}
+use Rattle.process.proofs.Serves.{corresponds}
 use Rattle.process.proofs.process.Process.advance.Goals as goal
 use Rattle.process.proofs.process.Process.advance.Goals.{After-advance}
 
 pub next-how-requires : goal.next-how-requires
-next-how-requires c = (stands c.self.inside.called c.self.inside.work c.self.inside.cursor c.self.invariant (ap (λ (s : ProcessState). may_step s.doing) c.self.view_is ∙ c.requires.enabled)).going
+next-how-requires c = (corresponds c.self.inside.called c.self.inside.work c.self.inside.cursor c.self.invariant (ap (λ (s : ProcessState). may_step s.doing) c.self.view_is ∙ c.requires.enabled)).going
 
 pub advance-requires : goal.advance-requires
-advance-requires c = (stands c.self.inside.called c.self.inside.work c.self.inside.cursor c.self.invariant (ap (λ (s : ProcessState). may_step s.doing) c.self.view_is ∙ c.requires.enabled)).going
+advance-requires c = (corresponds c.self.inside.called c.self.inside.work c.self.inside.cursor c.self.invariant (ap (λ (s : ProcessState). may_step s.doing) c.self.view_is ∙ c.requires.enabled)).going
 
 moved : (c : After-advance) → HasMoved c.self.inside.called c.self.inside.work c.args.flick c.args.value c.self.inside.cursor c.advance.new.self c.is_fresh-fresh.result
-moved c = has-moved c.args.flick c.args.value c.self.invariant (ap (λ (s : ProcessState). may_step s.doing) c.self.view_is ∙ c.requires.enabled) c.given.ensures c.next-how.ensures c.advance.ensures c.is_fresh-fresh.ensures
+moved c = has-moved c.args.flick c.args.value c.self.invariant (ap (λ (s : ProcessState). may_step s.doing) c.self.view_is ∙ c.requires.enabled) c.value_for_next.ensures c.next-how.ensures c.advance.ensures c.is_fresh-fresh.ensures
 
 pub go_on-requires : goal.go_on-requires
 go_on-requires c = record { moved = (c.args.flick, c.args.value, _, moved (goal.at.go_on-requires c).After-advance) }

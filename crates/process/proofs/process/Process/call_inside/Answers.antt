@@ -23,7 +23,7 @@ invariant_of-self c =
       call = call;
       working = record {
         going = ap (λ (p : PartState). is_over p.part) c.start_inside.ensures ∙ is-going (processes c.self.inside.called.call.setup);
-        at = subst (IsAtPart k.call k.part) (sym c.enter.ensures.cursor) (entered-at k.call k.part (is_good k.call.setup call.good) call.process);
-        there = c.enter.ensures.in_range;
+        at = subst (IsAtPart k.call k.part) (sym c.begin_part.ensures.cursor) (entered-at k.call k.part (is_good k.call.setup call.good) call.process);
+        there = c.begin_part.ensures.in_range;
       };
     }

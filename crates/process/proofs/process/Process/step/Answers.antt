@@ -3,7 +3,7 @@ use Rattle.model.specs.{value_of}
 use Rattle.registers.specs.{applied, ends_overlapped, next_answered}
 use Rattle.process.specs.{HasMoved, ProcessState, changes_reported, may_step}
 use Rattle.process.proofs.NextAt.{then-changes, then-marks, then-stepped}
-use Rattle.process.proofs.Serves.{stands, step-moved}
+use Rattle.process.proofs.Serves.{corresponds, step-moved}
 use Rattle.process.proofs.Shown.{shown-answered, shown-copies, shown-fits}
 use Rattle.process.proofs.process.Process.step.Goals as goal
 use Rattle.process.proofs.process.Process.step.Goals.{After-step-made}
@@ -13,7 +13,7 @@ step-made-requires-clause-fits c = shown-fits c.self.inside.called c.self.inside
 
 pub step-made-requires-clause-going : goal.step-made-requires-clause-going
 step-made-requires-clause-going c = λ whole.
-    let going = (stands c.self.inside.called c.self.inside.work c.self.inside.cursor c.self.invariant (ap (λ (s : ProcessState). may_step s.doing) c.self.view_is ∙ c.requires.enabled)).going in
+    let going = (corresponds c.self.inside.called c.self.inside.work c.self.inside.cursor c.self.invariant (ap (λ (s : ProcessState). may_step s.doing) c.self.view_is ∙ c.requires.enabled)).going in
     omega (arith, going, whole)
 
 answered : (c : After-step-made) → c.step-made.result.access ≡ next_answered c.self.inside.cursor c.args.memory.now c.args.flick

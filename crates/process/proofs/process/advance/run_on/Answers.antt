@@ -37,9 +37,9 @@ pub returns-else-is_over-clause-doing : goal.returns-else-is_over-clause-doing
 returns-else-is_over-clause-doing c = λ flick value before h.
     let k = c.args.called.now in
     let next = c.part_over-reported.new.called in
-    let then = c.enter.new.cursor in
+    let then = c.begin_part.new.cursor in
     let P : Activity → Type 0 = λ w. state_at next w then ≡ stepped (state_at k work.Runs before) flick value in
-    subst P (sym c.requires.runs) (runs-next k next flick value before c.args.cursor.now then c.args.fresh h (sym c.is_over.ensures ∙ c.if-not-is_over.false) c.part_over-reported.ensures.part (sym c.is_over-2.ensures ∙ c.if-is_over.false) c.enter.ensures.cursor)
+    subst P (sym c.requires.runs) (runs-next k next flick value before c.args.cursor.now then c.args.fresh h (sym c.is_over.ensures ∙ c.if-not-is_over.false) c.part_over-reported.ensures.part (sym c.is_over-2.ensures ∙ c.if-is_over.false) c.begin_part.ensures.cursor)
 
 pub returns-else-is_over-clause-marks : goal.returns-else-is_over-clause-marks
 returns-else-is_over-clause-marks c = λ flick value before h.

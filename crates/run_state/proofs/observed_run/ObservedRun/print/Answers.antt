@@ -1,7 +1,7 @@
 use Rattle.std.proofs.Common.{List, ◌++◌, flat_map, ap, ◌∙◌, append_assoc}
 use Rattle.model.specs.{Taken, processes}
 use Rattle.run_state.specs.{SnapshotState, history_lines, process_lines, register_lines}
-use Rattle.run_state.proofs.Stand.{core_shows, ok_then, taken_is}
+use Rattle.run_state.proofs.ObservedWorlds.{core_shows, ok_then, taken_is}
 use Rattle.run_state.proofs.observed_run.ObservedRun.print.Goals as goal
 
 pub returns : goal.returns

@@ -1,7 +1,7 @@
 use Rattle.std.proofs.Common.{◌≡◌, ◌<◌, Bool, true, false, cond, ◌++◌, None, Some, ap, sym, subst, ◌∙◌}
 use Rattle.model.specs.{calls_in, is_at_rest, own, stage}
 use Rattle.run_state.specs.{ProcessSummary, SnapshotState, kept, lines_at, rest_line, running_lines}
-use Rattle.run_state.proofs.Stand.{ok_then, stage_is}
+use Rattle.run_state.proofs.ObservedWorlds.{ok_then, stage_is}
 use Rattle.run_state.proofs.observed_run.ObservedRun.push_process.Goals as goal
 
 pub returns-in_default : goal.returns-in_default

@@ -1,5 +1,5 @@
 use Rattle.std.proofs.Common.{[], ◌++◌, ap, sym, ◌∙◌, append-nil}
-use Rattle.run_state.proofs.Stand.{ok_then}
+use Rattle.run_state.proofs.ObservedWorlds.{ok_then}
 use Rattle.run_state.proofs.Seeing.{newest_none, newest_some}
 use Rattle.run_state.proofs.observer.StateObserver.print_entry.Goals as goal
 

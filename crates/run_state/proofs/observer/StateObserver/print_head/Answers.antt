@@ -1,7 +1,7 @@
 use Rattle.std.proofs.Common.{◌++◌, length, ap, ◌∙◌, append_assoc}
 use Rattle.model.specs.{Past, past_of}
 use Rattle.run_state.specs.{count_line, newest_line}
-use Rattle.run_state.proofs.Stand.{ok_then}
+use Rattle.run_state.proofs.ObservedWorlds.{ok_then}
 use Rattle.run_state.proofs.observer.StateObserver.print_head.Goals as goal
 
 pub returns : goal.returns

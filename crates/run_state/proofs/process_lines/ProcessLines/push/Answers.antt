@@ -3,7 +3,7 @@ use Rattle.model.specs.{stage_word}
 use Rattle.calls.specs.{open_call}
 use Rattle.run_state.specs.{ProcessLines, call_kept, doing_lines, lines_of_two, open_lines, process_line, words_added}
 use Rattle.run_state.proofs.OfCalls.{lines_kept}
-use Rattle.run_state.proofs.Stand.{history_is, ok_then}
+use Rattle.run_state.proofs.ObservedWorlds.{history_is, ok_then}
 use Rattle.run_state.proofs.process_lines.ProcessLines.push.Goals as goal
 
 pub returns : goal.returns

@@ -4,7 +4,7 @@ use Rattle.std.specs.String.{string_bytes}
 use Rattle.calls.specs.world.laws.{Doing, doing}
 use Rattle.calls.specs.world.process.{ProcessState, number_read, settling_of, ticket_known}
 use Rattle.run_state.specs.{ProcessLines, busy_lines, call_kept, failed_words, line_if, open_by, open_words, ticket_lines}
-use Rattle.run_state.proofs.Stand.{core_of, next_there, ok_then, place_is}
+use Rattle.run_state.proofs.ObservedWorlds.{core_of, next_there, ok_then, place_is}
 use Rattle.run_state.proofs.process_lines.ProcessLines.push_access.Goals as goal
 
 pub returns : goal.returns

@@ -8,7 +8,7 @@ use Rattle.calls.specs.world.laws.Writes.{WritesFitTheirRegister, WritesLeaveThe
 use Rattle.calls.specs.world.process.{ProcessState, AccessProgress, bytes_written, number_read, progress, settling_of}
 use Rattle.calls.specs.world.process.registers.{register_bytes}
 use Rattle.run_state.specs.{AreGiven, AreOf, ComesNext, ProcessLines, busy_lines, process_line, reads_words, settling_lines, settling_progress, shown, writes_words}
-use Rattle.run_state.proofs.Stand.{events_of, ok_then, place_is}
+use Rattle.run_state.proofs.ObservedWorlds.{events_of, ok_then, place_is}
 use Rattle.run_state.proofs.Written.{IsBusyWith, busy_with, settling_is, some_progress, some_same}
 use Rattle.run_state.proofs.process_lines.ProcessLines.push_busy.Goals as goal
 

@@ -5,7 +5,7 @@ use Rattle.calls.specs.world.laws.{doing}
 use Rattle.calls.specs.world.process.{number_read, settling_of, ticket_known}
 use Rattle.run_state.specs.{ProcessLines, access_in, busy_lines, call_kept, doing_by, doing_with, failed_words, kept, line_if, open_words}
 use Rattle.run_state.proofs.OfCalls.{tickets_kept}
-use Rattle.run_state.proofs.Stand.{ok_then}
+use Rattle.run_state.proofs.ObservedWorlds.{ok_then}
 use Rattle.run_state.proofs.process_lines.ProcessLines.push_doing.Goals as goal
 
 pub returns-in-None : goal.returns-in-None

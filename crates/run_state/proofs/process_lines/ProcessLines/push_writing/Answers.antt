@@ -3,7 +3,7 @@ use Rattle.std.specs.Prelude.{List, ℕ, slice_index_or, false, ◌<◌, length}
 use Rattle.model.specs.safe_number.{bit_in}
 use Rattle.calls.proofs.world_proofs.process_proofs.registers_proofs.MadeBytes.{register-bits}
 use Rattle.run_state.specs.{process_line, shown}
-use Rattle.run_state.proofs.Stand.{ok_then}
+use Rattle.run_state.proofs.ObservedWorlds.{ok_then}
 use Rattle.run_state.proofs.Written.{width-most}
 use Rattle.run_state.proofs.process_lines.ProcessLines.push_writing.Goals as goal
 

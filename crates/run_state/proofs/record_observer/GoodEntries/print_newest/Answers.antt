@@ -2,7 +2,7 @@ use Rattle.std.proofs.Common.{◌≡◌, ◌++◌, List, ℕ, [], ◌∷◌, ap,
 use Rattle.std.specs.Prelude.{if◌then◌else◌, Err, Ok, OnOk, Result}
 use Rattle.std.specs.Result.{is_ok}
 use Rattle.run_state.specs.{line_of_newest, newest_line, newest_lines}
-use Rattle.run_state.proofs.Stand.{ok_then}
+use Rattle.run_state.proofs.ObservedWorlds.{ok_then}
 use Rattle.run_state.proofs.record_observer.GoodEntries.print_newest.Goals as goal
 
 -- the text that is written, where no allocation failed

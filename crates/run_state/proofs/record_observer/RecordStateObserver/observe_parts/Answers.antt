@@ -10,7 +10,7 @@ use Rattle.judge.specs.safe_monitor.{entry_by}
 use Rattle.judge.specs.{JudgeState}
 use Rattle.run_state.specs.{GoodEntries, IsNext, RecordStateObserver, StoresNext, taken_with}
 use Rattle.run_state.proofs.Observed.{all_keep, bad_stays, core_setup, good_stored, in_shown, next_is, shown}
-use Rattle.run_state.proofs.Stand.{ok_then}
+use Rattle.run_state.proofs.ObservedWorlds.{ok_then}
 use Rattle.run_state.proofs.record_observer.RecordStateObserver.observe_parts.Goals as goal
 
 pub returns-then-not-is_good : goal.returns-then-not-is_good

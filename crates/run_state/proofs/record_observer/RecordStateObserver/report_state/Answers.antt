@@ -15,6 +15,6 @@ returns c = λ s noted numbers h.
     let o = c.args.self.now in
     let counted = c.in_ok-print_count.ensures ∙ ap (λ l. l ++ count_line o.good.observed_run.entries) c.new-text.ensures.items in
     reported_is o s noted numbers _ _ _ _ _ h counted c.in_ok-print_newest.ensures
-    (λ past stands. c.in_ok-print.ensures.lines past (subst (λ (core : CoreState). HasObservedWorld o.good.observed_run core c.as_slice-history.result.now past) (sym c.core.ensures) (subst (λ (l : List Taken). HasObservedWorld o.good.observed_run o.judge.auditor.core l past) (sym c.as_slice-history.ensures.value) stands)))
+    (λ past corresponds. c.in_ok-print.ensures.lines past (subst (λ (core : CoreState). HasObservedWorld o.good.observed_run core c.as_slice-history.result.now past) (sym c.core.ensures) (subst (λ (l : List Taken). HasObservedWorld o.good.observed_run o.judge.auditor.core l past) (sym c.as_slice-history.ensures.value) corresponds)))
     (c.in_ok-print_bad.ensures ∙ ap (λ (v : Verdict Law). c.print.new.text.items ++ bad_line v) c.judged-judged.ensures.now)
     (c.status_of.ensures ∙ ap status_of_verdict c.judged-judged.ensures.now)

@@ -55,13 +55,13 @@ turns-preserved g c =
     let less = rw c.in-Some.is at c.in_ok-reported.ensures.remaining in
     let room = rw c.in-Some.is at c.in_ok-reported.ensures.room in
     let here = ap (λ (scenario_run : ScenarioRunState). scenario_run.remaining) c.self-in-turns.view_is in
-    let made : c.turns.made + (c.turns.self.remaining - c.next.new.before) + events_reported c.in-Some.reported ≡ c.turns.made + (c.self-in-turns.inside.remaining - c.next.new.before) + c.events-made.result = omega (arith, here, c.events-made.ensures.events) in
+    let made : c.turns.made + (c.turns.self.remaining - c.next.new.before) + events_reported c.in-Some.reported ≡ c.turns.made + (c.self-in-turns.inside.remaining - c.next.new.before) + c.event_count-made.result = omega (arith, here, c.event_count-made.ensures.events) in
     record {
       played = λ run follows. subst (λ n. Played g.L.RunObserver.Observes c.args.self.now.world.setup c.args.line.now c.floor_below-floor.result run c.args.observer.now c.next.new.self n c.observe.new.self) made
           (played_on g.L.RunObserver.Observes c.args.self.now.world.setup c.args.line.now c.floor_below-floor.result run c.args.observer.now c.turns.observer c.turns.self c.turns.made c.turns.invariant.remaining (c.turns.invariant.played run follows) laws.observes_on c.next.new.observer c.next.new.self c.next.new.before
           c.observe.new.self c.in-Some.reported comes c.in_ok-observe.ensures.observed);
       remaining = omega (arith, less, c.in_ok-reported.ensures.fewer, c.turns.invariant.remaining);
-      count = omega (arith, less, here, c.in_ok-reported.ensures.fewer, c.events-made.ensures.one, c.turns.invariant.count);
+      count = omega (arith, less, here, c.in_ok-reported.ensures.fewer, c.event_count-made.ensures.one, c.turns.invariant.count);
       room = λ more has. c.in_ok-observe.ensures.room (more + c.next.new.self.remaining)
           (laws.room_less c.next.new.observer (more + c.next.new.self.remaining + 1) (more + (c.next.new.self.remaining + 1)) (omega arith) (room more (c.turns.invariant.room more has)));
     }

@@ -1,5 +1,5 @@
 use Rattle.std.proofs.Common.{arith}
-use Rattle.sweeper.proofs.Counting.{cut_on, refused_on, room_for_first, room_for_second, room_on, standing_on}
+use Rattle.sweeper.proofs.Counting.{cut_on, refused_on, room_for_first, room_for_second, room_on, unfailing_on}
 use Rattle.sweeper.proofs.Dues.{few_due}
 use Rattle.sweeper.proofs.sweeping.Sweeper.event.Goals as goal
 
@@ -18,7 +18,7 @@ returns-then-not-make c =
 pub returns-then-not-accepts : goal.returns-then-not-accepts
 returns-then-not-accepts c =
     let on =
-    standing_on c.args.calls.now c.args.event.now c.args.self.now c.make.new.self c.make.result c.make.ensures.follows c.make.ensures.setup c.make.ensures.accepted c.process-process.result c.accepts.result
+    unfailing_on c.args.calls.now c.args.event.now c.args.self.now c.make.new.self c.make.result c.make.ensures.follows c.make.ensures.setup c.make.ensures.accepted c.process-process.result c.accepts.result
     c.if-not-make.false c.process-process.ensures c.accepts.ensures c.if-not-accepts.true in
     record { swept = on; room = room_on c.args.calls.now c.args.event.now c.args.self.now _ on }
 

@@ -24,9 +24,9 @@ returns-in_ok-draw_entry-clause-drawn g c =
     let read : words_read trace_grammar (words_of c.args.line.now) old.reader ≡ Ok (Some now) = c.in-Ok.ensures ∙ ap (λ (o : Option TraceProgress). Ok o) c.in-Some.is in
     let draws = subst (λ (s : TraceSetup). (first : Option (List ℕ)) (entries : List TraceEntry) (numbers : List ℕ) → NothingYet old.picture first a → Observes (HasShown old.view first) (with_output a old.picture) s entries numbers →
     Observes (HasShown old.view first) (with_output b picture) s (entries ++ e ∷ []) (numbers ++ c.args.number ∷ [])) c.setup.ensures.value c.in_ok-draw_entry.ensures.drawn in
-    λ first before entries numbers stands. record {
-      goes_on = ends_observed (HasShown old.view first) c.args.number c.args.line.now old.reader (Some c.forget_entry.new.self) now e (with_output a old.picture) (with_output b picture) before entries numbers c.requires.short stands.read_up_to read says remaining
-          (some_shown b picture some) (λ entries numbers observed. draws first entries numbers stands.nothing observed);
+    λ first before entries numbers corresponds. record {
+      goes_on = ends_observed (HasShown old.view first) c.args.number c.args.line.now old.reader (Some c.forget_entry.new.self) now e (with_output a old.picture) (with_output b picture) before entries numbers c.requires.short corresponds.read_up_to read says remaining
+          (some_shown b picture some) (λ entries numbers observed. draws first entries numbers corresponds.nothing observed);
       nothing = nothing_more picture first b some;
     }
 
@@ -38,9 +38,9 @@ returns-in_default-last_entry-clause-drawn g c =
     let says : now.entry ≡ None = c.in_default-last_entry.ensures in
     let none : entry_in (Some now) ≡ [] = ap option_to_list says in
     let read : words_read trace_grammar (words_of c.args.line.now) old.reader ≡ Ok (Some now) = c.in-Ok.ensures ∙ ap (λ (o : Option TraceProgress). Ok o) c.in-Some.is in
-    λ first before entries numbers stands. record {
-      goes_on = ends_quiet (HasShown old.view first) c.args.number c.args.line.now old.reader (Some now) (Some now) (with_output a old.picture) before entries numbers c.requires.short stands.read_up_to read (quiet_is_cleared now says) none;
-      nothing = stands.nothing;
+    λ first before entries numbers corresponds. record {
+      goes_on = ends_quiet (HasShown old.view first) c.args.number c.args.line.now old.reader (Some now) (Some now) (with_output a old.picture) before entries numbers c.requires.short corresponds.read_up_to read (quiet_is_cleared now says) none;
+      nothing = corresponds.nothing;
     }
 
 pub returns-in_default-clause-drawn : goal.returns-in_default-clause-drawn
@@ -48,7 +48,7 @@ returns-in_default-clause-drawn g c =
     let old = c.args.self.now in
     let a = g.W.Sink.taken c.args.output.now in
     let read : words_read trace_grammar (words_of c.args.line.now) old.reader ≡ Ok None = c.in-Ok.ensures ∙ ap (λ (o : Option TraceProgress). Ok o) c.in_default.is in
-    λ first before entries numbers stands. record {
-      goes_on = ends_quiet (HasShown old.view first) c.args.number c.args.line.now old.reader c.read_trace_line.new.read None (with_output a old.picture) before entries numbers c.requires.short stands.read_up_to read c.in_default.is refl;
-      nothing = stands.nothing;
+    λ first before entries numbers corresponds. record {
+      goes_on = ends_quiet (HasShown old.view first) c.args.number c.args.line.now old.reader c.read_trace_line.new.read None (with_output a old.picture) before entries numbers c.requires.short corresponds.read_up_to read c.in_default.is refl;
+      nothing = corresponds.nothing;
     }

@@ -1,6 +1,6 @@
 use Rattle.std.proofs.Common.{sym, ◌∙◌}
 use Rattle.draw.specs.{entries_among, reads_since}
-use Rattle.draw.proofs.Overhearing.{monitors_hidden}
+use Rattle.draw.proofs.ObservedReads.{monitors_hidden}
 use Rattle.draw.proofs.records.drawing.RecordDrawing.ends_overlapped.Goals as goal
 
 pub returns-then-not-shows_reads-clause-overlapped : goal.returns-then-not-shows_reads-clause-overlapped

@@ -19,7 +19,7 @@ returns-in_ok-take-clause-drawn g c =
     let says : now.entry ≡ Some e = c.in-Some-last_entry.ensures in
     let read : words_read record_grammar (words_of c.args.line.now) old.reader ≡ Ok (Some now) = c.in-Ok.ensures ∙ ap (λ (o : Option Progress). Ok o) c.in-Some.is in
     let draws = subst (λ (s : Setup). (past : Past) (first : Option (List ℕ)) → DrawsPast old.options old.form old.entries s past first (g.W.Sink.taken c.args.output.now) → DrawsPast old.options old.form t.entries s (e ∷ past) first (g.W.Sink.taken c.take.new.output)) c.setup.ensures.value c.in_ok-take.ensures.drawn in
-    λ before past first stands. ends_drawn c.args.line.now before now e old t past first _ _ c.requires.short stands read says remaining refl refl draws
+    λ before past first corresponds. ends_drawn c.args.line.now before now e old t past first _ _ c.requires.short corresponds read says remaining refl refl draws
 
 pub returns-in_default-last_entry-clause-drawn : goal.returns-in_default-last_entry-clause-drawn
 returns-in_default-last_entry-clause-drawn g c =
@@ -29,11 +29,11 @@ returns-in_default-last_entry-clause-drawn g c =
     let says : now.entry ≡ None = c.in_default-last_entry.ensures in
     let none : entry_in (Some now) ≡ [] = ap option_to_list says in
     let read : words_read record_grammar (words_of c.args.line.now) old.reader ≡ Ok (Some now) = c.in-Ok.ensures ∙ ap (λ (o : Option Progress). Ok o) c.in-Some.is in
-    λ before past first stands. ends_quiet c.args.line.now before (Some now) old t past first _ _ c.requires.short stands read (quiet_is_cleared now says) refl refl refl refl none
+    λ before past first corresponds. ends_quiet c.args.line.now before (Some now) old t past first _ _ c.requires.short corresponds read (quiet_is_cleared now says) refl refl refl refl none
 
 pub returns-in_default-clause-drawn : goal.returns-in_default-clause-drawn
 returns-in_default-clause-drawn g c =
     let old : RecordPicture = c.args.self.now in
     let t : RecordPicture = record old { reader = c.read_any_line.new.read } in
     let read : words_read record_grammar (words_of c.args.line.now) old.reader ≡ Ok None = c.in-Ok.ensures ∙ ap (λ (o : Option Progress). Ok o) c.in_default.is in
-    λ before past first stands. ends_quiet c.args.line.now before None old t past first _ _ c.requires.short stands read c.in_default.is refl refl refl refl refl
+    λ before past first corresponds. ends_quiet c.args.line.now before None old t past first _ _ c.requires.short corresponds read c.in_default.is refl refl refl refl refl

@@ -3,8 +3,8 @@ use Rattle.draw.specs.{AreReadBy, RecordDrawing}
 use Rattle.draw.proofs.Stored.{none_stored}
 use Rattle.draw.proofs.records.sheet.RecordPicture.new.Goals as goal
 
-pub returns-clause-stands : goal.returns-clause-stands
-returns-clause-stands c = λ taken. record {
+pub returns-clause-corresponds : goal.returns-clause-corresponds
+returns-clause-corresponds c = λ taken. record {
   reader = refl;
   clear = refl;
   draws = subst (λ (o : Option RecordDrawing). AreReadBy o c.new.result.stored.items c.args.options c.args.form None [] taken taken) (sym c.new.ensures.drawing)

@@ -13,6 +13,6 @@ returns-clause-observed g c =
     let now : RecordEntries = record old.entries { drawing = Some c.step.new.self } in
     let a = g.W.Sink.taken c.args.output.now in
     let b = g.W.Sink.taken c.step.new.output in
-    λ is before past first stands.
+    λ is before past first corresponds.
     ends_stepped c.args.line.now old (record old { entries = now }) c.in-Some.drawing c.step.new.self said.process said.access before past first a b c.requires.short said.ensures.line said.ensures.sound c.in-Some.is refl refl refl refl
-    (λ s drawn. drawn_on old.options old.form s past (step_entry said.process said.access) c.in-Some.drawing c.step.new.self first a b drawn step.drawn step.source) stands
+    (λ s drawn. drawn_on old.options old.form s past (step_entry said.process said.access) c.in-Some.drawing c.step.new.self first a b drawn step.drawn step.source) corresponds

@@ -18,13 +18,13 @@ use Rattle.history_laws.proofs.Given.{given_before}
 use Rattle.history_laws.proofs.Reported.{SaysAfter, says}
 use Rattle.history_laws.proofs.Took.{EachAnswer, begins, goes, doing-few}
 use Rattle.board.specs.Calls.{Calls, and_then, calls_after, calls_of, changes_of, changing}
-use Rattle.board.specs.{StandsIn}
+use Rattle.board.specs.{FitsChanges}
 use Rattle.board.proofs.Along.{changes_none, so_many_changes}
 use Rattle.board.proofs.Changes.{changing-push, store_of_changes}
 use Rattle.board.proofs.EntryMarks.{StepMarks, plain, takes, answers, downs, call_marks, closing_marks, plain-calls, plain-quiet, plain-reply, plain-takings, plain-uncalled, quiet-before, both-false, reports}
-use Rattle.board.proofs.KnownCalls.{Known, Stands, known, known-own, known-uncalled, known_then, other_entry}
-use Rattle.board.proofs.Standing.{last_caller, one_change, standing_answered, standing_called, standing_down, standing_none, standing_on, standing_taken, taken_here}
-use Rattle.board.proofs.Stands.{finished_stand}
+use Rattle.board.proofs.KnownCalls.{Known, KnownCallsFit, known, known-own, known-uncalled, known_then, other_entry}
+use Rattle.board.proofs.StageFits.{last_caller, one_change, stage_fits_answered, stage_fits_called, stage_fits_down, stage_fits_none, stage_fits_on, stage_fits_taken, taken_here}
+use Rattle.board.proofs.FittingCalls.{finished_fits}
 
 -- The marks of an entry of the process itself.
 
@@ -69,17 +69,17 @@ changes-takes s past e r h =
 
 -- The cases of an entry of the process itself.
 
-own_called : (s : Setup) (past : Past) (e : Entry) (command : Command) → is_at_rest (stage e.process past) ≡ true → e.marks ≡ mark.Called command ∷ [] → Stands s e.process (known s past e.process) → Stands s e.process (known_then s past e)
-own_called s past e command quiet is h = subst (λ (ms : List Mark). Stands s e.process (known_then s past (record e { marks = ms }))) (sym is)
-    (standing_called s e.process k.stage _ k.number k.command command k.taken k.list k.calls.done k.calls.now quiet refl h)
+own_called : (s : Setup) (past : Past) (e : Entry) (command : Command) → is_at_rest (stage e.process past) ≡ true → e.marks ≡ mark.Called command ∷ [] → KnownCallsFit s e.process (known s past e.process) → KnownCallsFit s e.process (known_then s past e)
+own_called s past e command quiet is h = subst (λ (ms : List Mark). KnownCallsFit s e.process (known_then s past (record e { marks = ms }))) (sym is)
+    (stage_fits_called s e.process k.stage _ k.number k.command command k.taken k.list k.calls.done k.calls.now quiet refl h)
   where
     k : Known
     k = known s past e.process
 
-own_restarted : (s : Setup) (past : Past) (e : Entry) → is_at_rest (stage e.process past) ≡ true → e.marks ≡ mark.Restarted ∷ [] → Stands s e.process (known s past e.process) → Stands s e.process (known_then s past e)
-own_restarted s past e quiet is h = subst (λ (ms : List Mark). Stands s e.process (known_then s past (record e { marks = ms }))) (sym is)
-    (subst (λ (taken : List (ℕ × Reply)). Stands s e.process (record k { stage = Rattle.model.specs.declared.stages.Stage.TheVariants.Idle; taken = taken })) (sym (append-nil k.taken))
-    (standing_on s e.process k.stage _ k.number k.command k.taken k.list k.calls.done k.calls.now (λ _. quiet) h))
+own_restarted : (s : Setup) (past : Past) (e : Entry) → is_at_rest (stage e.process past) ≡ true → e.marks ≡ mark.Restarted ∷ [] → KnownCallsFit s e.process (known s past e.process) → KnownCallsFit s e.process (known_then s past e)
+own_restarted s past e quiet is h = subst (λ (ms : List Mark). KnownCallsFit s e.process (known_then s past (record e { marks = ms }))) (sym is)
+    (subst (λ (taken : List (ℕ × Reply)). KnownCallsFit s e.process (record k { stage = Rattle.model.specs.declared.stages.Stage.TheVariants.Idle; taken = taken })) (sym (append-nil k.taken))
+    (stage_fits_on s e.process k.stage _ k.number k.command k.taken k.list k.calls.done k.calls.now (λ _. quiet) h))
   where
     k : Known
     k = known s past e.process
@@ -97,11 +97,11 @@ known_after s past e before last none is uncalled untaken nothing = known-uncall
     k : Known
     k = known s past e.process
 
-own_plain : (s : Setup) (past : Past) (e : Entry) → list_any reports e.marks ≡ false → Stands s e.process (known s past e.process) → Stands s e.process (known_then s past e)
+own_plain : (s : Setup) (past : Past) (e : Entry) → list_any reports e.marks ≡ false → KnownCallsFit s e.process (known s past e.process) → KnownCallsFit s e.process (known_then s past e)
 own_plain s past e none h =
     let k : Known = known s past e.process in
-    subst (Stands s e.process) (sym (known_after s past e e.marks [] none (sym (append-nil e.marks)) refl refl refl))
-    (standing_on s e.process k.stage _ k.number k.command k.taken k.list k.calls.done k.calls.now (plain-quiet k.stage e.marks none) h)
+    subst (KnownCallsFit s e.process) (sym (known_after s past e e.marks [] none (sym (append-nil e.marks)) refl refl refl))
+    (stage_fits_on s e.process k.stage _ k.number k.command k.taken k.list k.calls.done k.calls.now (plain-quiet k.stage e.marks none) h)
 
 -- The commands taken in the call of an entry, if its marks begin no call.
 
@@ -145,11 +145,11 @@ quiet_after st (m ∷ before) k r none q =
 
 own_takes : (s : Setup) (past : Past) (e : Entry) (before : List Mark) (j : ℕ) (r : Reply) → list_any reports before ≡ false → e.marks ≡ before ++ mark.Taken j r ∷ [] → SaysAfter s past e →
     r ≡ reply_to (store_after s (history s past)) (last_command (own e.process past)) (last_caller s e.process (calls_in (own e.process past))) →
-    Stands s e.process (known s past e.process) → Stands s e.process (known_then s past e)
-own_takes s past e before j r none is reported reply h = subst (Stands s p) (sym (known-uncalled s past e uncalled ∙ same))
-    (standing_taken s p k.stage then k.number k.command j r k.list k.calls.done k.calls.now quiet
+    KnownCallsFit s e.process (known s past e.process) → KnownCallsFit s e.process (known_then s past e)
+own_takes s past e before j r none is reported reply h = subst (KnownCallsFit s p) (sym (known-uncalled s past e uncalled ∙ same))
+    (stage_fits_taken s p k.stage then k.number k.command j r k.list k.calls.done k.calls.now quiet
     (reply ∙ ap (λ (x : Contents). reply_to x k.command (last_caller s p k.number)) (sym (store_of_changes s past)))
-    (subst (λ (taken : List (ℕ × Reply)). Stands s p (record k { taken = taken })) nothing h))
+    (subst (λ (taken : List (ℕ × Reply)). KnownCallsFit s p (record k { taken = taken })) nothing h))
   where
     p : ℕ
     p = e.process
@@ -186,24 +186,24 @@ own_takes s past e before j r none is reported reply h = subst (Stands s p) (sym
 
 -- An entry that finishes a call.
 own_answers : (s : Setup) (past : Past) (e : Entry) (before : List Mark) (a : Answer) → list_any reports before ≡ false → e.marks ≡ before ++ mark.Answered a ∷ [] → SaysAfter s past e →
-    Stands s e.process (known s past e.process) → Stands s e.process (known_then s past e)
+    KnownCallsFit s e.process (known s past e.process) → KnownCallsFit s e.process (known_then s past e)
 own_answers s past e before a none is reported h =
     let k : Known = known s past e.process in
-    subst (Stands s e.process) (sym (known_after s past e before (mark.Answered a ∷ []) none is refl refl refl))
-    (standing_answered s e.process k.stage _ k.number k.command k.taken a k.list k.calls.done k.calls.now (answers_taken s past e before a none is reported) h)
+    subst (KnownCallsFit s e.process) (sym (known_after s past e before (mark.Answered a ∷ []) none is refl refl refl))
+    (stage_fits_answered s e.process k.stage _ k.number k.command k.taken a k.list k.calls.done k.calls.now (answers_taken s past e before a none is reported) h)
 
-own_downs : (s : Setup) (past : Past) (e : Entry) (before : List Mark) → list_any reports before ≡ false → e.marks ≡ before ++ mark.Down ∷ [] → Stands s e.process (known s past e.process) → Stands s e.process (known_then s past e)
+own_downs : (s : Setup) (past : Past) (e : Entry) (before : List Mark) → list_any reports before ≡ false → e.marks ≡ before ++ mark.Down ∷ [] → KnownCallsFit s e.process (known s past e.process) → KnownCallsFit s e.process (known_then s past e)
 own_downs s past e before none is h =
     let k : Known = known s past e.process in
-    subst (Stands s e.process) (sym (known_after s past e before (mark.Down ∷ []) none is refl refl refl))
-    (standing_down s e.process k.stage _ k.number k.command k.taken k.list k.calls.done k.calls.now h)
+    subst (KnownCallsFit s e.process) (sym (known_after s past e before (mark.Down ∷ []) none is refl refl refl))
+    (stage_fits_down s e.process k.stage _ k.number k.command k.taken k.list k.calls.done k.calls.now h)
 
 taking_among : (e : Entry) (before : List Mark) (j : ℕ) (r : Reply) → list_any reports before ≡ false → e.marks ≡ before ++ mark.Taken j r ∷ [] → Contains (takings e.marks) (j, r)
 taking_among e before j r none is = subst (λ (l : List (ℕ × Reply)). Contains l (j, r)) (sym (ap takings is ∙ plain-takings before (mark.Taken j r ∷ []) none)) (0, omega arith, refl)
 
 -- Each entry of the process keeps the invariant.
 own_entry : (s : Setup) → checked s ≡ Ok tt → (events : List Event) (event : Event) (e : Entry) → AreGiven s (event ∷ events) → entry_of s (past_of s events) event ≡ Some e →
-    Stands s e.process (known s (past_of s events) e.process) → Stands s e.process (known_then s (past_of s events) e)
+    KnownCallsFit s e.process (known s (past_of s events) e.process) → KnownCallsFit s e.process (known_then s (past_of s events) e)
 own_entry s ok events event e given is h = go (own_marks s g events event e is)
   where
     g : IsGood s
@@ -215,41 +215,41 @@ own_entry s ok events event e given is h = go (own_marks s g events event e is)
     reported : SaysAfter s past e
     reported = says s g events event e is
 
-    by : StepMarks e.marks → Stands s e.process (known_then s past e)
+    by : StepMarks e.marks → KnownCallsFit s e.process (known_then s past e)
     by (plain none) = own_plain s past e none h
     by (takes before j r none m) = own_takes s past e before j r none m reported (taken s ok events event e given is j r (taking_among e before j r none m)).1 h
     by (answers before a none m) = own_answers s past e before a none m reported h
     by (downs before none m) = own_downs s past e before none m h
 
-    go : OwnMarks s past e → Stands s e.process (known_then s past e)
+    go : OwnMarks s past e → KnownCallsFit s e.process (known_then s past e)
     go (calls_now command quiet m) = own_called s past e command quiet m h
     go (restarted quiet m) = own_restarted s past e quiet m h
     go (steps marks) = by marks
 
 -- The calls of every process of every past.
-pub calls_stand : (s : Setup) → checked s ≡ Ok tt → (events : List Event) → AreGiven s events → (p : ℕ) → Stands s p (known s (past_of s events) p)
-calls_stand s ok [] given p = standing_none s p
-calls_stand s ok (event ∷ events) given p = go (entry_of s past event) refl (calls_stand s ok events (given_before s event events given))
+pub calls_fit : (s : Setup) → checked s ≡ Ok tt → (events : List Event) → AreGiven s events → (p : ℕ) → KnownCallsFit s p (known s (past_of s events) p)
+calls_fit s ok [] given p = stage_fits_none s p
+calls_fit s ok (event ∷ events) given p = go (entry_of s past event) refl (calls_fit s ok events (given_before s event events given))
   where
     past : Past
     past = past_of s events
 
-    at : (e : Entry) → entry_of s past event ≡ Some e → ((q : ℕ) → Stands s q (known s past q)) → (b : Bool) → (e.process == p) ≡ b → Stands s p (known s (e ∷ past) p)
-    at e is before true i = subst (λ (q : ℕ). Stands s q (known s (e ∷ past) q)) (eqb-true e.process p i) (subst (Stands s e.process) (sym (known-own s past e)) (own_entry s ok events event e given is (before e.process)))
+    at : (e : Entry) → entry_of s past event ≡ Some e → ((q : ℕ) → KnownCallsFit s q (known s past q)) → (b : Bool) → (e.process == p) ≡ b → KnownCallsFit s p (known s (e ∷ past) p)
+    at e is before true i = subst (λ (q : ℕ). KnownCallsFit s q (known s (e ∷ past) q)) (eqb-true e.process p i) (subst (KnownCallsFit s e.process) (sym (known-own s past e)) (own_entry s ok events event e given is (before e.process)))
     at e is before false i = other_entry s past e p (eqb-false e.process p i) (before p)
 
-    go : (o : Option Entry) → entry_of s past event ≡ o → ((q : ℕ) → Stands s q (known s past q)) → Stands s p (known s (elim o as (λ _. Past) [ None ↦ past | Some e ↦ e ∷ past ]) p)
+    go : (o : Option Entry) → entry_of s past event ≡ o → ((q : ℕ) → KnownCallsFit s q (known s past q)) → KnownCallsFit s p (known s (elim o as (λ _. Past) [ None ↦ past | Some e ↦ e ∷ past ]) p)
     go None is before = before p
     go (Some e) is before = at e is before (e.process == p) refl
 
 -- so the finished calls, and all calls, are consistent with the changes
 pub calls_in_the_changes : (s : Setup) → checked s ≡ Ok tt → (events : List Event) → AreGiven s events → (p : ℕ) →
     let calls : Calls = calls_of s p (past_of s events) in
-    StandsIn s p calls.done (changes_of s (past_of s events)) × StandsIn s p (and_then calls.done calls.now) (changes_of s (past_of s events))
-calls_in_the_changes s ok events given p = (finished_stand s p (calls_of s p past).done (calls_of s p past).now (changes_of s past) all, all)
+    FitsChanges s p calls.done (changes_of s (past_of s events)) × FitsChanges s p (and_then calls.done calls.now) (changes_of s (past_of s events))
+calls_in_the_changes s ok events given p = (finished_fits s p (calls_of s p past).done (calls_of s p past).now (changes_of s past) all, all)
   where
     past : Past
     past = past_of s events
 
-    all : StandsIn s p (and_then (calls_of s p past).done (calls_of s p past).now) (changes_of s past)
-    all = (calls_stand s ok events given p).stands
+    all : FitsChanges s p (and_then (calls_of s p past).done (calls_of s p past).now) (changes_of s past)
+    all = (calls_fit s ok events given p).fits

@@ -6,7 +6,7 @@ use Rattle.model.specs.{Access, Call, Entry, Event, IsFollowed, Mark, Next, Past
 use Rattle.plain_store.specs.{Setup}
 use Rattle.model.specs.declared.marks.Mark.TheVariants.{Called, Failed, Withdrew}
 use Rattle.model.proofs.Follow as follow
-use Rattle.model.proofs.Follow.{Spot, Stands, spot_of, stands, not_over}
+use Rattle.model.proofs.Follow.{Spot, Corresponds, spot_of, corresponds, not_over}
 use Rattle.model.proofs.Local.{View, Running, rests, down, runs, withdraws, fails, made_too}
 use Rattle.model.proofs.Marking.{marks_are, spot_marks}
 use Rattle.model.proofs.Ties.{Tied, tied-next, tied-marks, tied-stage, end-with, follows-tied}
@@ -15,7 +15,7 @@ use Rattle.model.proofs.Width.{IsGood}
 use Rattle.model.proofs.World.{view}
 
 -- the access that the script has next is that of the place
-pub next-tied : (c : Call) → IsGood c.setup → (r : ReadSoFar) (len : ℕ) (spot : Spot) (at : Place) (n : Next) → Stands c r len spot → Tied c at spot → scripted c r.finished len ≡ Some n →
+pub next-tied : (c : Call) → IsGood c.setup → (r : ReadSoFar) (len : ℕ) (spot : Spot) (at : Place) (n : Next) → Corresponds c r len spot → Tied c at spot → scripted c r.finished len ≡ Some n →
     (is_over at.part ≡ false) × (n.access ≡ access_at c at.part at.run)
 next-tied c g r len spot at n st t h =
     let o : is_over at.part ≡ false = ap is_over (sym t.part) ∙ not_over c r len spot n st h in
@@ -23,7 +23,7 @@ next-tied c g r len spot at n st t h =
     (o, cc)
 
 -- the marks that the script has next are those of the place
-pub marks-tied : (c : Call) → IsGood c.setup → (r : ReadSoFar) (len : ℕ) (spot : Spot) (at : Place) (n : Next) (v : Bool) → Stands c r len spot → Tied c at spot → scripted c r.finished len ≡ Some n →
+pub marks-tied : (c : Call) → IsGood c.setup → (r : ReadSoFar) (len : ℕ) (spot : Spot) (at : Place) (n : Next) (v : Bool) → Corresponds c r len spot → Tied c at spot → scripted c r.finished len ≡ Some n →
     marks_at len (local_program c (with_access c.setup (Some (ended_with v n.access)) r).finished) ≡ marks_of c at (value_of (ended v n.access.how))
 marks-tied c g r len spot at n v st t h =
     ap {A = Option Next} (λ o. elim o as (λ _. List Mark) [ None ↦ [] | Some q ↦ q.marks ]) (made_too c r len spot n v st h).1
@@ -50,8 +50,8 @@ place-next c g accesses f = go (is_over at.part) refl
     r : ReadSoFar
     r = reads_of c accesses
 
-    st : Stands c r (length accesses) spot
-    st = stands c g accesses f
+    st : Corresponds c r (length accesses) spot
+    st = corresponds c g accesses f
 
     t : Tied c at spot
     t = follows-tied c g accesses f
@@ -69,7 +69,7 @@ place-next c g accesses f = go (is_over at.part) refl
 -- the script's marks are those of the place, for all accesses of a call
 pub place-marks : (c : Call) → IsGood c.setup → (accesses : List Access) → IsFollowed c accesses → (n : Next) (v : Bool) → scripted c (reads_of c accesses).finished (length accesses) ≡ Some n →
     marks_at (length accesses) (local_program c (reads_of c (ended_with v n.access ∷ accesses)).finished) ≡ marks_of c (place_of c accesses) (value_of (ended v n.access.how))
-place-marks c g accesses f n v h = marks-tied c g (reads_of c accesses) (length accesses) (spot_of c accesses) (place_of c accesses) n v (stands c g accesses f) (follows-tied c g accesses f) h
+place-marks c g accesses f n v h = marks-tied c g (reads_of c accesses) (length accesses) (spot_of c accesses) (place_of c accesses) n v (corresponds c g accesses f) (follows-tied c g accesses f) h
 
 -- a process that runs goes on from its place
 pub running_next : (s : Setup) → IsGood s → (p : ℕ) (past : Past) (st : Stage) (flick : Bool) → (r : Running s p (own p past) st) →
@@ -89,13 +89,13 @@ running_next s g p past st flick r = ap (option_map (entry_made s past p flick))
     at = place_of c (accesses_of (since starts mine))
 
     on : (n : Next) × (scripted c (read_so_far s (since starts mine)).finished len ≡ Some n)
-    on = runs_on c (read_so_far s (since starts mine)) len r.at r.stands r.not_over
+    on = runs_on c (read_so_far s (since starts mine)) len r.at r.corresponds r.not_over
 
     n : Next
     n = on.0
 
     is : n.access ≡ access_at c at.part at.run
-    is = (next-tied c g (read_so_far s (since starts mine)) len r.at at n r.stands r.tied on.1).1
+    is = (next-tied c g (read_so_far s (since starts mine)) len r.at at n r.corresponds r.tied on.1).1
 
     prog : nth len (program s p flick mine) ≡ Some n
     prog = ap (λ m. nth len (program_from s p flick mine m)) r.begun ∙ ap (λ l. nth len (local_program c (read_so_far s l).finished)) r.same ∙ on.1
@@ -109,7 +109,7 @@ running_next s g p past st flick r = ap (option_map (entry_made s past p flick))
     marks : marks_at len (program s p flick (bare ∷ mine)) ≡ marks_of c at (value_of (ended v n.access.how))
     marks = ap (λ o. marks_at len (program_from s p flick (bare ∷ mine) o)) r.begun
         ∙ ap (λ l. marks_at len (local_program c (with_access s (Some (ended_with v n.access)) (read_so_far s l)).finished)) r.same
-        ∙ marks-tied c g (read_so_far s (since starts mine)) len r.at at n v r.stands r.tied on.1
+        ∙ marks-tied c g (read_so_far s (since starts mine)) len r.at at n v r.corresponds r.tied on.1
 
     made : entry_made s past p flick n ≡ entry_at s past p flick c at
     made = (λ i. record { process = p; access = Some (valued s past flick n.access); marks = map (placed (length (history s past))) (marks i) })
@@ -131,14 +131,14 @@ at_place s g events p command b run = go (view s g events p)
     go (withdraws w i) = let f : Some (Called command) ≡ Some Withdrew = sym b ∙ w in cc
     go (fails w i) = let f : Some (Called command) ≡ Some Failed = sym b ∙ w in cc
 
-pub running_stands : (s : Setup) → IsGood s → (events : List Event) (p : ℕ) (command : Rattle.plain_store.specs.declared.Command.Command)
+pub running_corresponds : (s : Setup) → IsGood s → (events : List Event) (p : ℕ) (command : Rattle.plain_store.specs.declared.Command.Command)
     → let past : Past = past_of s events in
     let c : Call = last_call s p (own p past) in
     last_start (own p past) ≡ Some (Called command) → is_running (stage p past) ≡ true →
     (is_over (place_of c (accesses_of (since starts (own p past)))).part ≡ false)
     × (stage p past ≡ stage_at (place_of c (accesses_of (since starts (own p past)))))
     × ((flick : Bool) → stepped s past p flick ≡ Some (entry_at s past p flick c (place_of c (accesses_of (since starts (own p past))))))
-running_stands s g events p command b run =
+running_corresponds s g events p command b run =
     let past : Past = past_of s events in
     let r : Running s p (own p past) (stage p past) = at_place s g events p command b run in
     let c : Call = last_call s p (own p past) in

@@ -2,11 +2,11 @@ use Rattle.std.proofs.Common.{◌++◌, ◌∷◌, [], ℕ, get_or, length, ap, 
 use Rattle.std.proofs.lemmas.List.FromFn.{length-map-range_with_len, map-range_with_len_more}
 use Rattle.reader_copies.specs.{open_flags}
 use Rattle.reader_copies.proofs.Cells.{cells-open}
-use Rattle.reader_copies.proofs.copies.Copies.open.Goals as goal
+use Rattle.reader_copies.proofs.copies.Copies.from_words.Goals as goal
 
 pub loop-place-preserved : goal.loop-place-preserved
 loop-place-preserved c =
-    c.in_ok-push.ensures.items ∙ (λ i. c.loop-place.invariant i ++ c.open.ensures i ∷ [])
+    c.in_ok-push.ensures.items ∙ (λ i. c.loop-place.invariant i ++ c.from_word.ensures i ∷ [])
     ∙ sym (map-range_with_len_more (λ p. open_flags (get_or c.args.words.now p 0)) 0 c.loop-place.place c.loop-place.place (omega arith))
 
 pub invariant_of-result : goal.invariant_of-result

@@ -1,4 +1,4 @@
--- The state of a course, and the run that it shows.
+-- The state of a scenario run, and the run that it shows.
 use Rattle.std.specs.Prelude.{◌≡◌, ◌≤◌, ℕ, zero, suc, [], Option, Some}
 use Rattle.plain_store.specs.{Setup}
 use Rattle.model.specs.{Past}
@@ -17,7 +17,7 @@ pub record ScenarioRunState : Type 0 where
   pub flicks : FlickState
   pub remaining : ℕ
 
--- the course with these parts
+-- the scenario run with these parts
 abbrev pub scenario_run : WorldState → FlickState → ℕ → ScenarioRunState
 scenario_run w flicks remaining = record { world = w; flicks = flicks; remaining = remaining }
 
@@ -26,12 +26,12 @@ pub record KeepsScenarioRun (processes : ℕ) (world : WorldState) : Type 0 wher
   pub are : processes ≡ world.setup.processes
   pub few : processes ≤ 16
 
--- the course shows a run: its world shows the record of what has happened, and its flicks are those of the run
+-- the scenario run shows a run: its world shows the record of what has happened, and its flicks are those of the run
 pub record Follows (scenario_run : ScenarioRunState) (run : Run) : Type 0 where
   pub shows : Shows scenario_run.world (tried run.happened)
   pub flicks : scenario_run.flicks ≡ run.flicks
 
--- the course makes a turn, and reports what happens in it
+-- the scenario run makes a turn, and reports what happens in it
 pub record Makes (old : ScenarioRunState) (run : Run) (turn : Turn) (answer : Option TurnReport) (new : ScenarioRunState) : Type 0 where
   pub reports : Reports old.world.setup (past_after old.world.setup run.happened) turn.this answer
   pub follows : Follows new turn.run

@@ -1,4 +1,4 @@
--- Facts about a world whose past a snapshot has observed.
+-- Facts about a world whose past an observed run has observed.
 use Rattle.std.proofs.Common.{◌≡◌, ◌<◌, ℕ, nat_lt, Bool, true, false, cond, List, Option, None, Some, refl, ap, sym, subst, ◌∙◌, arith}
 use Rattle.std.proofs.lemmas.Bool.Decides.{nat_tests}
 use Rattle.std.specs.Prelude.{OnOk, Result, Ok, Err}
@@ -12,7 +12,7 @@ use Rattle.calls.specs.world.process.{ProcessState, process_after}
 use Rattle.calls.specs.world.{CoreState, InEachCorePast, WorldState, stage_in}
 use Rattle.run_state.specs.{AreGiven, AreOf, ComesNext, CoreShows, ProcessLines, SnapshotState, HasObservedWorld, access_in}
 
--- the past, by the snapshot's setup
+-- the past, by the observed run's setup
 pub past_is : (t : SnapshotState) (c : CoreState) (taken : List Taken) (past : Past) → (u : HasObservedWorld t c taken past) → past_of t.setup u.events ≡ past
 past_is t c taken past u = ap (λ (s : Setup). past_of s u.events) (sym u.setup) ∙ sym u.is_past
 

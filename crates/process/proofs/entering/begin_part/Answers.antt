@@ -6,7 +6,7 @@ use Rattle.model.specs.declared.access.Field.TheVariants.{Image0}
 use Rattle.model.specs.safe_number.{bits_in, bits_of_number}
 use Rattle.registers.specs.{CursorState, reading, writing}
 use Rattle.process.proofs.PartOver.{bits-padded, entered-read, entered-write, image-written}
-use Rattle.process.proofs.entering.enter.Goals as goal
+use Rattle.process.proofs.entering.begin_part.Goals as goal
 
 pub returns-in-Reads : goal.returns-in-Reads
 returns-in-Reads c =

@@ -6,8 +6,8 @@ use Rattle.plain_store.specs.{Answer, Caller, Command, Contents, Reply, Setup, c
 use Rattle.plain_store.specs.declared.Answer.TheVariants as answer
 use Rattle.model.specs.{IsAnswerTo, Placed, Stage, Taken, is_at_rest, store_after}
 use Rattle.model.specs.declared.stages.Stage.TheVariants as stage
-use Rattle.board.specs.{PlacedAsAnswered, StandsAt, StandsIn, and_then, called, caller_of, change_at, place_after, store_at}
-use Rattle.board.proofs.Stands.{ComesLast, behind_all, comes_last, last_is, stands_front, stands_longer, stands_push, store-longer}
+use Rattle.board.specs.{PlacedAsAnswered, FitsAt, FitsChanges, and_then, called, caller_of, change_at, place_after, store_at}
+use Rattle.board.proofs.FittingCalls.{ComesLast, behind_all, comes_last, last_is, fits_front, fits_longer, fits_push, store-longer}
 
 -- the caller of the last of n calls
 abbrev pub last_caller : Setup → ℕ → ℕ → Caller
@@ -25,60 +25,60 @@ pub record IsNow (s : Setup) (p n : ℕ) (command : Command) (taken : List (ℕ 
   pub took : TookFrom s list (last_caller s p n) call.command call.place taken
 
 -- the state of the calls of a process that is in this stage and has called n times, last with this command; that call has taken these commands
-pub record Standing (s : Setup) (p : ℕ) (st : Stage) (n : ℕ) (command : Command) (taken : List (ℕ × Reply)) (list : List Taken) (done : List Placed) (now : Option Placed) : Type 0 where
+pub record StageFits (s : Setup) (p : ℕ) (st : Stage) (n : ℕ) (command : Command) (taken : List (ℕ × Reply)) (list : List Taken) (done : List Placed) (now : Option Placed) : Type 0 where
   pub rests : is_at_rest st ≡ true → now ≡ None
   pub count : length (and_then done now) ≡ n
   pub last : IfSome now (IsNow s p n command taken list)
-  pub stands : StandsIn s p (and_then done now) list
+  pub fits : FitsChanges s p (and_then done now) list
 
 -- A process that has not called.
-pub standing_none : (s : Setup) (p : ℕ) → Standing s p stage.Idle 0 Rattle.plain_store.specs.declared.Command.TheVariants.Ask [] [] [] None
-standing_none s p = record {
+pub stage_fits_none : (s : Setup) (p : ℕ) → StageFits s p stage.Idle 0 Rattle.plain_store.specs.declared.Command.TheVariants.Ask [] [] [] None
+stage_fits_none s p = record {
   rests = λ _. refl;
   count = refl;
   last = tt;
-  stands = record { taken = λ k place call at is. cc; answered = λ k call at. cc; order = λ j k place next call later less at_j at_k is is_next. cc };
+  fits = record { taken = λ k place call at is. cc; answered = λ k call at. cc; order = λ j k place next call later less at_j at_k is is_next. cc };
 }
 
 -- A call begins.
-pub standing_called : (s : Setup) (p : ℕ) (st then : Stage) (n : ℕ) (command next : Command) (taken : List (ℕ × Reply)) (list : List Taken) (done : List Placed) (now : Option Placed) → is_at_rest st ≡ true → is_at_rest then ≡ false →
-    Standing s p st n command taken list done now → Standing s p then (suc n) next [] list done (Some (called next))
-standing_called s p st then n command next taken list done now quiet busy h = by now (h.rests quiet) h.count h.stands
+pub stage_fits_called : (s : Setup) (p : ℕ) (st then : Stage) (n : ℕ) (command next : Command) (taken : List (ℕ × Reply)) (list : List Taken) (done : List Placed) (now : Option Placed) → is_at_rest st ≡ true → is_at_rest then ≡ false →
+    StageFits s p st n command taken list done now → StageFits s p then (suc n) next [] list done (Some (called next))
+stage_fits_called s p st then n command next taken list done now quiet busy h = by now (h.rests quiet) h.count h.fits
   where
-    by : (now : Option Placed) → now ≡ None → length (and_then done now) ≡ n → StandsIn s p (and_then done now) list → Standing s p then (suc n) next [] list done (Some (called next))
-    by None is count stands = record {
+    by : (now : Option Placed) → now ≡ None → length (and_then done now) ≡ n → FitsChanges s p (and_then done now) list → StageFits s p then (suc n) next [] list done (Some (called next))
+    by None is count fits = record {
       rests = λ q. let f : true ≡ false = sym q ∙ busy in cc;
       count = let l : length (done ++ called next ∷ []) ≡ length done + 1 = length-append done (called next ∷ []) in omega (arith, l, count);
       last = record { same = refl; unanswered = refl; took = refl };
-      stands = stands_push s p done list (called next) stands tt (λ place is. cc);
+      fits = fits_push s p done list (called next) fits tt (λ place is. cc);
     }
-    by (Some call) is count stands = cc
+    by (Some call) is count fits = cc
 
 -- The stage changes.
-pub standing_on : (s : Setup) (p : ℕ) (st then : Stage) (n : ℕ) (command : Command) (taken : List (ℕ × Reply)) (list : List Taken) (done : List Placed) (now : Option Placed) → (is_at_rest then ≡ true → is_at_rest st ≡ true) →
-    Standing s p st n command taken list done now → Standing s p then n command taken list done now
-standing_on s p st then n command taken list done now quiet h = record { rests = λ q. h.rests (quiet q); count = h.count; last = h.last; stands = h.stands }
+pub stage_fits_on : (s : Setup) (p : ℕ) (st then : Stage) (n : ℕ) (command : Command) (taken : List (ℕ × Reply)) (list : List Taken) (done : List Placed) (now : Option Placed) → (is_at_rest then ≡ true → is_at_rest st ≡ true) →
+    StageFits s p st n command taken list done now → StageFits s p then n command taken list done now
+stage_fits_on s p st then n command taken list done now quiet h = record { rests = λ q. h.rests (quiet q); count = h.count; last = h.last; fits = h.fits }
 
 -- The list of changes grows.
 took_longer : (s : Setup) (list more : List Taken) (caller : Caller) (command : Command) (place : Option ℕ) (taken : List (ℕ × Reply)) → ((k : ℕ) → place ≡ Some k → k ≤ length list) → TookFrom s list caller command place taken → TookFrom s (list ++ more) caller command place taken
 took_longer s list more caller command None taken within h = h
 took_longer s list more caller command (Some place) taken within h = (h.0, h.1 ∙ ap (λ (x : Contents). (h.0, reply_to x command caller) ∷ []) (sym (store-longer s list more place (within place refl))))
 
-pub standing_longer : (s : Setup) (p : ℕ) (st : Stage) (n : ℕ) (command : Command) (taken : List (ℕ × Reply)) (list more : List Taken) (done : List Placed) (now : Option Placed) → Standing s p st n command taken list done now →
-    Standing s p st n command taken (list ++ more) done now
-standing_longer s p st n command taken list more done now h = record {
+pub stage_fits_longer : (s : Setup) (p : ℕ) (st : Stage) (n : ℕ) (command : Command) (taken : List (ℕ × Reply)) (list more : List Taken) (done : List Placed) (now : Option Placed) → StageFits s p st n command taken list done now →
+    StageFits s p st n command taken (list ++ more) done now
+stage_fits_longer s p st n command taken list more done now h = record {
   rests = h.rests;
   count = h.count;
-  last = by now h.last h.stands;
-  stands = stands_longer s p (and_then done now) list more h.stands;
+  last = by now h.last h.fits;
+  fits = fits_longer s p (and_then done now) list more h.fits;
 }
   where
-    by : (now : Option Placed) → IfSome now (IsNow s p n command taken list) → StandsIn s p (and_then done now) list → IfSome now (IsNow s p n command taken (list ++ more))
-    by None h stands = tt
-    by (Some call) h stands = record {
+    by : (now : Option Placed) → IfSome now (IsNow s p n command taken list) → FitsChanges s p (and_then done now) list → IfSome now (IsNow s p n command taken (list ++ more))
+    by None h fits = tt
+    by (Some call) h fits = record {
       same = h.same;
       unanswered = h.unanswered;
-      took = took_longer s list more (last_caller s p n) call.command call.place taken (λ k is. (comes_last s p done list call stands k is).stands.within) h.took;
+      took = took_longer s list more (last_caller s p n) call.command call.place taken (λ k is. (comes_last s p done list call fits k is).fits.within) h.took;
     }
 
 -- A command is taken, with the reply of the store, and adds a change if it is one.
@@ -100,20 +100,20 @@ last_change : (list : List Taken) (b : Bool) (t : Taken) → b ≡ true → slic
 last_change list true t h = last_is list t
 last_change list false t h = cc
 
-pub standing_taken : (s : Setup) (p : ℕ) (st then : Stage) (n : ℕ) (command : Command) (k : ℕ) (r : Reply) (list : List Taken) (done : List Placed) (now : Option Placed) → (is_at_rest then ≡ true → is_at_rest st ≡ true) →
-    r ≡ reply_to (store_after s list) command (last_caller s p n) → Standing s p st n command [] list done now →
-    Standing s p then n command ((k, r) ∷ []) (list ++ one_change s list (last_caller s p n) command r) done (taken_here (length list) now)
-standing_taken s p st then n command k r list done None quiet reply h = record {
+pub stage_fits_taken : (s : Setup) (p : ℕ) (st then : Stage) (n : ℕ) (command : Command) (k : ℕ) (r : Reply) (list : List Taken) (done : List Placed) (now : Option Placed) → (is_at_rest then ≡ true → is_at_rest st ≡ true) →
+    r ≡ reply_to (store_after s list) command (last_caller s p n) → StageFits s p st n command [] list done now →
+    StageFits s p then n command ((k, r) ∷ []) (list ++ one_change s list (last_caller s p n) command r) done (taken_here (length list) now)
+stage_fits_taken s p st then n command k r list done None quiet reply h = record {
   rests = λ _. refl;
   count = h.count;
   last = tt;
-  stands = stands_longer s p done list (one_change s list (last_caller s p n) command r) h.stands;
+  fits = fits_longer s p done list (one_change s list (last_caller s p n) command r) h.fits;
 }
-standing_taken s p st then n command k r list done (Some call) quiet reply h = record {
+stage_fits_taken s p st then n command k r list done (Some call) quiet reply h = record {
   rests = λ q. let f : Some call ≡ None = h.rests (quiet q) in cc;
   count = length-append done (new ∷ []) ∙ (sym (length-append done (call ∷ [])) ∙ h.count);
   last = record { same = h.last.same; unanswered = h.last.unanswered; took = (k, ap (λ (q : Reply). (k, q) ∷ []) (reply ∙ ap (λ (c : Command). reply_to (store_after s list) c caller) (sym h.last.same) ∙ ap (λ (x : Contents). reply_to x call.command caller) (sym here))) };
-  stands = stands_push s p done all new (stands_longer s p done list more before) (subst (λ (a : Option Answer). PlacedAsAnswered a (Some (length list))) (sym h.last.unanswered) tt) (λ place is. comes place (some-is place is));
+  fits = fits_push s p done all new (fits_longer s p done list more before) (subst (λ (a : Option Answer). PlacedAsAnswered a (Some (length list))) (sym h.last.unanswered) tt) (λ place is. comes place (some-is place is));
 }
   where
     caller : Caller
@@ -131,8 +131,8 @@ standing_taken s p st then n command k r list done (Some call) quiet reply h = r
     here : store_at s all (length list) ≡ store_after s list
     here = store-front s list more
 
-    before : StandsIn s p done list
-    before = stands_front s p done (call ∷ []) list h.stands
+    before : FitsChanges s p done list
+    before = fits_front s p done (call ∷ []) list h.fits
 
     some-is : (place : ℕ) → Some (length list) ≡ Some place → length list ≡ place
     some-is place e = cc
@@ -150,8 +150,8 @@ standing_taken s p st then n command k r list done (Some call) quiet reply h = r
         last_change list (changes (store_after s list) command) (record { process = p; command = command; reply = r; number = caller.number }) d
         ∙ (λ i. Some (record { process = p; command = sym h.last.same i; reply = (reply ∙ (λ j. reply_to (sym here j) (sym h.last.same j) caller)) i; number = caller.number }))
 
-    stands_there : StandsAt s all caller new (length list)
-    stands_there = record {
+    fits_there : FitsAt s all caller new (length list)
+    fits_there = record {
       within = let l : length all ≡ length list + length more = length-append list more in omega (arith, l);
       reply = λ q is. let f : None ≡ Some (answer.Reply q) = sym h.last.unanswered ∙ is in cc;
       change = changed;
@@ -159,7 +159,7 @@ standing_taken s p st then n command k r list done (Some call) quiet reply h = r
 
     comes : (place : ℕ) → length list ≡ place → ComesLast s p done all new place
     comes place is = subst (ComesLast s p done all new) is (record {
-      stands = subst (λ (x : Caller). StandsAt s all x new (length list)) (sym same-caller) stands_there;
+      fits = subst (λ (x : Caller). FitsAt s all x new (length list)) (sym same-caller) fits_there;
       order = λ j earlier call at is_earlier. order j earlier call at is_earlier;
     })
       where
@@ -179,14 +179,14 @@ replied_so : (s : Setup) (list : List Taken) (caller : Caller) (command : Comman
     r ≡ reply_to (store_at s list place) command caller
 replied_so s list caller command place r taken reported took = one_reply (reported.0, r) (took.0, reply_to (store_at s list place) command caller) (sym reported.1 ∙ took.1)
 
-pub standing_answered : (s : Setup) (p : ℕ) (st then : Stage) (n : ℕ) (command : Command) (taken : List (ℕ × Reply)) (a : Answer) (list : List Taken) (done : List Placed) (now : Option Placed) → IsAnswerTo a taken →
-    Standing s p st n command taken list done now → Standing s p then n command taken list (and_then done (option_map (λ (call : Placed). record call { answer = Some a }) now)) None
-standing_answered s p st then n command taken a list done None reported h = record { rests = λ _. refl; count = h.count; last = tt; stands = h.stands }
-standing_answered s p st then n command taken a list done (Some call) reported h = record {
+pub stage_fits_answered : (s : Setup) (p : ℕ) (st then : Stage) (n : ℕ) (command : Command) (taken : List (ℕ × Reply)) (a : Answer) (list : List Taken) (done : List Placed) (now : Option Placed) → IsAnswerTo a taken →
+    StageFits s p st n command taken list done now → StageFits s p then n command taken list (and_then done (option_map (λ (call : Placed). record call { answer = Some a }) now)) None
+stage_fits_answered s p st then n command taken a list done None reported h = record { rests = λ _. refl; count = h.count; last = tt; fits = h.fits }
+stage_fits_answered s p st then n command taken a list done (Some call) reported h = record {
   rests = λ _. refl;
   count = length-append done (new ∷ []) ∙ (sym (length-append done (call ∷ [])) ∙ h.count);
   last = tt;
-  stands = stands_push s p done list new (stands_front s p done (call ∷ []) list h.stands) (answered_so s list (last_caller s p n) call.command a call.place taken reported h.last.took) comes;
+  fits = fits_push s p done list new (fits_front s p done (call ∷ []) list h.fits) (answered_so s list (last_caller s p n) call.command a call.place taken reported h.last.took) comes;
 }
   where
     new : Placed
@@ -206,9 +206,9 @@ standing_answered s p st then n command taken a list done (Some call) reported h
 
     comes : (place : ℕ) → call.place ≡ Some place → ComesLast s p done list new place
     comes place is =
-        let c = comes_last s p done list call h.stands place is in
-        record { stands = record { within = c.stands.within; reply = reported_so place is; change = c.stands.change }; order = c.order }
+        let c = comes_last s p done list call h.fits place is in
+        record { fits = record { within = c.fits.within; reply = reported_so place is; change = c.fits.change }; order = c.order }
 
-pub standing_down : (s : Setup) (p : ℕ) (st then : Stage) (n : ℕ) (command : Command) (taken : List (ℕ × Reply)) (list : List Taken) (done : List Placed) (now : Option Placed) → Standing s p st n command taken list done now →
-    Standing s p then n command taken list (and_then done now) None
-standing_down s p st then n command taken list done now h = record { rests = λ _. refl; count = h.count; last = tt; stands = h.stands }
+pub stage_fits_down : (s : Setup) (p : ℕ) (st then : Stage) (n : ℕ) (command : Command) (taken : List (ℕ × Reply)) (list : List Taken) (done : List Placed) (now : Option Placed) → StageFits s p st n command taken list done now →
+    StageFits s p then n command taken list (and_then done now) None
+stage_fits_down s p st then n command taken list done now h = record { rests = λ _. refl; count = h.count; last = tt; fits = h.fits }

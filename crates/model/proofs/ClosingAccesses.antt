@@ -94,13 +94,13 @@ marks_in : (script : Script) (k : ℕ) (n : Next) → nth k script ≡ Some n �
 marks_in script k n h = ap {A = Option Next} (λ o. elim o as (λ _. List Mark) [ None ↦ [] | Some n ↦ n.marks ]) h
 
 -- a process that withdrew
-pub withdrawn_stands : (s : Setup) → IsGood s → (events : List Event) (p : ℕ)
+pub withdrawn_corresponds : (s : Setup) → IsGood s → (events : List Event) (p : ℕ)
     → let past : Past = past_of s events in
     let c : Call = last_call s p (own p past) in
     let at : Closing = closing_of c (withdrawing c) (map value_written (since starts (own p past))) in
     last_start (own p past) ≡ Some Withdrew → stage_in p past ≡ stage.Leaving →
     (closing_stage at ≡ stage.Leaving) × ((flick : Bool) → stepped s past p flick ≡ option_map (closing_entry s past p flick) (closing_next c at flick))
-withdrawn_stands s g events p b st = (
+withdrawn_corresponds s g events p b st = (
   stage-kind at (goes c (withdrawn c) at false len ((rooms s g events p).withdrawing b st) (reports false)) ∙ ap (λ k. cond k stage.Settling stage.Leaving) (keeps-kind c (withdrawing c) fs),
   λ flick. ap (option_map (entry_made s past p flick)) (ap (λ m. nth len (program_from s p flick mine m)) b)
       ∙ same-entries s past p flick (nth len (withdrawn c)) (λ n h. ap (λ m. marks_at len (program_from s p flick (record { process = p; access = Some (valued s past flick n.access); marks = [] } ∷ mine) m)) b ∙ marks_in (withdrawn c) len n h)
@@ -243,13 +243,13 @@ reported-again s past c mine [] flick n h = first-flick s past c mine flick n h
 reported-again s past c mine (f ∷ flicks) flick n h = flick-free c (closing_of c (failing c mine) (f ∷ flicks)) (chosen-after c (closing_of c (failing c mine) flicks) f) _ flick ∙ h
 
 -- the memory unit of a process that failed
-pub unit_stands : (s : Setup) → IsGood s → (events : List Event) (p : ℕ)
+pub unit_corresponds : (s : Setup) → IsGood s → (events : List Event) (p : ℕ)
     → let past : Past = past_of s events in
     let c : Call = last_call s p (own p past) in
     let at : Closing = closing_of c (failing c (before is_failed (own p past))) (map value_written (since is_failed (own p past))) in
     last_start (own p past) ≡ Some Failed → stage_in p past ≡ stage.Settling →
     (closing_stage at ≡ stage.Settling) × ((flick : Bool) → stepped s past p flick ≡ option_map (closing_entry s past p flick) (closing_next c at flick))
-unit_stands s g events p b st = (
+unit_corresponds s g events p b st = (
   stage-kind at (goes c (unit_program c cut (first_flick fs false)) at false len ((rooms s g events p).failing b st (first_flick fs false)) (reports false))
       ∙ ap (λ k. cond k stage.Settling stage.Leaving) (keeps-kind c (failing c cut) fs ∙ failing-kind c cut),
   λ flick. ap (option_map (entry_made s past p flick)) (ap (λ m. nth len (program_from s p flick mine m)) b ∙ reports flick)

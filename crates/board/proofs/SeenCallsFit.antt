@@ -8,19 +8,19 @@ use Rattle.model.specs.{past_of}
 use Rattle.board.specs.{Driven, Drives, EndsWith, IsPrefix, AreInRecord, AreInSeen, ViewState, Walks, WalksTo, WordStep, at_events, called, changes_of, flicks_after, new_view}
 use Rattle.board.specs.declared.driving.Driven.TheVariants as driven
 use Rattle.board.proofs.Along.{prefix-trans}
-use Rattle.board.proofs.Stands.{finished_stand, stands_in_longer, stands_push}
+use Rattle.board.proofs.FittingCalls.{finished_fits, fits_in_longer, fits_push}
 
 -- after a call, which has taken nothing yet
-pub stands_called : (s : Setup) (b : ViewState) (p : ℕ) (command : Command) → AreInSeen s b → AreInSeen s (at_events s b (event.Call p command ∷ []))
-stands_called s b p command h = record {
-  stands = stands_push s b.own.process b.own.calls.done b.seen (called command) (finished_stand s b.own.process b.own.calls.done b.own.calls.now b.seen h.stands) tt (λ place is. cc);
+pub fits_called : (s : Setup) (b : ViewState) (p : ℕ) (command : Command) → AreInSeen s b → AreInSeen s (at_events s b (event.Call p command ∷ []))
+fits_called s b p command h = record {
+  fits = fits_push s b.own.process b.own.calls.done b.seen (called command) (finished_fits s b.own.process b.own.calls.done b.own.calls.now b.seen h.fits) tt (λ place is. cc);
   seen = h.seen;
 }
 
 -- for a process that has done nothing
-pub stands_new : (s : Setup) → are_pairs s.opening ≡ true → (p made : ℕ) → AreInSeen s (new_view p made)
-stands_new s pairs p made = record {
-  stands = record { taken = λ k place call at is. cc; answered = λ k call at. cc; order = λ j k place next call later less at_j at_k is is_next. cc };
+pub fits_new : (s : Setup) → are_pairs s.opening ≡ true → (p made : ℕ) → AreInSeen s (new_view p made)
+fits_new s pairs p made = record {
+  fits = record { taken = λ k place call at is. cc; answered = λ k call at. cc; order = λ j k place next call later less at_j at_k is is_next. cc };
   seen = record { events = []; given = record { opening = pairs; commands = refl }; first = ([], refl) };
 }
 
@@ -29,7 +29,7 @@ pub in_record : (s : Setup) (v : ViewState) → AreInSeen s v → AreInRecord s 
 in_record s v h = record {
   events = h.seen.events;
   given = h.seen.given;
-  stands = stands_in_longer s v.own.process v.own.calls.done v.seen (changes_of s (past_of s h.seen.events)) h.seen.first (finished_stand s v.own.process v.own.calls.done v.own.calls.now v.seen h.stands);
+  fits = fits_in_longer s v.own.process v.own.calls.done v.seen (changes_of s (past_of s h.seen.events)) h.seen.first (finished_fits s v.own.process v.own.calls.done v.own.calls.now v.seen h.fits);
 }
 
 -- No change that was seen is forgotten.

@@ -5,9 +5,9 @@ use Rattle.lock_stages.specs.{HavePassages}
 use Rattle.any_lock.specs.{LockRunState, Knows, ProcessView, passage_in, process_view}
 use Rattle.any_lock.proofs.Unmarked.{given_at}
 
-pub stands_there : (k now : LockRunState) (past : Past) (i p : ℕ) (x : ProcessView) → k ≡ now → i ≡ p → p < now.setup.processes → x ≡ get_or k.process_views i x → Knows now past →
+pub view_looked_up : (k now : LockRunState) (past : Past) (i p : ℕ) (x : ProcessView) → k ≡ now → i ≡ p → p < now.setup.processes → x ≡ get_or k.process_views i x → Knows now past →
     x ≡ process_view now.setup p past
-stands_there k now past i p x is same below read knows =
+view_looked_up k now past i p x is same below read knows =
     read ∙ given_at k.process_views i x (process_view now.setup p past) ((λ j. slice_get (is j).process_views (same j)) ∙ knows.process_views p below)
 
 -- the passages of the kept states are those of the past
