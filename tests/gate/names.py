@@ -7,6 +7,8 @@ under another name (`use board::Store as Words`); specs may, since a definition 
 No crate, module, type, function or definition has one of the names in `OLD`, which had to be explained, or one of the words in
 `WORDS`, for which the glossary has the field's term. A clause is named after what it fixes, so none has a name in `CLAUSES`. No line
 that begins a clause is longer than 100 columns.
+
+A page of docs/ names in backticks only what a source names outside of comments, or what `OUTSIDE` lists.
 """
 
 import collections
@@ -33,8 +35,8 @@ StandsInSeen StepTold Stepped StepsAreOfWhomMoves Tabler TicketKnown Until Wante
 course fails_are_of_whom_stands fault_place flicks read_law steps_are_of_whom_moves
 """.split())
 WORDS = set("""
-hear heard hearer hearers hearing hears listener listeners listening overheard overhears tell telling tellings tells told
-unheard untold watch watched watches watching
+hear heard hearer hearers hearing hears lend lends lent listener listeners listening onlooker onlookers overhear overheard
+overhearing overhears stand standing stands stood tell telling tellings tells told unheard untold watch watched watches watching
 """.split())
 CLAUSES = set("""
 few goes ok some there
@@ -48,6 +50,18 @@ DECLARED = {
     ".antt": re.compile(r"^(?:pub )?(?:abbrev|unfoldable|record|data)(?: pub)? (\w+)", re.M),
 }
 WIDTH = 100
+
+# what is between backticks on a page and has the form of a name
+IN_PAGE = re.compile(r"`([A-Za-z_]\w*)`")
+FENCED = re.compile(r"^```.*?^```", re.M | re.S)
+# comments, by the ending of a file
+COMMENTS = {
+    ".rt": re.compile(r"//.*"),
+    ".antt": re.compile(r"(?:^|\s)--\s.*", re.M),
+    ".py": re.compile(r'"""(?:.|\n)*?"""|#.*'),
+}
+# names of the toolchain, of pseudocode, and of an earlier version
+OUTSIDE = {"LockedStdin", "await", "clang", "my_lock", "replayer"}
 
 
 def words_of(name):
@@ -81,6 +95,35 @@ def check_clauses(counter):
             counter.count(len(found[0]) <= WIDTH, f"{place}: a clause of {len(found[0])} columns: {found[0].strip()[:60]}")
 
 
+def sources():
+    """The files that are no page: sources, proofs, tests, and what the examples, lessons and figures consist of."""
+    for folder in ("crates", "tests", "examples", "lessons", "bench"):
+        for path in sorted((TOP / folder).rglob("*")):
+            made = {"out", "__pycache__"} & set(path.relative_to(TOP).parts)
+            # this file lists names that are gone
+            if path.suffix != ".md" and not made and path.is_file() and path != pathlib.Path(__file__).resolve():
+                yield path
+
+
+def words_of_sources():
+    """Each word of the sources, without comments."""
+    words = set()
+    for path in sources():
+        text = path.read_text(errors="replace")
+        if path.suffix in COMMENTS:
+            text = COMMENTS[path.suffix].sub("", text)
+        words.update(re.findall(r"[A-Za-z_]\w*", f"{path.relative_to(TOP)}\n{text}"))
+    return words
+
+
+def check_pages(counter):
+    """Whether what a page of docs/ names in backticks is named so in a source."""
+    known = words_of_sources() | OUTSIDE
+    for path in sorted((TOP / "docs").glob("*.md")):
+        lost = sorted(set(IN_PAGE.findall(FENCED.sub("", path.read_text()))) - known)
+        counter.count(not lost, f"docs/{path.name} names what no source has: {', '.join(lost)}")
+
+
 def main():
     counter = Counter()
     places = collections.defaultdict(set)
@@ -95,6 +138,7 @@ def main():
         counter.count(len(where) == 1, f"several types are called {name}: {', '.join(sorted(where))}")
     check_names(counter)
     check_clauses(counter)
+    check_pages(counter)
     counter.end()
 
 
