@@ -12,7 +12,7 @@ ghost use Rattle.draw.specs.Canvases.{DrawsLast, DrawsLines, DrawsMarks, DrawsOn
 ghost use Rattle.draw.specs.Items.{GivesAccess, GivesRead, gives_access, says_of};
 ghost use Rattle.draw.specs.Overlaps.{ObservesAll, ReportsEnd, overlapped_by, shown_of};
 ghost use Rattle.draw.specs.TakenStores.{IsAfterMarks};
-ghost use Rattle.draw.specs.Writing.{IsWriteFault, failed_write};
+ghost use Rattle.scenario.specs.files.{IsWriteFault, failed_write};
 
 use crate::overlaps::{OverlapsObserved, take_ended};
 use crate::store_changes::words_by_pairs;

@@ -9,7 +9,7 @@ ghost use Rattle.draw.specs.Canvases.{DrawsLast, DrawsLines, DrawsOn, kept, kept
 ghost use Rattle.draw.specs.Drawings.{DrawsPart, HasOpening, Recalls, MonitorsAccesses, observes as is_observing};
 ghost use Rattle.draw.specs.Items.{Part, PartEntry, PartLine, entries_among, given_access_of, says_of};
 ghost use Rattle.draw.specs.Overlaps.{ReportsEnd};
-ghost use Rattle.draw.specs.Writing.{IsWriteFault, failed_write};
+ghost use Rattle.scenario.specs.files.{IsWriteFault, failed_write};
 ghost use Rattle.draw.specs.declared.views.AccessView.{AccessView as Seen};
 
 use crate::canvas::Canvas;

@@ -2,7 +2,7 @@
 ghost use Rattle.std.specs.Prelude.{◌≡◌, ◌+◌, ◌-◌, ◌^◌, ◌<◌, IfErr, IfOk, OnOk};
 ghost use Rattle.picture.specs.{picture_back, picture_front, picture_names};
 ghost use Rattle.draw.specs.PictureForm.{EndsPage, IsAround};
-ghost use Rattle.draw.specs.Writing.{IsWriteFault, failed_write};
+ghost use Rattle.scenario.specs.files.{IsWriteFault, failed_write};
 
 use crate::writing::write_markup;
 use picture::{Markup, Reads, Subject, page_end, picture_end, picture_head};

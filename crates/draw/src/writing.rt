@@ -3,7 +3,7 @@ ghost use Rattle.std.specs.Prelude.{◌≡◌, ◌+◌, ◌-◌, ◌^◌, ◌<�
 ghost use Rattle.picture.specs.markup.{EndsAll, lines_in};
 ghost use Rattle.picture.specs.{band_text, lines_of_band};
 ghost use Rattle.draw.specs.Canvases.{Draws, Writes};
-ghost use Rattle.draw.specs.Writing.{IsWriteFault, failed_write};
+ghost use Rattle.scenario.specs.files.{IsWriteFault, failed_write};
 
 use picture::Markup;
 use scenario::{Fault, Sink, write_all};

@@ -4,11 +4,10 @@ ghost use Rattle.std.specs.Prelude.{◌≡◌, ◌+◌, ◌-◌, ◌^◌, ◌<�
 ghost use Rattle.judge.specs.safe_monitor.declared.verdicts.Verdict.TheVariants.{Good};
 ghost use Rattle.scenario.specs.files.Engines.{Ran, streams};
 ghost use Rattle.engines.specs.Sinks.{Wrote, WroteFront};
-ghost use Rattle.scenario.specs.files.{ReadsFront};
+ghost use Rattle.scenario.specs.files.{IsWriteFault, ReadsFront, failed_write};
 ghost use Rattle.scenario.specs.{script};
 ghost use Rattle.engines.specs.Audits.{InputReportsVerdict, IsRunVerdict, ReportsVerdict, audit_text, audited, run_length};
 ghost use Rattle.scenario_run.specs.{ended};
-ghost use Rattle.scenario_run.specs.Writing.{IsWriteFault, failed_write};
 
 use crate::writing::write_line;
 use judge::{Audited, status_of, verdict_line};

@@ -5,9 +5,9 @@ ghost use Rattle.scenario.specs.files.Engines.{Ran, streams};
 ghost use Rattle.scenario.specs.{script};
 ghost use Rattle.engines.specs.Replayings.{IsRunSummary};
 ghost use Rattle.engines.specs.Sinks.{Wrote, WroteFront};
-ghost use Rattle.scenario.specs.files.{ReadsFront};
+ghost use Rattle.scenario.specs.files.{IsWriteFault, ReadsFront, failed_write};
 ghost use Rattle.scenario_run.specs.{CanCount, InputKeepsMainTheorem, IsSummaryOf, RunKeepsMainTheorem, Took, TookPart, can_count_less, ended, part_before, part_on, part_unobserved, replay_text, replayed, text_longer, text_of, took_none, took_on};
-ghost use Rattle.scenario_run.specs.Writing.{Counts, IsWriteFault, failed_write};
+ghost use Rattle.scenario_run.specs.Writing.{Counts};
 
 use crate::writing::{write_end, write_turn};
 use scenario::progress::ProgressObserver;

@@ -59,3 +59,18 @@ IsReadFault (Line fault) = ⊥
 abbrev pub failed_writing : {A : Type 0} → Result A Fault → ℕ
 failed_writing (Ok done) = 0
 failed_writing (Err fault) = 1
+
+-- writing ends early only by a call that failed, or because memory ran out
+abbrev pub IsWriteFault : Fault → Type 0
+IsWriteFault Write = Unit {0}
+IsWriteFault Memory = Unit {0}
+IsWriteFault Read = ⊥
+IsWriteFault (Line fault) = ⊥
+
+-- 1 if a call of the sink failed
+abbrev pub failed_write : {A : Type 0} → Result A Fault → ℕ
+failed_write (Err Write) = 1
+failed_write (Err Memory) = 0
+failed_write (Err Read) = 0
+failed_write (Err (Line fault)) = 0
+failed_write (Ok done) = 0

@@ -38,7 +38,8 @@ pub use Takings.{Took, TookPart, part_before, part_on, part_unobserved, took_non
 pub use Reporting.{AddsMarks, IsMarked, Reports, ReportsOf, entry_made, events_reported, is_step, marks_made, reported_step, reported_text, reported_unmarked}
 pub use Texts.{end_line, entry_text, mark_line, newest_store, newest_words, refused_line, replay_text, replayed, store_text, text_at, text_of}
 pub use Turns.{Turn, ends, go_rest, go_turn, happens, made_turn, next_turn, on_turn, once, part_of_line, rest_of, step_turn, turn_of, turns_in, turns_made, wander_turn}
-pub use Writing.{IsWriteFault, Writes, WritesPart, failed_write}
+pub use Writing.{Writes, WritesPart}
+pub use Rattle.scenario.specs.files.{IsWriteFault, failed_write}
 pub use declared.reports.Accepted.{Accepted}
 pub use declared.audits.RunAudit.{RunAudit}
 pub use declared.reports.UnmarkedStep.{UnmarkedStep}

@@ -1,10 +1,10 @@
 -- The part of a growing text that a sink took, while an observer observes a run.
 use Rattle.std.specs.Prelude.{◌≡◌, ◌+◌, ℕ, List, ◌++◌, Option, Err, refl}
 use Rattle.std.proofs.Common.{ap, sym, ◌∙◌, add-zero}
-use Rattle.scenario.specs.files.{Fault}
+use Rattle.scenario.specs.files.{Fault, IsWriteFault, failed_write}
 use Rattle.scenario.specs.files.declared.faults.Fault.TheVariants.{Memory}
 use Rattle.scenario_run.specs.Growing.{part_after, part_longer, part_none, writes_both, writes_none}
-use Rattle.scenario_run.specs.Writing.{IsWriteFault, Writes, WritesPart, failed_write}
+use Rattle.scenario_run.specs.Writing.{Writes, WritesPart}
 
 -- if P held before, the text that was added was written; no call failed
 pub record Took (P : Type 0) (before after : List ℕ) (old new : Option (List ℕ)) (failed fails : ℕ) : Type 0 where

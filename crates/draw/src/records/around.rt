@@ -5,7 +5,7 @@ ghost use Rattle.picture.specs.{page_front, page_names};
 ghost use Rattle.picture.specs.declared.subjects.Subject.TheVariants as subject;
 ghost use Rattle.picture.specs.markup.{lines_in, opens_in};
 ghost use Rattle.draw.specs.Sheets.{Heads, IsDrawn, listed};
-ghost use Rattle.draw.specs.Writing.{IsWriteFault, failed_write};
+ghost use Rattle.scenario.specs.files.{IsWriteFault, failed_write};
 
 use crate::records::drawing::RecordDrawing;
 use crate::views::AccessView;

@@ -10,7 +10,7 @@ ghost use Rattle.draw.specs.Overlaps.{ReportsEnd, Monitors};
 ghost use Rattle.draw.specs.RecordDrawings.{DrawsEntry, RecordRecalls};
 ghost use Rattle.draw.specs.RecordItems.{source_of};
 ghost use Rattle.draw.specs.Drawings.{HasOpening};
-ghost use Rattle.draw.specs.Writing.{IsWriteFault, failed_write};
+ghost use Rattle.scenario.specs.files.{IsWriteFault, failed_write};
 ghost use Rattle.draw.specs.declared.views.AccessView.{AccessView as Seen};
 
 use crate::drawing::{Drawing, lines_of_setup};

@@ -2,10 +2,9 @@
 ghost use Rattle.std.specs.Prelude.{◌≡◌, ◌+◌, ◌-◌, ◌^◌, ◌<◌, ℕ, [], false, IfErr, IfOk, IfSome, List, None, Ok, OnOk, Option, Some};
 ghost use Rattle.model.specs.plain_store.{checked};
 ghost use Rattle.std.specs.Io.KnownBytes.{IsAtEnd};
-ghost use Rattle.scenario.specs.files.{failed_reading, streams};
+ghost use Rattle.scenario.specs.files.{IsWriteFault, failed_reading, failed_write, streams};
 ghost use Rattle.picture.specs.declared.page.Form.TheVariants as form_variants;
 ghost use Rattle.picture.specs.declared.reads.PictureOptions.{PictureOptions as Options};
-ghost use Rattle.draw.specs.Writing.{IsWriteFault, failed_write};
 ghost use Rattle.judge.specs.record_file.{Said};
 ghost use Rattle.draw.specs.Judges.{DrewJudgedBy};
 ghost use Rattle.draw.specs.Sheets.{DrawsAllBands, DrawsAsked, DrawsBandsOf, DrewRecord, DrewJudged, IsDrawFault, Corresponds};

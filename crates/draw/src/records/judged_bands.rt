@@ -2,10 +2,9 @@
 ghost use Rattle.std.specs.Prelude.{◌≡◌, ◌+◌, ◌-◌, ◌^◌, ◌<◌, ℕ, [], false, IfErr, IfOk, IfSome, List, None, Ok, OnOk, Option};
 ghost use Rattle.model.specs.plain_store.{checked};
 ghost use Rattle.std.specs.Io.KnownBytes.{IsAtEnd};
-ghost use Rattle.scenario.specs.files.{failed_reading};
+ghost use Rattle.scenario.specs.files.{failed_reading, failed_write};
 ghost use Rattle.judge.specs.{IsOfRecord};
 ghost use Rattle.judge.specs.Trials.{Corresponds as ObserverCorresponds};
-ghost use Rattle.draw.specs.Writing.{failed_write};
 ghost use Rattle.model.specs.{Entry as Noted};
 ghost use Rattle.judge.specs.record_file.{Progress};
 ghost use Rattle.draw.specs.Judgings.{HasRead, ReportsOfLines};

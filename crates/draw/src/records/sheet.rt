@@ -3,7 +3,7 @@ ghost use Rattle.std.specs.Prelude.{◌≡◌, ◌+◌, ◌-◌, ◌^◌, ◌<�
 ghost use Rattle.model.specs.plain_store.{checked};
 ghost use Rattle.model.specs.{Past};
 ghost use Rattle.judge.specs.record_file.{Progress, line_read};
-ghost use Rattle.draw.specs.Writing.{IsWriteFault, failed_write};
+ghost use Rattle.scenario.specs.files.{IsWriteFault, failed_write};
 ghost use Rattle.draw.specs.Sheets.{EndsAsked, GoesOn, LineStops, Corresponds, entries_of};
 
 use crate::records::around::PictureForm;

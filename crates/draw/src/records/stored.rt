@@ -8,7 +8,7 @@ ghost use Rattle.draw.specs.Items.{SaysEnd};
 ghost use Rattle.draw.specs.RecordItems.{source_of};
 ghost use Rattle.draw.specs.Sheets.{AreStored, DrawsPast, EndsAsked, IsDrawn, entries_of};
 ghost use Rattle.draw.specs.Views.{most_asked, most_stored};
-ghost use Rattle.draw.specs.Writing.{IsWriteFault, failed_write};
+ghost use Rattle.scenario.specs.files.{IsWriteFault, failed_write};
 
 use crate::records::around::PictureForm;
 use crate::records::drawing::RecordDrawing;

@@ -4,7 +4,7 @@ ghost use Rattle.model.specs.plain_store.{checked};
 ghost use Rattle.picture.specs.{WindowPlan};
 ghost use Rattle.draw.specs.Canvases.{DrawsBands, DrawsLast, kept, kept_at_first, plan_of};
 ghost use Rattle.draw.specs.Drawings.{HasOpening, Recalls};
-ghost use Rattle.draw.specs.Writing.{IsWriteFault, failed_write};
+ghost use Rattle.scenario.specs.files.{IsWriteFault, failed_write};
 ghost use Rattle.scenario.specs.{script};
 ghost use Rattle.scenario_run.specs.{Follows, counted, happenings, run_at_start, summary_of};
 ghost use Rattle.draw.specs.RunDrawings.{DrawsReported, tally};

@@ -1,10 +1,9 @@
 //! The commands `draw` and `draw-svg` for scenarios.
 ghost use Rattle.std.specs.Prelude.{◌≡◌, ◌+◌, ◌-◌, ◌^◌, ◌<◌, [], IfErr, IfOk, Ok, OnOk, Some};
 ghost use Rattle.model.specs.plain_store.{checked, opening_store};
-ghost use Rattle.draw.specs.Writing.{IsWriteFault, failed_write};
 ghost use Rattle.picture.specs.{page_back, page_names};
 ghost use Rattle.picture.specs.markup.{lines_in, opens_in};
-ghost use Rattle.scenario.specs.files.{ReadsFront, streams};
+ghost use Rattle.scenario.specs.files.{IsWriteFault, ReadsFront, failed_write, streams};
 ghost use Rattle.scenario.specs.{script};
 ghost use Rattle.scenario_run.specs.{IsSummaryOf, ended, happenings, summary_of};
 ghost use Rattle.picture.specs.declared.page.Form.TheVariants as form_variants;

@@ -1,7 +1,7 @@
 //! An observer that draws the turns of a run.
 ghost use Rattle.std.specs.Prelude.{◌≡◌, ◌+◌, ◌-◌, ◌^◌, ◌<◌, ℕ, Err, IfErr, OnOk, refl};
 ghost use Rattle.std.proofs.Common.{add-zero, ap, sym, ◌∙◌};
-ghost use Rattle.draw.specs.Writing.{IsWriteFault, failed_write};
+ghost use Rattle.scenario.specs.files.{IsWriteFault, failed_write};
 ghost use Rattle.scenario_run.specs.{CanCount, can_count_less};
 ghost use Rattle.draw.specs.Drawings.{observes};
 ghost use Rattle.draw.specs.RunDrawings.{DrawsLine, GoesOnDrawing, tally};
