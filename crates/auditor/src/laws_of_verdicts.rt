@@ -16,8 +16,8 @@ pub fn records_have_one_verdict()
     ensures { VerdictsAreUnique }
 {}
 
-/// In a record in which each entry keeps each law, each access is of a bit that exists. Therefore a watch that has observed it
-/// decides exactly whether the next entry keeps the law `Safe`, whatever that entry is.
+/// In a record in which each entry keeps each law, each access is of a bit that exists. Therefore a monitor that has
+/// observed it decides exactly whether the next entry keeps the law `Safe`, whatever that entry is.
 pub fn good_records_access_what_is_there()
     ensures { GoodAccessesAreThere }
 {}

@@ -21,9 +21,9 @@ use Rattle.judge.proofs.any_lock.Markings.{or_false, with_marks}
 use Rattle.judge.proofs.any_lock.Steps.{process_view-other}
 use Rattle.judge.proofs.any_lock.Whole.{one_alone, whole_applied}
 
--- What a process has open is its last access.
+-- The access that a process has open is its last access.
 
--- what is left open was open
+-- an access that is open after a mark was open before it
 was_open : (o : Option BegunAccess) (m : Mark) (b : BegunAccess) → left_open o m ≡ Some b → o ≡ Some b
 was_open o mark.Failed b is = absurd (cc)
 was_open None mark.Withdrew b is = is
@@ -75,7 +75,7 @@ same_back a b same =
     back : (m n : ℕ) → (n == m) ≡ true → (m == n) ≡ true
     back m n h = eq-eqb m n (sym (eqb-true n m h))
 
--- so the end of what is open ends the process's own read
+-- so the end of an open access ends the process's own read
 ends_own : (p : ℕ) (past : Past) (a : Access) → is_of_read a.how ≡ true → is_end_of (opened p past) a ≡ true → begins_read_of (last_access p past) a ≡ true
 ends_own p past a ends h = go (opened p past) refl h
   where
@@ -96,7 +96,7 @@ ends_own p past a ends h = go (opened p past) refl h
 
 -- Overlapped reads are those of a run.
 
--- what is known of an access that is not refused
+-- the facts about an access that is not refused
 record IsAllowed (s : Setup) (p : ℕ) (past : Past) (a : Access) : Type 0 where
   pub there : is_there s a ≡ true
   pub fits : (is_end a.how && not (is_end_of (opened p past) a)) ≡ false
@@ -137,11 +137,11 @@ overlaps_same s past e kept = by e.access kept.access
 
 -- Calls.
 
--- one that calls is at such a stage
+-- a process with an unfinished call is at work
 abbrev IsAtCall : Bool → Stage → Type 0
 IsAtCall calling at = calling ≡ true → is_at_work at ≡ true
 
--- whether a call goes on after a mark, which may be its first
+-- whether a call continues after a mark, which may be its first mark
 abbrev calling_after : Bool → Mark → Bool
 calling_after calling (mark.Called c) = true
 calling_after calling m = goes_on_after calling m
@@ -171,7 +171,7 @@ call_all : (s : Setup) (n : ℕ) (ms : List Mark) (k : ProcessView) (calling : B
 call_all s n [] k calling none at = at
 call_all s n (m ∷ ms) k calling none at = call_all s n ms (marked s n k m) (calling_after calling m) (rest_unrefused s n k m ms none) (call_marked s n k m calling (first_unrefused s n k m ms none) at)
 
--- whether p calls, behind an entry of its own
+-- whether p has a call after an entry of its own
 uncalled : (calling : Bool) (ms : List Mark) → list_any is_called ms ≡ false → fold goes_on_after calling ms ≡ fold calling_after calling ms
 uncalled calling [] none = refl
 uncalled calling (mark.Called c ∷ ms) none = absurd (true≢false none)
@@ -186,7 +186,7 @@ uncalled calling (mark.Down ∷ ms) none = uncalled false ms none
 uncalled calling (mark.Withdrew ∷ ms) none = uncalled calling ms none
 uncalled calling (mark.Restarted ∷ ms) none = uncalled calling ms none
 
--- a call stands alone
+-- a mark that begins a call has to be the only mark of its entry
 called_alone : (ms : List Mark) → list_any is_called ms ≡ true → list_any must_be_alone ms ≡ true
 called_alone [] some = some
 called_alone (mark.Called c ∷ ms) some = refl
@@ -253,7 +253,7 @@ rested stage.Down a b = refl
 rested stage.Settling a b = absurd (true≢false b)
 rested _ a b = absurd (true≢false a)
 
--- so a process that calls has no call that goes on
+-- so a process that calls has no unfinished call
 pub calls_at_rest : (s : Setup) (past : Past) (e : Entry) → AllKeep s past → Keeps s past e → has is_called e ≡ true → is_calling e.process past ≡ false
 calls_at_rest s past e all kept some = by (is_calling e.process past) (all_at_call s past all e.process)
   where

@@ -1,4 +1,4 @@
--- What is kept while the entries of a record are heard.
+-- What a table stores while the entries of a record are observed.
 use Rattle.std.proofs.Common.{◌≡◌, ℕ, ◌<◌, Bool, List, [], ◌∷◌, ◌++◌, length, reverse, Option, ap, sym, subst, ◌∙◌, append_assoc}
 use Rattle.std.proofs.lemmas.List.{reverse-append}
 use Rattle.plain_store.specs.{Setup}

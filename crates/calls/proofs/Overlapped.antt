@@ -1,4 +1,4 @@
--- What a watch and the last access of each process tell of overlapped reads.
+-- The reports of a monitor and of the last access of each process on overlapped reads.
 use Rattle.std.proofs.Common.{◌≡◌, ℕ, ◌<◌, ◌==◌, ◌&&◌, Bool, true, false, cond, get_or, set, List, [], ◌∷◌, ◌++◌, Option, None, Some, true≢false, refl, ap, sym, subst, ◌∙◌, arith, inl, inr, ne_eqb, eq-eqb}
 use Rattle.std.proofs.lemmas.Bool.{and_parts, cases_eq}
 use Rattle.std.proofs.lemmas.Bool.Decides.{nat_tests}
@@ -42,7 +42,7 @@ begins_with a x moves is =
     let both = and_parts (is_begin_of_read x.how) (same_bit a x) is in
     ap (λ b. begins_read (cond b (x.how ∷ []) [] ++ moves)) both.1 ∙ begins_here x.how moves both.0
 
--- where a process's last access began a read of a bit, a read of that bit has begun
+-- if the last access of a process began a read of a bit, a read of that bit has begun
 begun_reads : (p : ℕ) (a : Access) (past : Past) → begins_read_of (last_access p past) a ≡ true → begins_read (moves_of a past) ≡ true
 begun_reads p a [] is = absurd (true≢false (sym is))
 begun_reads p a (e ∷ past) is = by (e.process == p) e.access is (begun_reads p a past)
@@ -53,7 +53,7 @@ begun_reads p a (e ∷ past) is = by (e.process == p) e.access is (begun_reads p
     by true (Some x) is before = begins_with a x (moves_of a past) is
     by false o is before = begins_behind a o (moves_of a past) (before is)
 
--- What is told.
+-- The report.
 
 same_end : (moves : List Move) (how : Move) → looks.ends_overlapped moves how ≡ ends_overlapped moves how
 same_end moves (EndRead v) = refl
@@ -70,7 +70,7 @@ not_there s a is there =
 few : (s : Setup) (past : Past) (w : OverlapMonitor) (p : ℕ) → Monitors s past w → p < s.processes → p < 16
 few s past w p h below = omega (arith, few-processes s h.good, below)
 
--- where the process's last access began the read
+-- the last access of the process began the read
 pub reported_begun : (s : Setup) (past : Past) (w : OverlapMonitor) (p : ℕ) (a : Access) (over : Bool) → Monitors s past w → p < s.processes → begins_read_of (get_or w.last p None) a ≡ true →
     ((past : Past) → HasObserved w.monitor past → IsThere w.monitor.setup a → looks.ReportsOverlap over (moves_of a past) a.how) → ((IsThere w.monitor.setup a → ⊥) → over ≡ false) → over ≡ ends_own_overlapped s p past a
 reported_begun s past w p a over h below begun there stray = by (is_there s a) refl
@@ -87,9 +87,9 @@ reported_begun s past w p a over h below begun there stray = by (is_there s a) r
         there past h.observed (subst (λ (s : Setup). IsThere s a) (sym h.monitored) (there_is s a is)) (begun_reads p a past begins)
         ∙ same_end (moves_of a past) a.how ∙ ap (λ b. b && ends_overlapped (moves_of a past) a.how) (sym begins)
 
--- What is kept.
+-- The state.
 
--- p's last access, behind an entry with these parts
+-- p's last access, after an entry with these parts
 pub last_on : (s : Setup) (past : Past) (w : OverlapMonitor) (q : ℕ) (a : Access) (marks : List Mark) → Monitors s past w → (p : ℕ) → p < 16 → get_or (set w.last q (Some a)) p None ≡ last_access p (entry_with q (Some a) marks ∷ past)
 last_on s past w q a marks h p below = elim (cases_eq p q) [
   | inl same ↦ subst (λ q. get_or (set w.last q (Some a)) p None ≡ last_access p (entry_with q (Some a) marks ∷ past)) same mine

@@ -1,4 +1,4 @@
--- The table of a record's calls as an engine writes it, and what is kept while the entries are heard.
+-- The table of a record's calls as an engine writes it, and what it stores while the entries are observed.
 use Rattle.std.specs.Prelude.{◌≡◌, ◌<◌, ℕ, List, ◌++◌, get_or, length, reverse, None, Ok, Result}
 use Rattle.plain_store.specs.{Setup, checked}
 use Rattle.model.specs.{Entry, Past}
@@ -20,7 +20,7 @@ pub record ReportsCalls (s : Setup) (entries : List Entry) (numbers reported : L
 abbrev pub CallsEnd : Result ℕ Fault → Streams → Streams → Type 0
 CallsEnd = TrialEnds ReportsCalls
 
--- a watch has heard these entries, and the last access of each process is kept
+-- a monitor has observed these entries, and the last access of each process is stored
 pub record Monitors (s : Setup) (past : Past) (w : OverlapMonitor) : Type 0 where
   pub good : checked s ≡ Ok tt
   pub monitored : w.monitor.setup ≡ s

@@ -1,4 +1,4 @@
--- The calls of a record, of whatever lock it is and whatever its entries are: what became of each, found by looking back.
+-- The calls of a record of any lock, with any entries. What became of each call is found by looking back.
 use Rattle.std.specs.Prelude.{◌≡◌, ◌-◌, ◌<◌, ℕ, ◌==◌, Bool, true, false, not, ◌&&◌, nat_lt, List, [], ◌∷◌, ◌++◌, cond, flat_map, length, slice_get, Option, None, Some}
 use Rattle.model.specs.safe_bit.{is_begin_of_read, is_begin_of_write}
 use Rattle.model.specs.{Access, Entry, Mark, Past, calls_in, has, is_called, last_command, moves_of, own, processes, same_bit, width}
@@ -36,13 +36,13 @@ begins_read_of (Some b) a = is_begin_of_read b.how && same_bit a b
 abbrev pub ends_own_overlapped : Setup → ℕ → Past → Access → Bool
 ends_own_overlapped s p before a = is_there s a && begins_read_of (last_access p before) a && ends_overlapped (moves_of a before) a.how
 
--- so does the access of an entry
+-- the access of an entry ends such a read
 abbrev pub overlaps_in : Setup → Past → Entry → Bool
 overlaps_in s before e = elim e.access [ None ↦ false | Some a ↦ ends_own_overlapped s e.process before a ]
 
 -- Calls.
 
--- what the accesses of p's last call tell; which process p waited for depends on the lock
+-- the facts that the accesses of p's last call show; which process p waited for depends on the lock
 abbrev pub recorded_accesses : Setup → ℕ → Past → Accesses
 recorded_accesses s p past = record {
   doorway = first_in_call p (accesses_itself p) past;
@@ -85,7 +85,7 @@ abbrev pub recorded_lines : Setup → Past → List ℕ
 recorded_lines s [] = []
 recorded_lines s (e ∷ past) = recorded_lines s past ++ line_of (length past) (ended_recorded s past e)
 
--- the lines of those that have not, by process
+-- the lines of the calls that have not ended, by process
 abbrev pub open_recorded_lines : Setup → Past → List ℕ
 open_recorded_lines s past = flat_map (λ p. line_of (length past - 1) (open_recorded s p past)) (processes s)
 
@@ -93,18 +93,18 @@ open_recorded_lines s past = flat_map (λ p. line_of (length past - 1) (open_rec
 abbrev pub record_table : Setup → Past → List ℕ
 record_table s past = header ++ (recorded_lines s past ++ open_recorded_lines s past)
 
--- What a table keeps.
+-- The state of a table.
 
--- what is kept of p
+-- the state of process p in a table
 abbrev pub listed : Setup → ℕ → Past → CallState
 listed s p past = record { calling = is_calling p past; last = recorded s p past }
 
--- the call of a process of which this is kept, if it has not ended
+-- the call of a process with this state, if it has not ended
 abbrev pub call_kept : Option CallState → Option Called
 call_kept None = None
 call_kept (Some k) = cond k.calling (Some k.last) None
 
--- it has listed these entries of a record
+-- a table has listed these entries of a record
 pub record HasListed (t : TableState) (past : Past) : Type 0 where
   pub call_states : (p : ℕ) → p < t.setup.processes → slice_get t.call_states p ≡ Some (listed t.setup p past)
   pub entries : t.entries ≡ length past

@@ -12,7 +12,7 @@ use model::Access;
 use plain_store::Setup;
 use std::alloc::{AllocError, Global};
 
-/// A watch on the bits, and the last access of each process.
+/// A monitor of the bits, and the last access of each process.
 #[derive(Drop)]
 pub(crate) struct OverlapMonitor {
     pub monitor: SafeMonitor,
@@ -20,7 +20,7 @@ pub(crate) struct OverlapMonitor {
 }
 
 impl OverlapMonitor {
-    /// Creates one that has heard no entry. Fails only if an allocation fails.
+    /// Creates a monitor that has observed no entry. Fails only if an allocation fails.
     pub fn new(alloc: Global, setup: &Setup) -> Result<OverlapMonitor, AllocError>
         requires { checked setup.now ≡ Ok tt }
         ensures { IfOk result (Monitors setup.now []) }

@@ -1,4 +1,4 @@
-//! The table of a record's calls, as the entries are heard.
+//! The table of a record's calls, which is built while the entries are observed.
 ghost use Rattle.std.specs.Prelude.{◌≡◌, ◌-◌, ◌^◌, ◌<◌, ◌++◌, ◌∷◌, [], IfOk, List, OnOk, ℕ, reverse};
 ghost use Rattle.plain_store.specs.declared.setups.Setup.{Setup as Given};
 ghost use Rattle.model.specs.{Entry as Noted, Past};

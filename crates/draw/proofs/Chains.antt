@@ -11,7 +11,7 @@ use Rattle.scenario_run.proofs.history_laws.Places.{at_its_place, grows_by_the_t
 use Rattle.picture.specs.picture_layout.{marks_in}
 use Rattle.draw.specs.{ChainIsTheHistory, Knot, knot_of, knots, numbered}
 
--- a knot of what is taken
+-- the knot of a command that is taken
 abbrev tied : ℕ → ℕ × Reply → Knot
 tied p t = record { process = p; place = t.0; reply = t.1 }
 
@@ -21,7 +21,7 @@ entry_knots p [] = refl
 entry_knots p (mark.Taken k r ∷ marks) = ap (λ l. tied p (k, r) ∷ l) (entry_knots p marks)
 entry_knots p (m ∷ marks) = entry_knots p marks
 
--- commands, and then others
+-- the numbers of commands, and then of more
 numbered_on : (k : ℕ) (taken more : List Taken) → numbered k (taken ++ more) ≡ numbered k taken ++ numbered (length taken + k) more
 numbered_on k [] more = let same : k ≡ 0 + k = omega arith in ap (λ n. numbered n more) same
 numbered_on k (t ∷ taken) more =
@@ -29,14 +29,14 @@ numbered_on k (t ∷ taken) more =
     ap (λ (l : List Knot). record { process = t.process; place = k; reply = t.reply } ∷ l)
     (numbered_on (suc k) taken more ∙ ap (λ n. numbered (suc k) taken ++ numbered n more) same)
 
--- at most one is taken at this place, and it stands there
+-- at most one command is taken at this position, and its knot has this position
 placed_knots : (s : Setup) (past : Past) (e : Entry) (n : ℕ) (taken : List (ℕ × Reply)) → length taken ≤ 1 → ((k : ℕ) (r : Reply) → Contains taken (k, r) → k ≡ n) →
     map (tied e.process) taken ≡ numbered n (map (λ (t : ℕ × Reply). taken_with s past e t.1) taken)
 placed_knots s past e n [] few at = refl
 placed_knots s past e n (t ∷ []) few at = ap (λ k. tied e.process (k, t.1) ∷ []) (at t.0 t.1 (0, omega arith, refl))
 placed_knots s past e n (t ∷ next ∷ taken) few at = absurd (omega (arith, few))
 
--- an entry takes at most one
+-- an entry takes at most one command
 grown : (s : Setup) (past : Past) (e : Entry) → length (history s (e ∷ past)) ≤ length (history s past) + 1
 grown s past e = go (reply_taken e.marks)
   where
@@ -53,7 +53,7 @@ few_taken s past e grows =
     let same = length-map (takings e.marks) (λ (t : ℕ × Reply). taken_with s past e t.1) in
     let most = grown s past e in omega (arith, long, same, most)
 
--- an entry more
+-- one more entry
 entry_more : (s : Setup) (past : Past) (e : Entry) → ((k : ℕ) (r : Reply) → Contains (takings e.marks) (k, r) → k ≡ length (history s past)) →
     history s (e ∷ past) ≡ history s past ++ map (λ (t : ℕ × Reply). taken_with s past e t.1) (takings e.marks) →
     knots (marks_in past) ≡ numbered 0 (history s past) → knots (marks_in (e ∷ past)) ≡ numbered 0 (history s (e ∷ past))
@@ -64,7 +64,7 @@ entry_more s past e at grows before =
     ∙ sym (numbered_on 0 (history s past) (map (λ (t : ℕ × Reply). taken_with s past e t.1) (takings e.marks)))
     ∙ ap (numbered 0) (sym grows)
 
--- an event more
+-- one more event
 event_more : (s : Setup) → IsGood s → (event : Event) (events : List Event) (o : Option Entry) → entry_of s (past_of s events) event ≡ o → knots (marks_in (past_of s events)) ≡ numbered 0 (history s (past_of s events)) →
     knots (marks_in (elim o as (λ _. List Entry) [ None ↦ past_of s events | Some e ↦ e ∷ past_of s events ])) ≡ numbered 0 (history s (elim o as (λ _. List Entry) [ None ↦ past_of s events | Some e ↦ e ∷ past_of s events ]))
 event_more s good event events None is before = before

@@ -11,14 +11,14 @@ use Rattle.draw.specs.{Canvas, Draws, DrawsBands, DrawsLines, DrawsMarks, DrawsO
 use Rattle.draw.proofs.Giving.{both_given, lines_append, marks_after_append, says_append, shown_append, shows_saying, text_of_content, waiting_append}
 use Rattle.draw.proofs.Written.{appends_both, appends_none}
 
--- markup at rest
+-- bytes that leave the markup at rest
 pub writes_bytes : (a b : Option (List ℕ)) (bytes : List ℕ) → is_at_rest (tags_of bytes) ≡ true → Appends a b bytes → Writes a b bytes
 writes_bytes a b bytes rests taken = record { rests = rests; taken = taken }
 
 pub draws_bytes : (a b : Option (List ℕ)) (bytes : List ℕ) → is_at_rest (tags_of bytes) ≡ true → Appends a b bytes → EndsAll bytes → Draws a b bytes (lines_in bytes)
 draws_bytes a b bytes rests taken ended = record { ended = ended; read_back = refl; writes = writes_bytes a b bytes rests taken }
 
--- nothing
+-- no bytes
 draws_none : (a : Option (List ℕ)) → Draws a a [] []
 draws_none a = record { ended = λ stack. refl; read_back = refl; writes = writes_bytes a a [] refl (appends_none a) }
 
@@ -51,11 +51,11 @@ fills_both old mid new markup then gives those first next = record {
       (two.0 ∙ ap (windowed plan) same, ap (full_reported plan) (sym same) ∙ two.1 ∙ ap (λ l. l ++ then) one.1 ∙ append_assoc (full_reported plan before) markup then);
 }
 
--- or one
+-- or one item
 fills_one : (item : Item) (old new : SeenWindowed) (band : Option (List ℕ)) → GoesOn item old band new → Fills old new (band_text band) (given (item ∷ []))
 fills_one item old new band goes = record { items = item ∷ []; are = refl; goes_on = λ plan before at. goes plan before at }
 
--- nothing is drawn on
+-- nothing more is drawn, or some items and then others
 pub draws_on_none : (has : Kept) (a : Option (List ℕ)) → DrawsOn has has a a []
 draws_on_none has a = record { markup = []; drawn = []; draws = draws_none a; window = refl; goes_on = sym (append-nil has.lines); fills = fills_none has.page }
 
@@ -80,7 +80,7 @@ line_shown w line =
     (λ i. lines_if (sym (shows_saying w line.at line.line_content) i) (sym (text_of_content line.at line.line_content) i ∷ []))
     ∙ sym (append-nil (text_shown w (GivesLine line.source line.at (says_of line.line_content))))
 
--- a line that was told, and the band that is full, if one is
+-- a line is drawn, with the band that is full, if one is
 pub draws_on_line : (line : RunLine) (had has : Kept) (band : Option (List ℕ)) (a b : Option (List ℕ)) → has.window ≡ had.window →
     lines_of_band band ++ has.lines ≡ had.lines ++ lines_if (shows_line had.window line) (text_of line ∷ []) → GoesOn (Reports line) had.page band has.page →
     Draws a b (band_text band) (lines_of_band band) → DrawsOn had has a b (GivesLine line.source line.at (says_of line.line_content) ∷ [])
@@ -93,7 +93,7 @@ draws_on_line line had has band a b window is goes draws = record {
   fills = fills_one (Reports line) had.page has.page band goes;
 }
 
--- a read that was told, which is no line
+-- a read, which is not a line, is drawn
 pub draws_on_read : (read : OverlappedRead) (had has : Kept) (band : Option (List ℕ)) (a b : Option (List ℕ)) → has.window ≡ had.window → lines_of_band band ++ has.lines ≡ had.lines → GoesOn (Reads read) had.page band has.page →
     Draws a b (band_text band) (lines_of_band band) → DrawsOn had has a b (GivesRead read ∷ [])
 draws_on_read read had has band a b window is goes draws = record {
@@ -105,7 +105,7 @@ draws_on_read read had has band a b window is goes draws = record {
   fills = fills_one (Reads read) had.page has.page band goes;
 }
 
--- the part of an access that an entry makes, which is no line
+-- the part of an access that an entry makes, which is not a line, is drawn
 pub draws_on_access : (access : ShownAccess) (had has : Kept) (band : Option (List ℕ)) (a b : Option (List ℕ)) → has.window ≡ had.window → lines_of_band band ++ has.lines ≡ had.lines → GoesOn (Accesses access) had.page band has.page →
     Draws a b (band_text band) (lines_of_band band) → DrawsOn had has a b (GivesAccess (given_access access) ∷ [])
 draws_on_access access had has band a b window is goes draws = record {
@@ -117,12 +117,12 @@ draws_on_access access had has band a b window is goes draws = record {
   fills = fills_one (Accesses access) had.page has.page band goes;
 }
 
--- no lines, be they shown or not
+-- no lines, whether they are shown or not
 no_lines_if : (shows : Bool) → lines_if shows [] ≡ []
 no_lines_if true = refl
 no_lines_if false = refl
 
--- the bands that are left, with the verdict, if there is one
+-- the remaining bands, with the verdict, if there is one
 pub draws_rest : (at : ℕ) (verdict : Option ShownVerdict) (has : Kept) (new : SeenWindowed) (full : Option (List ℕ)) (last : List ℕ) (a b : Option (List ℕ)) →
     lines_of_band full ++ lines_in last ≡ has.lines ++ lines_if (shows_end has.window at) (titles_if verdict) → GivesRest at verdict has.page full last new →
     Draws a b (band_text full ++ last) (lines_of_band full ++ lines_in last) → DrawsRest has a b (given (judged_with at verdict [])) new.page.height
@@ -142,7 +142,7 @@ draws_rest at (Some verdict) has new full last a b are rests draws = record {
   ends = λ plan before is. let two = rests plan before is in (two.0 ∙ append_assoc (full_reported plan before) (band_text full) last, two.1);
 }
 
--- items, and then the last ones
+-- items, and then the remaining bands
 pub rest_behind : (had has : Kept) (a b c : Option (List ℕ)) (gives more : List Gives) (height : ℕ) → DrawsOn had has a b gives → DrawsRest has b c more height → DrawsRest had a c (gives ++ more) height
 rest_behind had has a b c gives more height on rest = record {
   markup = on.markup ++ rest.markup;
@@ -162,7 +162,7 @@ rest_behind had has a b c gives more height on rest = record {
       (ap (bands_reported plan) same ∙ two.0 ∙ ap (λ l. l ++ rest.markup) one.1 ∙ append_assoc (full_reported plan before) on.markup rest.markup, two.1 ∙ ap (heights_reported plan) (sym same));
 }
 
--- from the start on: all bands
+-- all bands, from the start on
 pub draws_bands : (plan : WindowPlan) (has : Kept) (a b c : Option (List ℕ)) (gives ends : List Gives) (height : ℕ) → DrawsOn (kept_at_first plan) has a b gives → DrawsRest has b c ends height → DrawsBands plan a c (gives ++ ends) height
 draws_bands plan has a b c gives ends height on rest =
     let all = rest_behind (kept_at_first plan) has a b c gives ends height on rest in
@@ -205,7 +205,7 @@ draws_marks_both had has now store stores last a b c source at p marks more firs
 abbrev pub IsWhole : Window → (old new : Option (List ℕ)) → List ℕ → List Gives → Type 0
 IsWhole w old new markup gives = (opens_in markup (Some []) ≡ Some []) × (lines_in markup ≡ texts_shown w gives) × Writes old new markup
 
--- what stands before and behind tells nothing, and ends what it begins
+-- the parts before and after the bands have no lines, and the last part ends the elements that the first part begins
 pub framed : (plan : WindowPlan) (a b c d : Option (List ℕ)) (head ending : List ℕ) (names : List (List ℕ)) (gives : List Gives) (height : ℕ) → IsAround names head ending → Writes a b head → (bands : DrawsBands plan b c gives height) → Writes c d ending →
     IsWhole plan.window a d ((head ++ bands_reported plan bands.items) ++ ending) gives
 framed plan a b c d head ending names gives height around first bands last =

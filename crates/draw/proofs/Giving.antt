@@ -1,4 +1,4 @@
--- What a picture is told, read back: its lines, their texts and their marks, and the reads that stand before them.
+-- The items of a picture, read back: its lines, their texts and their marks, and the reads that come before them.
 use Rattle.std.proofs.Common.{◌≡◌, ◌<◌, ℕ, ◌+◌, ◌&&◌, Bool, true, List, [], ◌∷◌, ◌++◌, flat_map, get_or, length, map, take, refl, ap, sym, ◌∙◌, append-nil, append_assoc}
 use Rattle.std.proofs.lemmas.Grind.{flat_map-append}
 use Rattle.std.proofs.lemmas.List.{map-append, take_more}
@@ -12,11 +12,11 @@ use Rattle.model.specs.plain_store.{Setup}
 use Rattle.model.specs.{Mark}
 use Rattle.draw.specs.{Gives, GivesAccess, GivesLine, GivesRead, GivesVerdict, Says, SaysEnd, SaysLockEnd, SaysLockMark, SaysMark, SaysRefusal, SaysStore, SaysTired, given, lines_given, mark_given, marks_after, marks_given, marks_says, says_marks, says_of, says_text, shown_of, shows_says, text_given, text_shown, texts_given, texts_shown, waiting}
 
--- one more, by what is made of each
+-- one more element of a list under a map
 pub map_next : {A : Type 0} {B : Type 0} (f : A → B) (xs : List A) (k : ℕ) (d : A) → k < length xs → map f (take (k + 1) xs) ≡ map f (take k xs) ++ f (get_or xs k d) ∷ []
 map_next f xs k d within = ap (map f) (take_more xs k d within) ∙ map-append f (take k xs) (get_or xs k d ∷ [])
 
--- of no reads none is shown
+-- if there are no reads, none is shown
 shown_none : (mode : Mode) → shown_of mode [] ≡ []
 shown_none Hidden = refl
 shown_none Shown = refl
@@ -44,7 +44,7 @@ module _ (mode : Mode) (source at : ℕ) where
       let first : List Gives = map (GivesLine source at) (line ∷ lines) in
       ap (λ l. before ++ l) (map-append (GivesLine source at) (line ∷ lines) more) ∙ sym (append_assoc before first (map (GivesLine source at) more)) ∙ ap (λ l. (before ++ first) ++ l) (of_none more)
 
--- items, and then others, which stand before them
+-- items, and then other items, which come before them in a list
 given_append : (more items : List Item) → given (more ++ items) ≡ given items ++ given more
 given_append [] items = sym (append-nil (given items))
 given_append (Reports line ∷ more) items = ap (λ l. l ++ GivesLine line.source line.at (says_of line.line_content) ∷ []) (given_append more items) ∙ append_assoc (given items) (given more) (GivesLine line.source line.at (says_of line.line_content) ∷ [])
@@ -104,7 +104,7 @@ module _ (w : Window) where
   shown_of_reads [] = refl
   shown_of_reads (read ∷ reads) = shown_of_reads reads
 
--- where all entries are in it, all lines are
+-- the window of all entries shows all lines
 all_entry : (n : ℕ) → shows_entry all_entries n ≡ true
 all_entry n = ap (λ (b : Bool). b && true) (leb-zero n)
 

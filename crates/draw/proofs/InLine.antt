@@ -1,4 +1,4 @@
--- Whoever stands in the line of a picture before one that is inside waits no more.
+-- Each process before a process inside, in the line of tickets of a picture, no longer waits.
 use Rattle.std.proofs.Common.{◌≡◌, ◌≢◌, ◌⊎◌, inl, inr, ◌<◌, ℕ, ◌==◌, ◌&&◌, ◌||◌, nat_lt, Bool, true, false, cond, List, [], ◌∷◌, Contains, IsTrue, Some, None, length, refl, ap, sym, subst, ◌∙◌, true≢false, arith, eqb-true, eq-eqb}
 use Rattle.std.specs.Prelude.{fold}
 use Rattle.std.specs.List.{list_any}
@@ -46,14 +46,14 @@ crossed a p b q is other = go (nat_lt a b) refl
         let tie : ((a == b) ≡ true) × (nat_lt p q ≡ true) = both (a == b) (nat_lt p q) (sym (ap (λ t. t || ((a == b) && nat_lt p q)) up) ∙ is) in
         not_both (inr (eqb-true a b tie.0, ltb-true p q tie.1)) other
 
--- who is inside was told a ticket
+-- the marks report a ticket for a process that is inside
 insider-positive : (s : Setup) → IsGood s → (events : List Event) (p : ℕ) → p < s.processes → inside p (past_of s events) ≡ true → 0 < ticket_reported p (past_of s events)
 insider-positive s g events p pN within =
     let inv : Inv s (past_of s events) = inv_of s g events in
     let here : is_inside (doing s p (past_of s events)) ≡ true = sym (inside-is s g events p) ∙ within in
     subst (λ t. 0 < t) (sym (insiders s g events p within)) ((inv.own p pN).senior.positive ((inv.own p pN).senior.held here))
 
--- By the record: one with a ticket that is below that of one inside waits no more.
+-- By the record: a process whose ticket is below the ticket of a process inside no longer waits.
 no_more : (s : Setup) → IsGood s → (events : List Event) (p q : ℕ)
     → let past : Past = past_of s events in
     stage p past ≡ Inside → ticket_shown q past ≢ 0 → (ticket_shown q past < ticket_shown p past) ⊎ ((ticket_shown q past ≡ ticket_shown p past) × (q < p)) → WaitsNoMore (stage q past)
@@ -84,7 +84,7 @@ no_more s g events p q at holds below = go (stage q past) refl (shows s g events
         absurd (crossed (ticket_reported p past) p (ticket_reported q past) q (first_inside s g events p within q is)
         (subst (λ t. (t < ticket_reported p past) ⊎ ((t ≡ ticket_reported p past) × (q < p))) its (subst (λ u. (ticket_shown q past < u) ⊎ ((ticket_shown q past ≡ u) × (q < p))) mine below)))
 
--- By the lines.
+-- By the lines of a picture.
 pub inside_first : StagesAreTheRecords → WhoIsInsideIsFirst
 inside_first are s good events lines say p pN at q before =
     subst WaitsNoMore (sym (stage_is q qN)) (no_more s g events p q stage_p (λ none. found.0.1 (ticket_is q qN ∙ none))
@@ -124,9 +124,9 @@ inside_first are s good events lines say p pN at q before =
     qN : q < s.processes
     qN = found.0.0
 
--- Getting inside.
+-- Entering.
 
--- an entry with which its process gets inside ends with that mark
+-- after the marks of an entry with which its process enters, the process is inside
 ends-inside : (c : Call) (x : Part) (bits : List Bool) (st : Stage) → list_any is_entered (last_marks c x bits) ≡ true → fold stage_after st (last_marks c x bits) ≡ Inside
 ends-inside c (Lowers t) bits st h = go (waits_of c) h
   where

@@ -1,4 +1,4 @@
--- A record file that a judge hears, and that is drawn up to the first entry that breaks a law.
+-- A record file that a judge observes and that is drawn up to the first entry that breaks a law.
 use Rattle.std.proofs.Common.{◌≡◌, ℕ, ◌+◌, ◌≤◌, nat_lt, Bool, true, false, if◌then◌else◌, List, [], ◌∷◌, ◌++◌, length, reverse, Option, Some, None, Result, Ok, Err, IfSome, refl, ap, sym, subst, ◌∙◌, append-nil, append_assoc, arith}
 use Rattle.std.proofs.lemmas.List.{length-reverse, reverse-append}
 use Rattle.std.specs.Option.{option_to_list}
@@ -39,7 +39,7 @@ read_words line before now read = by (nat_lt 128 (length line)) read
     by true read = absurd (cc)
     by false read = read
 
--- behind an entry a line leaves the setup as it is
+-- after an entry, a line does not change the setup
 setup_stays : (line : List ℕ) (p : Progress) (now : Option Progress) → line_read line (Some p) ≡ Ok now → p.ended ≡ true → (next : Progress) × (cleared now ≡ Some next) × (next.ended ≡ true) × (next.head.setup ≡ p.head.setup)
 setup_stays line p now read ended =
     let remaining = later_remaining (words_of line) p now (read_words line (Some p) now read) in
@@ -47,7 +47,7 @@ setup_stays line p now read ended =
     let stays = head_stays (say_entry (words_of line)) p next ended remaining.2 in
     (record next { entry = None }, ap cleared remaining.1, stays.0, ap (λ (h : Head). h.setup) stays.1)
 
--- what was read of a text is all of it, where nothing is left
+-- if nothing remains of a text, what was read is all that it says
 says_all : (before : Option Progress) (entries : List Entry) (numbers : List ℕ) (taken : ℕ) (x y : List ℕ) → GoesOnTo before entries numbers taken x y → y ≡ [] → SaysAll before entries numbers taken x
 says_all before entries numbers taken x y so_far none = by before (subst (λ y. GoesOnTo before entries numbers taken x y) none so_far)
   where
@@ -55,23 +55,23 @@ says_all before entries numbers taken x y so_far none = by before (subst (λ y. 
     by None to = sym to.reads ∙ ap (λ n. Err (record { line = n; kind = NotFirst })) {y = taken + 1} (omega arith)
     by (Some p) to = (sym to.reads, sym (append-nil numbers) ∙ to.counts)
 
--- reading what is left goes on to what reading all gives, each entry so far was heard, and drawn as far as it is shown
+-- Reading the rest leads to what reading the whole text gives. The judge has observed each entry so far, and each is drawn as far as it is shown.
 pub record Judged {H : Type 0} (HasObserved : H → Setup → List Entry → List ℕ → Type 0) (Keeps : Setup → List Entry → Type 0) (finds_good : H → Bool) (to_come rest : Option (List ℕ)) (taken : ℕ) (reader : Option Progress) (j : Option H) (shows : Bool) (t : RecordPicture) (first now : Option (List ℕ)) : Type 0 where
   pub onwards : Onwards HasObserved to_come rest taken reader j
   pub shown : IsShown Keeps finds_good shows j t onwards.before onwards.entries first now
 
 module _ {H : Type 0} (HasObserved : H → Setup → List Entry → List ℕ → Type 0) (Keeps : Setup → List Entry → Type 0) (finds_good : H → Bool) where
-  -- what was read of the file is shown
+  -- if something of the file was read, the picture has read something, too
   shown_read : (shows : Bool) (j : Option H) (t : RecordPicture) (before : Option Progress) (entries : List Entry) (first now : Option (List ℕ)) (p : Progress) → before ≡ Some p → IsShown Keeps finds_good shows j t before entries first now → t.reader ≡ None → ⊥
   shown_read true j t before entries first now p is shown none = let no : None ≡ Some p = sym none ∙ shown.1.reader ∙ is in cc
   shown_read false j t before entries first now p is shown none = let no : None ≡ Some shown.drawn = sym none ∙ shown.corresponds.reader in cc
 
-  -- where all entries so far are shown
+  -- all entries so far are shown
   all_shown : (j : Option H) (t : RecordPicture) (before : Option Progress) (entries : List Entry) (first now : Option (List ℕ)) (b : Bool) → b ≡ true → IsShown Keeps finds_good b j t before entries first now → Corresponds t before (reverse entries) first now
   all_shown j t before entries first now true shows shown = shown.1
   all_shown j t before entries first now false shows shown = absurd (cc)
 
-  -- no more entries are drawn than lines were taken
+  -- at most as many entries are drawn as lines were taken
   pub shown_few : (to_come rest : Option (List ℕ)) (taken : ℕ) (reader : Option Progress) (j : Option H) (t : RecordPicture) (first now : Option (List ℕ)) (b : Bool) → b ≡ true → Judged HasObserved Keeps finds_good to_come rest taken reader j b t first now → entries_of t.entries ≤ taken
   shown_few to_come rest taken reader j t first now b shows u =
       let v = u.onwards in
@@ -80,7 +80,7 @@ module _ {H : Type 0} (HasObserved : H → Setup → List Entry → List ℕ →
       let count = drawn_count t.options t.form t.entries.drawing t.entries.stored.items v.before (reverse v.entries) first now corresponds.draws in
       omega (arith, few, count, length-reverse v.entries)
 
-  -- before the first line, where no bytes have come yet
+  -- before the first line, when no bytes have come yet
   pub judged_start : (to_come : Option (List ℕ)) (ahead : Given) (taken : ℕ) (reader : Option Progress) (j : Option H) (t : RecordPicture) (first : Option (List ℕ)) → ahead.bytes ≡ [] → ahead.ended ≡ false → taken ≡ 0 → ObserverCorresponds HasObserved reader j None [] [] → Corresponds t None [] first first →
       Judged HasObserved Keeps finds_good to_come (coming ahead to_come) taken reader j true t first first
   judged_start to_come ahead taken reader j t first fresh open_yet none corresponds begun =
@@ -92,13 +92,13 @@ module _ {H : Type 0} (HasObserved : H → Setup → List Entry → List ℕ →
       nobody None observed = refl
       nobody (Some h) observed = absurd observed
 
-  -- A line more.
+  -- One more line.
 
   -- a line, as it was taken
   observed_at : (n : ℕ) (line : List ℕ) (l : LineState) (before reader : Option Progress) (j : Option H) (entries : List Entry) (numbers : List ℕ) → n ≡ l.taken → line ≡ l.line → ObservesOn HasObserved n line before reader j entries numbers → ObservesOn HasObserved l.taken l.line before reader j entries numbers
   observed_at n line l before reader j entries numbers number is on = subst (λ n. ObservesOn HasObserved n l.line before reader j entries numbers) number (subst (λ (line : List ℕ). ObservesOn HasObserved n line before reader j entries numbers) is on)
 
-  -- a line that was heard behind that entry
+  -- a line that the judge observes after the first entry that breaks a law
   stopped_on : (n : ℕ) (line : List ℕ) (j j' : Option H) (t : RecordPicture) (before reader : Option Progress) (entries : List Entry) (numbers : List ℕ) (first now : Option (List ℕ)) → IsShown Keeps finds_good false j t before entries first now → (on : ObservesOn HasObserved n line before reader j' entries numbers) → IsShown Keeps finds_good false j' t (cleared on.now) (entries ++ entry_in on.now) first now
   stopped_on n line j j' t before reader entries numbers first now shown on =
       let stays = setup_stays line shown.last on.now (ap (line_read line) (sym shown.read) ∙ on.says) shown.ended in
@@ -117,7 +117,7 @@ module _ {H : Type 0} (HasObserved : H → Setup → List Entry → List ℕ →
         breaks = shown.breaks;
       }
 
-  -- or one that is heard alone
+  -- or a line that the judge observes and that is not drawn
   pub judged_observed : (to_come mid rest : Option (List ℕ)) (l l' : LineState) (n : ℕ) (line : List ℕ) (reader reader' : Option Progress) (j j' : Option H) (t : RecordPicture) (first now : Option (List ℕ)) (b : Bool) → b ≡ false → (u : Judged HasObserved Keeps finds_good to_come mid l.taken reader j b t first now) → TakesNext l l' mid rest → n ≡ l'.taken → line ≡ l'.line →
       ((before : Option Progress) (entries : List Entry) (numbers : List ℕ) → ObserverCorresponds HasObserved reader j before entries numbers → ObservesOn HasObserved n line before reader' j' entries numbers) → Judged HasObserved Keeps finds_good to_come rest l'.taken reader' j' b t first now
   judged_observed to_come mid rest l l' n line reader reader' j j' t first now b stopped u takes number is observes =
@@ -129,7 +129,7 @@ module _ {H : Type 0} (HasObserved : H → Setup → List Entry → List ℕ →
             (stopped_on l'.taken l'.line j j' t v.before reader' v.entries v.numbers first now (subst (λ b. IsShown Keeps finds_good b j t v.before v.entries first now) stopped u.shown) on);
       }
 
-  -- a line that has a fault, as it is found where it is drawn
+  -- a line with a fault, which is found when the line is drawn
   pub read_fault : (to_come mid rest : Option (List ℕ)) (l l' : LineState) (n : ℕ) (line : List ℕ) (reader : Option Progress) (j : Option H) (t : RecordPicture) (first now : Option (List ℕ)) (b : Bool) (e : Fault) → b ≡ true → Judged HasObserved Keeps finds_good to_come mid l.taken reader j b t first now → TakesNext l l' mid rest → n ≡ l'.taken → line ≡ l'.line →
       LineStops e n (λ kind. (before : Option Progress) → t.reader ≡ before → line_read line before ≡ Err kind) → IsDrawFault e to_come
   read_fault to_come mid rest l l' n line reader j t first now b (fault.Line f) shows u takes number is why =
@@ -156,15 +156,15 @@ module _ {H : Type 0} (HasObserved : H → Setup → List Entry → List ℕ →
       }
 
   module _ (to_come : Option (List ℕ)) (taken : ℕ) (reader : Option Progress) (j : Option H) (t : RecordPicture) (first now : Option (List ℕ)) (u : HasRead HasObserved Keeps finds_good to_come taken reader j t first now) where
-    -- all were skipped
+    -- all lines were skipped
     pub read_none : u.before ≡ None → IfSome to_come (λ text. record_of text ≡ Err (record { line = taken + 1; kind = NotFirst }))
     read_none none = subst (λ (o : Option Progress). IfSome to_come (SaysAll o u.entries u.numbers taken)) none u.says
 
-    -- and something was read
+    -- something was read
     pub read_some : (Reports : Setup → List Entry → List ℕ → List ℕ → ℕ → Type 0) (reported : Reporting) → ReportsOfLines Reports (Some reported) u.before u.entries u.numbers → t.reader ≡ None → ⊥
     read_some Reports reported is = shown_read u.shows j t u.before u.entries first now is.0 is.1 u.shown
 
--- What a judge finds is so.
+-- The findings of a judge are right.
 
 module _ {H : Type 0} (HasObserved : H → Setup → List Entry → List ℕ → Type 0) (Keeps : Setup → List Entry → Type 0) (finds_good : H → Bool) (begins : (s : Setup) → Keeps s [])
     (good : (h : H) (s : Setup) (entries : List Entry) (numbers : List ℕ) → HasObserved h s entries numbers → finds_good h ≡ true → Keeps s entries)
@@ -174,9 +174,9 @@ module _ {H : Type 0} (HasObserved : H → Setup → List Entry → List ℕ →
   keeps_at None p entries numbers observed found = subst (λ (l : List Entry). Keeps p.head.setup l) (sym observed.0) (begins p.head.setup)
   keeps_at (Some h) p entries numbers observed found = good h p.head.setup entries numbers observed.1 found
 
-  -- A line more, which is shown.
+  -- One more line, which is shown.
 
-  -- what was found good before a line
+  -- what the judge found good before a line keeps all laws
   kept_before : (line : List ℕ) (j : Option H) (before now : Option Progress) (entries : List Entry) (numbers : List ℕ) (p : Progress) → line_read line before ≡ Ok now → good_in finds_good j ≡ true → ObservesAt HasObserved j before entries numbers → cleared now ≡ Some p → Keeps p.head.setup entries
   kept_before line None before now entries numbers p read found observed is = subst (λ (l : List Entry). Keeps p.head.setup l) (sym observed.0) (begins p.head.setup)
   kept_before line (Some i) None now entries numbers p read found observed is = absurd observed
@@ -211,7 +211,7 @@ module _ {H : Type 0} (HasObserved : H → Setup → List Entry → List ℕ →
   stops_at t before None entries first after p is ended keeps breaks corresponds = stops t before entries None first after p is ended keeps breaks corresponds
   stops_at t before (Some q) entries first after p is ended keeps breaks corresponds = stops t before entries q.entry first after p is ended keeps breaks corresponds
 
-  -- a line that was heard and drawn
+  -- a line that the judge observed and that was drawn
   shown_on : (n : ℕ) (line : List ℕ) (j j' : Option H) (t t' : RecordPicture) (before reader : Option Progress) (entries : List Entry) (numbers : List ℕ) (first now after : Option (List ℕ)) → IsShown Keeps finds_good true j t before entries first now → ObservesAt HasObserved j before entries numbers →
       (on : ObservesOn HasObserved n line before reader j' entries numbers) → GoesOn (line_read line before) t' (reverse entries) first after → (b : Bool) → b ≡ good_in finds_good j' → IsShown Keeps finds_good b j' t' (cleared on.now) (entries ++ entry_in on.now) first after
   shown_on n line j j' t t' before reader entries numbers first now after shown observed on drawn b is = by b j' on.corresponds.observed is
@@ -235,7 +235,7 @@ module _ {H : Type 0} (HasObserved : H → Setup → List Entry → List ℕ →
       by false None observed' is = absurd (cc)
       by false (Some h) observed' is = found h (cleared on.now) refl observed' (sym is)
 
-  -- a line more, which is shown
+  -- one more line, which is shown
   pub judged_shown : (to_come mid rest : Option (List ℕ)) (l l' : LineState) (n : ℕ) (line : List ℕ) (reader reader' : Option Progress) (j j' : Option H) (t t' : RecordPicture) (first now after : Option (List ℕ)) (b b' : Bool) → b ≡ true → (u : Judged HasObserved Keeps finds_good to_come mid l.taken reader j b t first now) → TakesNext l l' mid rest → n ≡ l'.taken → line ≡ l'.line →
       ((before : Option Progress) (entries : List Entry) (numbers : List ℕ) → ObserverCorresponds HasObserved reader j before entries numbers → ObservesOn HasObserved n line before reader' j' entries numbers) →
       ((before : Option Progress) (past : Past) (first : Option (List ℕ)) → Corresponds t before past first now → GoesOn (line_read line before) t' past first after) → b' ≡ good_in finds_good j' → Judged HasObserved Keeps finds_good to_come rest l'.taken reader' j' b' t' first after
@@ -250,7 +250,7 @@ module _ {H : Type 0} (HasObserved : H → Setup → List Entry → List ℕ →
 
   -- The end.
 
-  -- what is shown, and what the judge tells
+  -- the entries that are shown, and the report of the judge
   judged_bands : (Reports : Setup → List Entry → List ℕ → List ℕ → ℕ → Type 0) (shows : Bool) (j : Option H) (t : RecordPicture) (before : Option Progress) (entries : List Entry) (numbers : List ℕ) (first now after : Option (List ℕ)) (p : Progress) (drawn : DrawnEntry) (reported : List ℕ) (status : ℕ) →
       before ≡ Some p → ObservesAt HasObserved j before entries numbers → IsShown Keeps finds_good shows j t before entries first now → Reports p.head.setup entries numbers reported status →
       ((p : Progress) (past : Past) (first : Option (List ℕ)) → t.reader ≡ Some p → Corresponds t (Some p) past first now → (drawn.setup ≡ p.head.setup) × EndsAsked t.options t.form p.head.setup past reported drawn.shows drawn.opening.items drawn.height first after) →

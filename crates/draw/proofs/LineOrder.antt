@@ -1,4 +1,4 @@
--- The line of tickets in a picture is in its order: who stands before a process has a lower ticket; or the same one, and a lower number.
+-- The line of tickets in a picture is ordered: each process before another has a lower ticket, or the same ticket and a lower number.
 use Rattle.std.proofs.Common.{◌≡◌, ◌≢◌, ◌⊎◌, inl, inr, ◌<◌, ◌≤◌, ℕ, zero, suc, ◌==◌, nat_le, Bool, true, false, cond, List, [], ◌∷◌, Contains, refl, ap, sym, subst, ◌∙◌, arith}
 use Rattle.std.specs.List.{AllByRecursion}
 use Rattle.std.proofs.lemmas.Bool.{cases_eq, eqb-false, leb-false, leb-true, ne_eqb}
@@ -33,13 +33,13 @@ each_contained P [] q h (k, l, e) = absurd (omega (arith, l))
 each_contained P (x ∷ xs) q h (zero, l, e) = subst P e h.0
 each_contained P (x ∷ xs) q h (suc k, l, e) = each_contained P xs q h.1 (k, omega (arith, l), e)
 
--- One more in line.
+-- One more process in line.
 
--- behind one whose ticket is not above its own, and whose number is lower
+-- it comes after a process whose ticket is not above its own and whose number is lower
 behind : (state : State) (x p : ℕ) → ticket_in state x ≤ ticket_in state p → x < p → Below state x p
 behind state x p upto lower = elim (cases_eq (ticket_in state x) (ticket_in state p)) [ inl same ↦ inr (same, lower) | inr other ↦ inl (omega (arith, upto, other)) ]
 
--- before one that is above, it is before all behind that
+-- if it comes before a process with a higher ticket, it comes before all after that process
 beyond : (state : State) (p x y : ℕ) → ticket_in state p < ticket_in state x → Below state x y → Below state p y
 beyond state p x y above (inl lower) = inl (omega (arith, above, lower))
 beyond state p x y above (inr (same, lower)) = inl (omega (arith, above, same))
@@ -79,9 +79,9 @@ lined_old state p q (x ∷ line) h = go (nat_le (ticket_in state x) (ticket_in s
     go true (inr later) rest = inr (rest later)
     go false h rest = inr h
 
--- All in line.
+-- All processes in line.
 
--- one of so many processes, with a ticket
+-- one of the first n processes, with a ticket
 abbrev pub HasTicket : State → ℕ → ℕ → Type 0
 HasTicket state n x = (x < n) × (ticket_in state x ≢ 0)
 
@@ -118,7 +118,7 @@ line_has state (suc n) p is_process holds = by (cases_eq p n) (λ lower. line_ha
         (subst (λ x. IsIn x (lined_up state n line)) (sym same) (lined_new state n line))
     by (inr other) rest = go (ticket_in state n == 0) (rest (omega (arith, is_process, other)))
 
--- whoever stands before one that is in line
+-- each process before p in the line has the property P and is below p
 before_is : (P : ℕ → Type 0) (state : State) (p : ℕ) (line : List ℕ) → AllByRecursion P line → Ordered state line → IsIn p line → AllByRecursion (λ q. P q × Below state q p) (before_in p line)
 before_is P state p [] all h is = tt
 before_is P state p (x ∷ line) all h is = go (x == p) refl is (before_is P state p line all.1 h.1)

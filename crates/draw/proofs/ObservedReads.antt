@@ -16,7 +16,7 @@ use Rattle.picture.specs.declared.reads.Reads.{Reads as Mode}
 use Rattle.picture.specs.declared.reads.Reads.TheVariants.{All, Hidden, Shown}
 use Rattle.draw.specs.{BegunRead, Observes, ObservesAll, OverlapsObserved, ReportsEnd, ReportsOver, Monitors, begun_with, ended_of, first_three, is_there, overlapped_by, overlapped_with, read_begun, read_ended}
 
--- what has heard entries has heard one more
+-- a state that has observed entries observes one more
 pub observes_on : (s : Given) (past : Past) (reads : List OverlappedRead) (e : Entry) (old new : OverlapsObserved) → new.setup ≡ old.setup →
     ((p : ℕ) → p < 16 → get_or new.begun p None ≡ read_begun p (e ∷ past)) → length new.begun ≡ 16 →
     new.ended.items ≡ first_three (reads ++ overlapped_by s past e) → Observes s past reads old → Observes s (e ∷ past) (reads ++ overlapped_by s past e) new
@@ -28,7 +28,7 @@ observes_on s past reads e old new setup begun room ended h = record {
   ended = ended;
 }
 
--- one without an access leaves it as it is
+-- an entry without an access does not change it
 pub observes_none : (s : Given) (past : Past) (reads : List OverlappedRead) (e : Entry) (o : OverlapsObserved) → e.access ≡ None → Observes s past reads o → Observes s (e ∷ past) (reads ++ overlapped_by s past e) o
 observes_none s past reads e o none h = record {
   good = h.good;
@@ -48,7 +48,7 @@ begun_still p n a before none = by (a.reader == p)
     by true = ap (λ i. cond i (Some (record { entry = n; access = a })) before) none
     by false = refl
 
--- a move behind others
+-- a move after others
 begins_on : (m : Move) (moves : List Move) → begins_read moves ≡ true → begins_read (m ∷ moves) ≡ true
 begins_on BeginRead moves is = refl
 begins_on m moves is = is
@@ -57,7 +57,7 @@ begins_here : (m : Move) (moves : List Move) → is_begin_of_read m ≡ true →
 begins_here BeginRead moves is = refl
 begins_here m moves is = absurd (true≢false (sym is))
 
--- where the last read of a process is of a bit, a read of that bit has begun
+-- if the last read that a process has begun is of a bit, a read of that bit has begun
 begun_onwards : (x : Access) (c : Bool) (moves : List Move) → begins_read moves ≡ true → begins_read (cond c (x.how ∷ []) [] ++ moves) ≡ true
 begun_onwards x true moves more = begins_on x.how moves more
 begun_onwards x false moves more = more
@@ -81,7 +81,7 @@ begun_reads : (a : Access) (past : Past) (b : BegunRead) → read_begun a.reader
 begun_reads a [] b is same = absurd (cc)
 begun_reads a (e ∷ past) b is same = begun_by_access a (length past) (read_begun a.reader past) (moves_of a past) b e.access same (λ at. begun_reads a past b at same) is
 
--- so where none of the bit has, the access ends none
+-- so if no read of the bit has begun, the access ends none
 ends_none : (s : Given) (n : ℕ) (a : Access) (past : Past) → begins_read (moves_of a past) ≡ false → ended_of s n a (read_begun a.reader past) ≡ []
 ends_none s n a past none = by (read_begun a.reader past) refl
   where
@@ -106,7 +106,7 @@ not_there s a is there =
     let owner = there.owner in let reader = there.reader in let bit = there.bit in
     let yes : is_there s a ≡ true = grind (arith, nat_tests, owner, reader, bit) in true≢false (sym yes ∙ is)
 
--- so it is known which read is overlapped
+-- so the report determines which read is overlapped
 reported_by : (s : Given) (past : Past) (a : Access) (over : Bool) → ReportsOver s past a over →
     cond over (ended_of s (length past) a (read_begun a.reader past)) [] ≡ overlapped_with s past (Some a)
 reported_by s past a over reports = by (is_there s a) refl (begins_read (moves_of a past)) refl
@@ -133,7 +133,7 @@ ends_no_read s past a none = by (is_there s a)
 abbrev pub IsQuiet : Move → Type 0
 IsQuiet m = (is_begin_of_read m ≡ false) × ((moves : List Move) → ends_overlapped moves m ≡ false)
 
--- an access that begins no read, or ends none, leaves what is kept
+-- an access that begins no read, or that ends no overlapped read, does not change what is stored
 module _ (s : Given) (past : Past) (reads : List OverlappedRead) (e : Entry) (a : Access) (o : OverlapsObserved) (is : e.access ≡ Some a) (h : Observes s past reads o) where
   pub still_begun : is_begin_of_read a.how ≡ false → (p : ℕ) → p < 16 → get_or o.begun p None ≡ read_begun p (e ∷ past)
   still_begun none p below = h.begun p below ∙ sym (begun_still p (length past) a (read_begun p past) none) ∙ sym (ap (λ (access : Option Access). begun_with p (length past) access (read_begun p past)) is)
@@ -156,7 +156,7 @@ observes_all_nothing Hidden s past then reads more h = tt
 observes_all_nothing Shown s past then reads more h = absurd h
 observes_all_nothing All s past then reads more h = tt
 
--- of what is kept
+-- the report for the state that is stored
 reported_at : (s : Given) (past : Past) (reads : List OverlappedRead) (o : OverlapsObserved) (a : Access) (n : ℕ) (over : Bool) → Observes s past reads o → n ≡ length past → ReportsOver s past a over →
     cond over (ended_of o.setup n a (get_or o.begun a.reader None)) [] ≡ overlapped_with s past (Some a)
 reported_at s past reads o a n over h number reports =
@@ -171,9 +171,9 @@ pub reported_ended : (s : Given) (past : Past) (reads : List OverlappedRead) (o 
     (checked o.setup ≡ Ok tt → ended ≡ cond over (ended_of o.setup n a (get_or o.begun a.reader None)) []) → ended ≡ overlapped_with s past (Some a)
 reported_ended s past reads o a n over ended h number reports is = is (subst (λ (t : Given). checked t ≡ Ok tt) (sym h.setup) h.good) ∙ reported_at s past reads o a n over h number reports
 
--- A watch that goes along.
+-- A monitor that observes the same entries.
 
--- where reads are shown, it tells which access ends an overlapped read
+-- if reads are shown, the monitor reports which access ends an overlapped read
 pub monitors_on : (mode : Mode) (s : Given) (past : Past) (e : Entry) (a : Access) (over : Bool) (old new : MonitorState) → e.access ≡ Some a → new.setup ≡ old.setup → (HasObserved old past → HasObserved new (e ∷ past)) →
     (HasObserved old past → IsThere old.setup a → begins_read (moves_of a past) ≡ true → over ≡ ends_overlapped (moves_of a past) a.how) → ((IsThere old.setup a → ⊥) → over ≡ false) →
     Monitors mode s past (Some old) → ReportsEnd mode s past (Some a) over × Monitors mode s (e ∷ past) (Some new)
@@ -187,19 +187,19 @@ monitors_on Shown s past e a over old new is setup observed there stray monitors
 )
 monitors_on All s past e a over old new is setup observed there stray monitors = absurd monitors
 
--- an entry without an access tells nothing
+-- for an entry without an access, there is nothing to report
 pub monitors_still : (mode : Mode) (s : Given) (past : Past) (e : Entry) (over : Bool) (monitor : MonitorState) → e.access ≡ None → Monitors mode s past (Some monitor) → ReportsEnd mode s past None over × Monitors mode s (e ∷ past) (Some monitor)
 monitors_still Hidden s past e over monitor none monitors = absurd monitors
 monitors_still Shown s past e over monitor none monitors = (tt, (monitors.0, observed_none monitor past e none monitors.1))
 monitors_still All s past e over monitor none monitors = absurd monitors
 
--- where reads are hidden, there is none
+-- if reads are hidden, there is no monitor
 pub monitors_nothing : (mode : Mode) (s : Given) (past : Past) (e : Entry) (access : Option Access) (over : Bool) → Monitors mode s past None → ReportsEnd mode s past access over × Monitors mode s (e ∷ past) None
 monitors_nothing Hidden s past e access over monitors = (tt, tt)
 monitors_nothing Shown s past e access over monitors = absurd monitors
 monitors_nothing All s past e access over monitors = (tt, tt)
 
--- where no reads are shown, it is not asked
+-- if no reads are shown, the monitor is not asked
 pub monitors_hidden : (mode : Mode) (s : Given) (past : Past) (reads : List OverlappedRead) (e : Entry) (access : Option Access) (overlaps : Option OverlapsObserved) (monitor : Option MonitorState) → is_some overlaps ≡ false → ObservesAll mode s past reads overlaps → Monitors mode s past monitor →
     ReportsEnd mode s past access false × Monitors mode s (e ∷ past) monitor
 monitors_hidden Hidden s past reads e access None None hidden waits monitors = (tt, tt)

@@ -14,12 +14,12 @@ use Rattle.scenario_run.specs.world.{ends_overlapped as ends_in_world, ends_over
 use Rattle.scenario_run.specs.{Happening, UnmarkedStep, StepsOn, past_after, tried}
 use Rattle.scenario_run.proofs.laws.HeldThere.{access_there}
 
--- the memory and a watch define it by the same moves
+-- the memory and a monitor define it by the same moves
 ends_same : (moves : List Move) (how : Move) → ends_in_world moves how ≡ ends_overlapped moves how
 ends_same moves (EndRead v) = refl
 ends_same moves how = refl
 
--- the access of each entry of a run is of a bit that there is
+-- the access of each entry of a run is of a bit that exists
 reports_over : (s : Setup) → IsGood s → (events : List Event) (event : Event) (e : Entry) → entry_of s (past_of s events) event ≡ Some e → (a : Access) → e.access ≡ Some a → (over : Bool) → over ≡ ends_in_world (moves_of a (past_of s events)) a.how → ReportsOver s (past_of s events) a over
 reports_over s good events event e added a is over reported = record {
   there = λ there begun. reported ∙ ends_same (moves_of a (past_of s events)) a.how;
@@ -31,7 +31,7 @@ by_mode Hidden s past access over reports = tt
 by_mode Shown s past access over reports = reports
 by_mode All s past access over reports = tt
 
--- of an event with marks
+-- the report of an event with marks
 pub made_reports : (mode : Mode) (s : Setup) → IsGood s → (events : List Event) (event : Event) (e : Entry) (over : Bool) → entry_of s (past_of s events) event ≡ Some e → over ≡ ends_overlapped_read (past_of s events) e → ReportsEnd mode s (past_of s events) e.access over
 made_reports mode s good events event e over added reported = by_mode mode s (past_of s events) e.access over (by e.access refl)
   where
@@ -39,7 +39,7 @@ made_reports mode s good events event e over added reported = by_mode mode s (pa
     by None is = tt
     by (Some a) is = reports_over s good events event e added a is over (reported ∙ ap (λ (o : Option Access). elim o as (λ _. Bool) [ None ↦ false | Some a ↦ ends_in_world (moves_of a (past_of s events)) a.how ]) is)
 
--- and of a Step without a mark
+-- and the report of a Step without a mark
 pub stepped_reports : (mode : Mode) (s : Setup) (before : List Happening) (made : UnmarkedStep) → StepsOn s before made → ReportsEnd mode s (past_after s before) (Some made.access) made.overlapped
 stepped_reports mode s before made on =
     by_mode mode s (past_after s before) (Some made.access) made.overlapped

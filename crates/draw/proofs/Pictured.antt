@@ -28,7 +28,7 @@ is_page options said file head ending b c height bands front back = record {
   is = λ i. (front i ++ bands_reported (plan_of form.Page options.window said.setup) bands.items) ++ back i;
 }
 
--- one picture, whose height was learnt first
+-- one picture, whose height was computed first
 pub is_picture : (top : ℕ) (options : PictureOptions) (file : List ℕ) (said : Script) (head ending : List ℕ) (a a' b c : Option (List ℕ)) (height height' : ℕ) → (first : DrawsBands (plan_of (form.Picture top) options.window said.setup) a a' (run_given (full_view options) said) height) → (bands : DrawsBands (plan_of (form.Picture top) options.window said.setup) b c (run_given (full_view options) said) height') →
     head ≡ picture_front subject.Run said.setup height options.reads → ending ≡ picture_back height options.reads →
     IsRunPicture options (form.Picture top) file said ((head ++ bands_reported (plan_of (form.Picture top) options.window said.setup) bands.items) ++ ending)
@@ -60,7 +60,7 @@ draws_page options file said a d head front none begins p =
       writes = whole.2;
     }
 
--- what stands before and behind one picture tells nothing, and ends what it begins
+-- the parts before and after the bands of one picture have no lines, and the last part ends the elements that the first part begins
 pub draws_framed : (options : PictureOptions) (form : Form) (file : List ℕ) (said : Script) (a d : Option (List ℕ)) (head ending : List ℕ) (names : List (List ℕ)) → IsAround names head ending →
     (f : DrawsFramed options form head ending said a d) → IsRunPicture options form file said ((head ++ bands_reported (plan_of form options.window said.setup) f.bands.items) ++ ending) → DrawsAll options form file said a d
 draws_framed options form file said a d head ending names around f page =

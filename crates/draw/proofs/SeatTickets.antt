@@ -1,4 +1,4 @@
--- The tickets of a picture's state are those that the marks of its lines show, and its stages are those that its lines tell.
+-- The tickets of a picture's state are those that the marks of its lines show, and its stages are those that its lines show.
 use Rattle.std.proofs.Common.{◌≡◌, ◌⊎◌, inl, inr, ◌<◌, ℕ, zero, suc, ◌==◌, nat_lt, Bool, true, false, cond, List, [], ◌∷◌, flat_map, get_or, length, map, replicate, set, refl, ap, sym, subst, ◌∙◌, arith}
 use Rattle.std.specs.Prelude.{fold}
 use Rattle.std.proofs.lemmas.Bool.{cases_eq, cond-true, cond-false, eq-eqb, ltb-false, ne_eqb}
@@ -14,7 +14,7 @@ use Rattle.draw.proofs.TicketsShown.{shown_after, shown_reported}
 
 -- Of one mark.
 
--- as many seats as before
+-- a mark does not change the number of seats
 marked_seats : (stages : List Stage) (seats : List ProcessDetails) (q : ℕ) (m : Mark) → length (seats_marked stages seats q m) ≡ length seats
 marked_seats stages seats q (mark.Waiting t) = length-set (map (not_awaiting q) seats) q (record { ticket = t; awaits = map is_in_doorway stages }) ∙ length-map seats (not_awaiting q)
 marked_seats stages seats q mark.Left = length-set (map (not_awaiting q) seats) q _ ∙ length-map seats (not_awaiting q)
@@ -24,7 +24,7 @@ marked_seats stages seats q (mark.Taken k r) = refl
 marked_seats stages seats q (mark.Settled v) = refl
 marked_seats stages seats q m = length-map seats (not_awaiting q)
 
--- whom it awaits does not change the ticket of a seat
+-- the processes that a seat awaits do not affect its ticket
 forgotten : (q : ℕ) (seats : List ProcessDetails) (p : ℕ) → (get_or (map (not_awaiting q) seats) p no_seat).ticket ≡ (get_or seats p no_seat).ticket
 forgotten q [] p = refl
 forgotten q (seat ∷ seats) zero = refl
@@ -34,7 +34,7 @@ same_either : (b : Bool) (n : ℕ) → n ≡ cond b n n
 same_either true n = refl
 same_either false n = refl
 
--- a seat is given a ticket
+-- a seat gets a ticket
 seated : (q : ℕ) (seats : List ProcessDetails) (seat : ProcessDetails) (p : ℕ) → p < length seats → (get_or (set (map (not_awaiting q) seats) q seat) p no_seat).ticket ≡ cond (q == p) seat.ticket (get_or seats p no_seat).ticket
 seated q seats seat p within = go (cases_eq q p)
   where
@@ -59,7 +59,7 @@ marked_ticket stages seats q m p within = forgotten q seats p ∙ same_either (q
 
 -- Of one mark of a trace.
 
--- a seat is cleared that was given a ticket
+-- a seat that has got a ticket is cleared
 cleared_seat : (q : ℕ) (seats : List ProcessDetails) (seat : ProcessDetails) (p : ℕ) → p < length seats → (get_or (set (set (map (not_awaiting q) seats) q seat) q no_seat) p no_seat).ticket ≡ cond (q == p) 0 (get_or seats p no_seat).ticket
 cleared_seat q seats seat p within = go (cases_eq q p)
   where
@@ -77,7 +77,7 @@ cleared_seat q seats seat p within = go (cases_eq q p)
         ∙ forgotten q seats p
         ∙ sym (cond-false (q == p) 0 (get_or seats p no_seat).ticket (ne_eqb q p other))
 
--- what a mark of a trace leaves as it was, and what it tells
+-- the parts of a state that a mark does not change, and those that it determines
 record MarkLeads (state then : State) (q : ℕ) (m : Mark) : Type 0 where
   pub processes : then.processes ≡ state.processes
   pub seats : length then.seats ≡ length state.seats
@@ -108,7 +108,7 @@ lock_mark_leads state q lock.Answer = mark_leads state q (like lock.Answer)
 
 -- Of a line.
 
--- what a line leaves as it was, and what it tells
+-- the parts of a state that a line does not change, and those that it determines
 record LeadsOn (state then : State) (line : LineContent) : Type 0 where
   pub processes : then.processes ≡ state.processes
   pub seats : length then.seats ≡ length state.seats
@@ -167,7 +167,7 @@ lines_tickets state (line ∷ lines) p is_process within =
     ∙ ap (λ was. fold (shown_reported p) was (flat_map marks_said lines)) ((line_leads state line).tickets p is_process within)
     ∙ sym (fold-append (shown_reported p) (ticket_in state p) (marks_said line) (flat_map marks_said lines))
 
--- nobody has a ticket at first
+-- no process has a ticket at first
 nothing_held : (n p : ℕ) → (get_or (replicate n no_seat) p no_seat).ticket ≡ 0
 nothing_held zero p = refl
 nothing_held (suc n) zero = refl

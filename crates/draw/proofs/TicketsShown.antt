@@ -1,4 +1,4 @@
--- The ticket of a process that a picture shows, by the marks of a record: while the process waits, or is inside, it is the one that was told last; and it is none where the process has nothing to do with the lock.
+-- The ticket of a process that a picture shows, by the marks of a record. A process that waits or is inside has the last ticket reported; a process that has nothing to do with the lock has none.
 use Rattle.std.proofs.Common.{◌≡◌, ◌≢◌, ℕ, ◌==◌, Bool, true, false, cond, List, [], ◌∷◌, ◌++◌, Some, length, map, refl, sym, ap, subst, ◌∙◌, true≢false, eq-eqb, ne_eqb}
 use Rattle.std.specs.Prelude.{fold}
 use Rattle.std.specs.List.{list_any}
@@ -17,7 +17,7 @@ use Rattle.scenario_run.proofs.laws.FrameEvents.{accepted}
 use Rattle.scenario_run.proofs.laws.FrameInside.{stage-is}
 use Rattle.picture.specs.picture_layout.{marks_in}
 
--- what is shown after a mark
+-- the ticket that is shown after a mark
 abbrev pub shown_after : ℕ → Mark → ℕ
 shown_after was (mark.Waiting ticket) = ticket
 shown_after was mark.Left = 0
@@ -25,11 +25,11 @@ shown_after was (mark.Answered answer) = 0
 shown_after was mark.Down = 0
 shown_after was _ = was
 
--- after a mark of a process
+-- the ticket of a process after a mark of any process
 abbrev pub shown_reported : ℕ → ℕ → ℕ × Mark → ℕ
 shown_reported p was said = cond (said.0 == p) (shown_after was said.1) was
 
--- and by the entries of a past
+-- the ticket of a process after the entries of a past
 abbrev pub ticket_shown : ℕ → Past → ℕ
 ticket_shown p [] = 0
 ticket_shown p (e ∷ past) = cond (e.process == p) (fold shown_after (ticket_shown p past) e.marks) (ticket_shown p past)
@@ -50,9 +50,9 @@ record_shown p (e ∷ past) =
     ∙ ap (λ was. fold (shown_reported p) was (map (λ mark. (e.process, mark)) e.marks)) (record_shown p past)
     ∙ entry_shown p e.process (ticket_shown p past) e.marks
 
--- Marks come in their turn.
+-- Marks come in the order of the stages.
 
--- the marks that come at one stage alone
+-- the marks that each come at one stage only
 abbrev Fits : Stage → Mark → Type 0
 Fits st (mark.Called command) = st ≡ stages.Idle
 Fits st mark.Entered = st ≡ stages.Waiting
@@ -72,7 +72,7 @@ is_bound _ = false
 of_bound : IsOfLock is_bound
 of_bound = record { taken = λ k r. refl; remaining = refl; settled = λ v. refl; down = refl; withdrawn = refl }
 
--- the others come at any stage
+-- the other marks come at any stage
 unbound : (st : Stage) (ms : List Mark) → list_any is_bound ms ≡ false → Follow st ms
 unbound st [] h = tt
 unbound st (mark.Called command ∷ ms) h = absurd (true≢false h)
@@ -117,7 +117,7 @@ part-follow c (Clears a) bits true false = (tt, tt)
 part-follow c (Clears a) bits true true = (tt, (tt, tt))
 part-follow c x bits true last = last-if c x bits true last
 
--- the marks of an entry come in their turn
+-- the marks of an entry come in the order of the stages
 entry-follow : (s : Setup) (past : Past) (p : ℕ) (e : Entry) → Happens s past p e (doing s p past) (doing s p (e ∷ past)) → stage p past ≡ doings.stage_of (doing s p past) → Follow (stage p past) e.marks
 entry-follow s past p e (a_call command number i a m k) st = subst (Follow (stage p past)) (sym m) (st ∙ ap doings.stage_of i, tt)
 entry-follow s past p e (a_restart i a m k) st = subst (Follow (stage p past)) (sym m) (st ∙ ap doings.stage_of i, tt)

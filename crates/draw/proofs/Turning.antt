@@ -1,4 +1,4 @@
--- What a turn tells is drawn as the part that happens.
+-- The report of a turn is drawn as the part that the turn adds.
 use Rattle.std.proofs.Common.{◌≡◌, ◌+◌, ℕ, zero, suc, false, refl, List, [], ◌∷◌, ◌++◌, Option, None, Some, ap, sym, subst, ◌∙◌, arith, add-zero}
 use Rattle.model.specs.plain_store.{Setup}
 use Rattle.model.specs.{Access, Entry, Event, Past, Refusal, added, process_of, refused}
@@ -15,7 +15,7 @@ use Rattle.draw.proofs.Drawings.{drawn_more, drawn_none, drawn_quiet, recalls_pa
 use Rattle.draw.proofs.OverlapsReported.{made_reports, stepped_reports}
 use Rattle.draw.proofs.RunReported.{entries_of_run}
 
--- a turn tells the part that happens
+-- a turn reports the part that it adds
 pub part_is : (s : Setup) (before : List Happening) (this : Happening) (answer : TurnReport) → Happens s before this answer → parts_of s (this ∷ before) ≡ part_reported answer ∷ parts_of s before
 part_is s before this answer h = ap (λ l. l ++ parts_of s before) (by this answer h.reports)
   where
@@ -32,7 +32,7 @@ part_is s before this answer h = ap (λ l. l ++ parts_of s before) (by this answ
     by Looks (reported.Shown store) reports = λ i. PartLine (SaysStore (newest_words (sym reports i))) ∷ []
     by this answer reports = absurd reports
 
--- it tells whether an overlapped read ends
+-- a turn reports whether an overlapped read ends
 pub reports_reads : (mode : Mode) (s : Setup) (before : List Happening) (this : Happening) (answer : TurnReport) → Happens s before this answer → ReportsReads mode s (entries_among (parts_of s before)) answer
 reports_reads mode s before this answer h = subst (λ (past : Past). ReportsReads mode s past answer) (sym (entries_of_run s before)) (by this answer h.reports)
   where
@@ -43,13 +43,13 @@ reports_reads mode s before this answer h = subst (λ (past : Past). ReportsRead
     by this (reported.Tired p) reports = tt
     by this (reported.Shown store) reports = tt
 
--- From here on.
+-- From the present point of a run on, nothing is drawn yet.
 pub run_none : (view : AccessView) (s : Setup) (now : List Happening) (run : RunDrawing) (taken : Option (List ℕ)) → Counts s now (tally run) → Recalls view s (parts_of s now) run.drawing →
     HasDrawnRun view s (parts_of s now) (kept run.drawing.canvas) taken now run taken
 run_none view s now run taken counts recalls = record { counts = counts; drawn = drawn_none view s (parts_of s now) run.drawing taken recalls }
 
 module _ (view : AccessView) (s : Setup) (start : List Part) (had : Kept) (old : Option (List ℕ)) where
-  -- what a turn tells
+  -- the report of a turn is drawn
   pub reported_drawn : (before : List Happening) (this : Happening) (answer : TurnReport) (run run' : RunDrawing) (mid new : Option (List ℕ)) → Happens s before this answer → DrawsReported run run' answer mid new →
       tally run' ≡ counted answer (tally run) → run'.drawing.source ≡ run.drawing.source → HasDrawnRun view s start had old before run mid → HasDrawnRun view s start had old (this ∷ before) run' new
   reported_drawn before this answer run run' mid new h drew count source d = record {

@@ -1,4 +1,4 @@
--- How the engines end: front, bands and back are a whole picture.
+-- How the engines end: the parts before the bands, the bands and the part after them are a whole picture.
 use Rattle.std.proofs.Common.{◌≡◌, ℕ, ◌+◌, List, [], ◌++◌, length, reverse, Option, Some, None, Result, Ok, Err, OnOk, IfErr, IfSome, ap, subst, ◌∙◌, arith}
 use Rattle.std.proofs.lemmas.List.{length-reverse}
 use Rattle.std.specs.Io.KnownBytes.{Appends, IsAtEnd, Keeps}
@@ -20,7 +20,7 @@ use Rattle.draw.proofs.Drawn.{IsWhole, framed}
 use Rattle.draw.proofs.Giving.{shown_in}
 use Rattle.draw.proofs.RecordGiving.{marks_of_record, texts_of_record}
 
--- what is whole is what was said
+-- a whole picture with the items of a record is a picture of this record
 is_said : (view : AccessView) (form : Form) (said : Said) (reported : List ℕ) (a d b c : Option (List ℕ)) (markup : List ℕ) (height : ℕ) (bands : DrawsBands (plan_of form view.window said.setup) b c (record_gives view said reported) height) → IsWhole view.window a d markup (record_gives view said reported) → markup ≡ picture_of view form said.setup (reverse said.entries) bands.items → DrawsSaid view form said reported a d
 is_said view form said reported a d b c markup height bands whole is = record {
   markup = markup;
@@ -31,7 +31,7 @@ is_said view form said reported a d b c markup height bands whole is = record {
   writes = whole.2;
 }
 
--- what is shown of the entries, by their number
+-- the view of a record, by the number of its entries
 asked_of : (asked : PictureOptions) (form : Form) (said : Said) (reported : List ℕ) (a d : Option (List ℕ)) → DrawsSaid (record_view asked (length (reverse said.entries))) form said reported a d → DrawsAsked asked form said reported a d
 asked_of asked form said reported a d drawn = subst (λ (n : ℕ). DrawsSaid (record_view asked n) form said reported a d) (length-reverse said.entries) drawn
 
@@ -50,7 +50,7 @@ page_drawn asked said reported drawn a b c bands last =
     (is_said view form.Page said reported a c ends.mid b _ drawn.height ends.bands
     (framed (plan_of form.Page view.window said.setup) a ends.mid b c h.head last.ending page_names (record_gives view said reported) drawn.height (record { no_head = h.lines; begins = h.opens; no_end = last.lines; ends = last.ends }) h.writes ends.bands last.writes) is)
 
--- bytes that were held
+-- bytes that were stored
 pub held_are : (bytes markup : List ℕ) → Appends (Some []) (Some bytes) markup → bytes ≡ markup
 held_are bytes markup is = is
 
@@ -74,12 +74,12 @@ picture_drawn asked said reported drawn bytes a b c d head ending bands front ba
     asked_of asked (form.Picture 34) said reported a d
     (is_said view (form.Picture 34) said reported a d b c _ drawn.height again (framed (plan_of (form.Picture 34) view.window said.setup) a b c d head ending picture_names (record_gives view said reported) drawn.height around first again last) is)
 
--- what follows of the whole input, where it is told
+-- a consequence for the whole input, if the input is known
 pub if_some : (o : Option (List ℕ)) (P Q : List ℕ → Type 0) → ((x : List ℕ) → P x → Q x) → IfSome o P → IfSome o Q
 if_some None P Q then is = tt
 if_some (Some x) P Q then is = then x is
 
--- what holds of a record that a text says, and of what is shown of one that is judged
+-- a consequence for a record that a text says, and for the entries that are shown of a judged record
 pub of_record_then : (P Q : Setup → List Entry → List ℕ → Type 0) (text : List ℕ) → ((s : Setup) (entries : List Entry) (numbers : List ℕ) → P s entries numbers → Q s entries numbers) → IsOfRecord P text → IsOfRecord Q text
 of_record_then P Q text then is = record { said = is.said; says = is.says; holds = then is.said.setup is.said.entries (numbers_of text) is.holds }
 
@@ -92,7 +92,7 @@ pub judged_all : (Keeps : Setup → List Entry → Type 0) (Reports : Setup → 
 judged_all Keeps Reports status P Q then o is =
     if_some o (IsOfRecord (IsJudged Keeps Reports status P)) (IsOfRecord (IsJudged Keeps Reports status Q)) (λ text. of_record_then (IsJudged Keeps Reports status P) (IsJudged Keeps Reports status Q) text (judged_then Keeps Reports status P Q then)) is
 
--- it ends with the last write
+-- the engine ends with the last write
 pub drew_last : (reads : PictureOptions) (f : Form) (r : Result (Unit {0}) Fault) (old new : Streams) → OnOk r (IfSome old.to_come (λ text. DrawsRecord reads f text old.taken new.taken)) → IsAtEnd new.to_come → IfErr r IsWriteFault → new.write_failures ≡ old.write_failures + failed_write r → DrewRecord reads f r old new
 drew_last reads f (Ok done) old new drawn end why failures = (drawn, end)
 drew_last reads f (Err fault.Write) old new drawn end why failures = omega (arith, failures)

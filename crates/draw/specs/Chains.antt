@@ -1,11 +1,11 @@
--- The chain of the history: what the lines of a run tell of the commands taken.
+-- The chain of the history: the commands taken, as the lines of a run show them.
 use Rattle.std.specs.Prelude.{◌≡◌, ℕ, suc, List, [], ◌∷◌, flat_map, Ok}
 use Rattle.model.specs.plain_store.{Reply, Setup, checked}
 use Rattle.model.specs.{Event, Mark, Taken, history, past_of}
 use Rattle.model.specs.declared.marks.Mark.TheVariants as mark
 use Rattle.picture.specs.picture_layout.{LineContent, marks_in, marks_said}
 
--- a knot of the chain: whose command was taken, at which place, and with which reply
+-- a knot of the chain: the process whose command was taken, the position of the command, and its reply
 pub record Knot : Type 0 where
   pub process : ℕ
   pub place : ℕ
@@ -24,7 +24,7 @@ knots = flat_map knot_of
 abbrev pub knots_reported : List LineContent → List Knot
 knots_reported lines = knots (flat_map marks_said lines)
 
--- commands taken as knots, where so many were taken before
+-- the knots of commands that are taken from position k on
 abbrev pub numbered : ℕ → List Taken → List Knot
 numbered k [] = []
 numbered k (t ∷ taken) = record { process = t.process; place = k; reply = t.reply } ∷ numbered (suc k) taken

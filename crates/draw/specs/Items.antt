@@ -1,4 +1,4 @@
--- What a picture is told, item by item, as values: its lines, the reads that writes overlapped, and accesses.
+-- The items of a picture, as values: its lines, the reads that writes overlapped, accesses, and a verdict.
 use Rattle.std.specs.Prelude.{ℕ, zero, suc, Bool, List, [], ◌∷◌, ◌++◌, flat_map, length, map, string_bytes, Option, None, Some, option_map}
 use Rattle.model.specs.plain_store.{Setup}
 use Rattle.model.specs.{Entry, Mark, Past, Refusal}
@@ -16,22 +16,22 @@ use Rattle.draw.specs.declared.views.AccessView.{AccessView}
 use Rattle.record_accesses.specs.{WaveLimit, shown_access}
 use Rattle.picture.specs.declared.reads.Reads.TheVariants as modes
 
--- what a line says
+-- the content of a line
 pub data Says : Type 0 where
   SaysMark : ℕ → Mark → Option Changed → Says  -- an event of the process has this mark; what its command changed
   SaysRefusal : ℕ → Refusal → Says  -- an event of the process was refused
   SaysTired : ℕ → Says  -- the process has made all the Steps of a `go`
   SaysStore : List ℕ → Says  -- the newest store, by these words
-  SaysEnd : ℕ → ℕ → ℕ → Says  -- the end: so many events were accepted, so many commands taken, so many events refused
+  SaysEnd : ℕ → ℕ → ℕ → Says  -- the end: the numbers of accepted events, of taken commands, and of refused events
   SaysLockMark : ℕ → LockMark → Says  -- an entry of a trace has this mark of the process
-  SaysLockEnd : ℕ → Says  -- the end of a trace of so many entries
+  SaysLockEnd : ℕ → Says  -- the end of a trace, with its number of entries
 
 -- an item
 pub data Gives : Type 0 where
-  GivesLine : ℕ → ℕ → Says → Gives  -- the line of the list that makes it, how many events were accepted before it, and what it says
+  GivesLine : ℕ → ℕ → Says → Gives  -- the line of the list that makes it, the number of events accepted before it, and its content
   GivesRead : OverlappedRead → Gives  -- a read that a write overlapped
   GivesAccess : GivenAccess → Gives  -- the part of an access that an entry makes
-  GivesVerdict : ℕ → SeenVerdict → Gives  -- how many events were accepted before it, and the verdict of a judge, with the last line
+  GivesVerdict : ℕ → SeenVerdict → Gives  -- the number of events accepted before it, and the verdict of a judge, with the last line
 
 abbrev pub says_of : LineContent → Says
 says_of (Marked p mark change) = SaysMark p mark (option_map changed change)
@@ -42,7 +42,7 @@ says_of (Ended events taken refused) = SaysEnd events taken refused
 says_of (LockMarked p mark) = SaysLockMark p mark
 says_of (LockEnded entries) = SaysLockEnd entries
 
--- the items that a picture is told, of which the newest stands first; they stand in their order
+-- the items of a picture in their order, from a list in which the newest item comes first
 abbrev pub given : List Item → List Gives
 given [] = []
 given (Reports line ∷ before) = given before ++ GivesLine line.source line.at (says_of line.line_content) ∷ []
@@ -60,7 +60,7 @@ says_text at (SaysEnd events taken refused) = ended_text events taken refused
 says_text at (SaysLockMark p mark) = lock_marked_text at p mark
 says_text at (SaysLockEnd entries) = lock_ended_text entries
 
--- the lines of what is given, without their ends
+-- the lines of items, without their ends
 abbrev pub text_given : Gives → List (List ℕ)
 text_given (GivesLine source at says) = says_text at says ∷ []
 text_given (GivesRead read) = []
@@ -70,7 +70,7 @@ text_given (GivesVerdict at verdict) = verdict_titles verdict
 abbrev pub texts_given : List Gives → List (List ℕ)
 texts_given = flat_map text_given
 
--- whether a line is in a window that comes after `at` entries and says this
+-- whether a line with this content, after `at` entries, is in a window
 abbrev pub shows_says : Window → ℕ → Says → Bool
 shows_says w at (SaysMark p mark change) = shows_entry w at
 shows_says w at (SaysRefusal p refusal) = shows_after w at
@@ -80,7 +80,7 @@ shows_says w at (SaysEnd events taken refused) = shows_end w at
 shows_says w at (SaysLockMark p mark) = shows_entry w at
 shows_says w at (SaysLockEnd entries) = shows_end w at
 
--- the lines in a window of what is given, without their ends
+-- the lines of items in a window, without their ends
 abbrev pub text_shown : Window → Gives → List (List ℕ)
 text_shown w (GivesLine source at says) = lines_if (shows_says w at says) (says_text at says ∷ [])
 text_shown w (GivesRead read) = []
@@ -90,7 +90,7 @@ text_shown w (GivesVerdict at verdict) = lines_if (shows_end w at) (verdict_titl
 abbrev pub texts_shown : Window → List Gives → List (List ℕ)
 texts_shown w = flat_map (text_shown w)
 
--- the marks of what is given, each with its process; of a trace, those that its marks are drawn like
+-- the marks of items, each with its process; a mark of a trace gives the mark of a record that it is drawn like
 abbrev pub marks_says : Says → List (ℕ × Mark)
 marks_says (SaysMark p mark change) = (p, mark) ∷ []
 marks_says (SaysLockMark p mark) = (p, like mark) ∷ []
@@ -110,12 +110,12 @@ abbrev pub waiting : {A : Type 0} → List A → List OverlappedRead → List Ov
 waiting [] reads = reads
 waiting (line ∷ lines) reads = []
 
--- lines made by one line of the list after so many events, and before them the reads that wait, as far as they are shown
+-- lines that come from one line of the list, after `at` events, and before them the waiting reads, as far as they are shown
 abbrev pub lines_given : Mode → ℕ → ℕ → List OverlappedRead → List Says → List Gives
 lines_given mode source at reads [] = []
 lines_given mode source at reads (line ∷ lines) = map GivesRead (shown_of mode reads) ++ map (GivesLine source at) (line ∷ lines)
 
--- The end of a picture with this last line. If a judge has reported, it is the verdict, which has the lines of the report and the last line; otherwise it is the last line alone. The reads that wait come first, as far as they are shown.
+-- The end of a picture. If a judge has reported, it is the verdict, with the report and the last line; otherwise it is the last line alone. The waiting reads come first, as far as they are shown.
 abbrev pub end_given : Mode → ℕ → ℕ → List OverlappedRead → List ℕ → Says → List Gives
 end_given mode source at reads [] last = lines_given mode source at reads (last ∷ [])
 end_given mode source at reads (byte ∷ reported) last =
@@ -123,7 +123,7 @@ end_given mode source at reads (byte ∷ reported) last =
 
 -- Accesses.
 
--- the item of what is shown of an access, if something is shown
+-- the item for the shown part of an access, if any of it is shown
 abbrev pub gives_access : Option GivenAccess → List Gives
 gives_access None = []
 gives_access (Some access) = GivesAccess access ∷ []
@@ -133,7 +133,7 @@ abbrev pub given_access_of : Mode → WaveLimit → Setup → Past → Entry →
 given_access_of modes.All limit s past e = gives_access (shown_access s limit past e)
 given_access_of _ limit s past e = []
 
--- Entries, be they of a run or of a record.
+-- The entries of a run or of a record.
 
 -- the marks after those of an entry of a process
 abbrev pub marks_after : ℕ → List Mark → List (ℕ × Mark) → List (ℕ × Mark)
@@ -145,12 +145,12 @@ abbrev pub marks_back : Past → List (ℕ × Mark)
 marks_back [] = []
 marks_back (e ∷ past) = marks_after e.process e.marks (marks_back past)
 
--- what the lines of a process's marks say that come after other marks
+-- the contents of the lines of a process's marks, which come after other marks
 abbrev pub says_marks : Setup → ℕ → List (ℕ × Mark) → List Mark → List Says
 says_marks s p before [] = []
 says_marks s p before (mark ∷ marks) = SaysMark p mark (change_of s before p mark) ∷ says_marks s p ((p, mark) ∷ before) marks
 
--- Parts: what a drawing of a run or of a record draws, one after the other. In a list of parts the newest comes first.
+-- The parts of a run or of a record, which are drawn one after the other. A list of parts begins with the newest.
 
 -- one part
 pub data Part : Type 0 where

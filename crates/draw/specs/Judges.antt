@@ -1,4 +1,4 @@
--- Who judges a record that is drawn.
+-- The judges of a record that is drawn.
 use Rattle.std.specs.Prelude.{ℕ, Result}
 use Rattle.scenario.specs.files.Engines.{Streams}
 use Rattle.scenario.specs.files.{Fault}
@@ -13,7 +13,7 @@ use Rattle.draw.specs.Sheets.{DrewJudged}
 use Rattle.draw.specs.declared.records.engines.JudgedBy.{JudgedBy}
 use Rattle.draw.specs.declared.records.engines.JudgedBy.TheVariants.{ThisLock, AnyLock}
 
--- How drawing a record ends that is judged by this judge: each has laws that entries keep, and tells a verdict with its reasons.
+-- How drawing a record ends if this judge observes it. Each judge has laws that entries keep, and reports a verdict with its reasons.
 abbrev pub DrewJudgedBy : JudgedBy → PictureOptions → Form → Result ℕ Fault → Streams → Streams → Type 0
 DrewJudgedBy ThisLock = DrewJudged (λ s entries. IsVerdict s entries Good) (ReportsReasons law_text IsVerdict AreReasons)
 DrewJudgedBy AnyLock = DrewJudged (λ s entries. IsAnyLockVerdict s entries Good) (ReportsReasons any_lock_law IsAnyLockVerdict AreAnyLockReasons)

@@ -13,21 +13,21 @@ use Rattle.picture.specs.declared.reads.Reads.TheVariants.{All, Hidden, Shown}
 use Rattle.draw.specs.declared.overlaps.BegunRead.{BegunRead}
 use Rattle.draw.specs.declared.overlaps.OverlapsObserved.{OverlapsObserved}
 
--- the read of a process that has begun last, after an access by an entry with this number
+-- the last read that a process has begun, after an access by an entry with this number
 abbrev pub begun_with : ℕ → ℕ → Option Access → Option BegunRead → Option BegunRead
 begun_with p entry None before = before
 begun_with p entry (Some a) before = cond ((a.reader == p) && is_begin_of_read a.how) (Some (record { entry = entry; access = a })) before
 
--- the read of a process that has begun last
+-- the last read that a process has begun
 abbrev pub read_begun : ℕ → Past → Option BegunRead
 read_begun p [] = None
 read_begun p (e ∷ past) = begun_with p (length past) e.access (read_begun p past)
 
--- the bit of an access is there
+-- whether the bit of an access exists
 abbrev pub is_there : Setup → Access → Bool
 is_there s a = nat_lt a.owner s.processes && (nat_lt a.reader s.processes && nat_lt a.bit (width s a.field))
 
--- what a read's end gives
+-- the value that the end of a read gives
 abbrev pub value_given : Move → Bool
 value_given (EndRead v) = v
 value_given _ = false
@@ -46,50 +46,50 @@ read_ended s begin end a = record {
   more = 0;
 }
 
--- the read that an access ends, if the last one that has begun is of its bit
+-- the read that an access ends, if the last read that the process has begun is of its bit
 abbrev pub ended_of : Setup → ℕ → Access → Option BegunRead → List OverlappedRead
 ended_of s end a None = []
 ended_of s end a (Some b) = cond (same_bit a b.access) (read_ended s b.entry end a ∷ []) []
 
--- the read that an access ends, of a bit that is there, if a write of the bit was open as it began, or has begun since
+-- the read that an access ends, of a bit that exists, if a write of the bit was open when the read began, or has begun since
 abbrev pub overlapped_with : Setup → Past → Option Access → List OverlappedRead
 overlapped_with s past None = []
 overlapped_with s past (Some a) = cond (is_there s a && ends_overlapped (moves_of a past) a.how) (ended_of s (length past) a (read_begun a.reader past)) []
 
--- that of an entry
+-- the overlapped read that an entry ends
 abbrev pub overlapped_by : Setup → Past → Entry → List OverlappedRead
 overlapped_by s past e = overlapped_with s past e.access
 
--- of reads that end between two lines the first three are shown; the third one says how many more there are
+-- of the reads that end between two lines, the first three are shown; the third one shows the number of the others
 abbrev pub first_three : List OverlappedRead → List OverlappedRead
 first_three (first ∷ second ∷ third ∷ others) = first ∷ second ∷ record third { more = held_in_64 (length others) } ∷ []
 first_three reads = reads
 
--- those that are shown at all: none where all accesses are shown
+-- the reads that are shown; if all accesses are shown, no reads are
 abbrev pub shown_of : Mode → List OverlappedRead → List OverlappedRead
 shown_of Hidden reads = []
 shown_of Shown reads = first_three reads
 shown_of All reads = []
 
--- whether an access ends an overlapped read is told, if its bit is there and a read of it has begun
+-- the report whether an access ends an overlapped read: it is right if the bit exists and a read of it has begun, and false if the bit does not exist
 pub record ReportsOver (s : Setup) (past : Past) (a : Access) (over : Bool) : Type 0 where
   pub there : IsThere s a → begins_read (moves_of a past) ≡ true → over ≡ ends_overlapped (moves_of a past) a.how
   pub stray : (IsThere s a → ⊥) → over ≡ false
 
--- so it is told of an entry by its access, if reads are shown
+-- the report for an entry, by its access, if reads are shown
 abbrev pub ReportsEnd : Mode → Setup → Past → Option Access → Bool → Type 0
 ReportsEnd Hidden s past access over = Unit {0}
 ReportsEnd Shown s past access over = IfSome access (λ a. ReportsOver s past a over)
 ReportsEnd All s past access over = Unit {0}
 
--- a watch has heard these entries, if reads are shown
+-- a monitor has observed these entries, if reads are shown
 abbrev pub Monitors : Mode → Setup → Past → Option MonitorState → Type 0
 Monitors Hidden s past None = Unit {0}
 Monitors Shown s past (Some monitor) = (monitor.setup ≡ s) × HasObserved monitor past
 Monitors All s past None = Unit {0}
 Monitors _ s past monitor = ⊥
 
--- it has heard these entries, and keeps the reads that have ended since the last line, as far as they are shown
+-- the state has observed these entries, and stores the reads that have ended since the last line, as far as they are shown
 pub record Observes (s : Setup) (past : Past) (reads : List OverlappedRead) (overlaps : OverlapsObserved) : Type 0 where
   pub good : checked s ≡ Ok tt
   pub setup : overlaps.setup ≡ s
@@ -97,7 +97,7 @@ pub record Observes (s : Setup) (past : Past) (reads : List OverlappedRead) (ove
   pub room : length overlaps.begun ≡ 16
   pub ended : overlaps.ended.items ≡ first_three reads
 
--- the same, if reads are shown; else nothing is heard
+-- a state has observed these entries, if reads are shown; otherwise there is no state
 abbrev pub ObservesAll : Mode → Setup → Past → List OverlappedRead → Option OverlapsObserved → Type 0
 ObservesAll Hidden s past reads None = Unit {0}
 ObservesAll Shown s past reads (Some overlaps) = Observes s past reads overlaps

@@ -1,4 +1,4 @@
--- What a run's picture is told, and what is written of it.
+-- The items of a run's picture, and the bytes that are written of it.
 use Rattle.std.specs.Prelude.{ℕ, List, [], ◌∷◌, ◌++◌, flat_map}
 use Rattle.scenario.specs.{Script}
 use Rattle.picture.specs.{Accesses, Form, Item, Judges, Reads, Reports, Window, bands_reported, page_back, page_front, picture_back, picture_front, seen_verdict, verdict_titles}
@@ -12,7 +12,7 @@ use Rattle.draw.specs.StoreChanges.{store_words}
 use Rattle.draw.specs.StoresBefore.{store_before}
 use Rattle.scenario_run.specs.{happenings, past_after}
 
--- the lines among items, of which the newest stands first; they stand in their order
+-- the lines of items in their order, from a list in which the newest item comes first
 abbrev pub lines_reported : List Item → List (List ℕ)
 lines_reported [] = []
 lines_reported (Reports line ∷ before) = lines_reported before ++ text_of line ∷ []
@@ -24,7 +24,7 @@ lines_reported (Judges at verdict ∷ before) = lines_reported before ++ verdict
 abbrev pub opening_of : Window → Script → List ℕ
 opening_of w said = store_words (store_before w said.setup (past_after said.setup (happenings said)))
 
--- a page, which lists the lines of its file, and one picture whose bands' heights come to so much; either shows the items in its window, and the page's slider begins with the store before it
+-- A page, which lists the lines of its file, and one picture, by the height of its bands. Either shows the items in its window, and the page's slider begins with the store before it.
 abbrev pub picture_of : PictureOptions → Form → List ℕ → Script → ℕ → List Item → List ℕ
 picture_of options form.Page file said height items =
     (page_front subject.Run said.setup file options.reads ++ bands_reported (plan_of form.Page options.window said.setup) items)

@@ -13,16 +13,16 @@ use Rattle.draw.specs.declared.views.AccessView.{AccessView}
 abbrev pub entry_parts : Past → List Part
 entry_parts = map PartEntry
 
--- the last line, and the verdict of a judge, if it tells one
+-- the last line, and the verdict of a judge, if it reports one
 abbrev pub record_end : AccessView → Setup → ℕ → Past → List ℕ → List Gives
 record_end view s source past reported =
     end_given view.reads (source + 1) (length past) (reads_since s (entry_parts past)) reported (SaysEnd (length past) (taken_by (marks_back past)) 0)
 
--- the line of the page's list that stands for all entries: it is behind the headings and the opening pairs
+-- the number of the line for all entries in the page's list, which comes after the headings and the opening pairs
 abbrev pub source_of : Setup → ℕ
 source_of s = length (head_words s) + 1
 
--- what a whole record gives, and a judge who tells this of it
+-- all items of a record, with this report of a judge
 abbrev pub record_gives : AccessView → Said → List ℕ → List Gives
 record_gives view said reported = given_all view said.setup (source_of said.setup) (entry_parts (reverse said.entries)) ++ record_end view said.setup (source_of said.setup) (reverse said.entries) reported
 

@@ -1,4 +1,4 @@
--- What was written of a run's picture, and what is read back of it.
+-- The bytes that are written of a run's picture, and the lines that are read back from them.
 use Rattle.std.specs.Prelude.{◌≡◌, ◌<◌, ℕ, List, [], flat_map, Option, Some, IfSome, Result, Ok, Err}
 use Rattle.std.specs.Io.KnownBytes.{IsAtEnd}
 use Rattle.model.specs.plain_store.{Setup}
@@ -70,19 +70,19 @@ pub record DrawsPage (options : PictureOptions) (head : List ℕ) (said : Script
 abbrev pub tally : RunDrawing → Summary
 tally run = record { events = run.drawing.entries; taken = 0; refused = run.refused }
 
--- the part that a turn tells
+-- the part that a turn reports
 abbrev pub part_reported : TurnReport → Part
 part_reported (reported.Accepted made) = PartEntry (entry_made made)
 part_reported (reported.Refused p refusal) = PartLine (SaysRefusal p refusal)
 part_reported (reported.Tired p) = PartLine (SaysTired p)
 part_reported (reported.Shown store) = PartLine (SaysStore (newest_words store))
 
--- a turn that tells an accepted event tells whether it ends an overlapped read, if reads are shown
+-- a turn that reports an accepted event reports whether the event ends an overlapped read, if reads are shown
 abbrev pub ReportsReads : Mode → Setup → Past → TurnReport → Type 0
 ReportsReads mode s past (reported.Accepted made) = ReportsEnd mode s past made.access made.overlapped
 ReportsReads mode s past answer = Unit {0}
 
--- the part that a turn tells was drawn, whatever parts came before it
+-- the part that a turn reports was drawn, whatever parts came before it
 abbrev pub DrawsReported : RunDrawing → RunDrawing → TurnReport → Option (List ℕ) → Option (List ℕ) → Type 0
 DrawsReported had has answer old new =
     (view : AccessView) (s : Setup) (parts : List Part) → ReportsReads view.reads s (entries_among parts) answer → Recalls view s parts had.drawing → DrawsPart view s parts (part_reported answer) had.drawing has.drawing old new
@@ -97,7 +97,7 @@ abbrev pub GoesOnDrawing : Setup → List Happening → List Happening → RunDr
 GoesOnDrawing s before after drawing drawings taken then =
     (view : AccessView) (start : List Part) (had : Kept) (old : Option (List ℕ)) → HasDrawnRun view s start had old before drawing taken → HasDrawnRun view s start had old after drawings then
 
--- from one run to another: the cursor, and what was drawn
+-- the steps from one run to another: the state of the scenario run, and what was drawn
 pub record Advances (view : AccessView) (s : Setup) (before after : Run) (scenario_run : ScenarioRunState) (drawing drawings : RunDrawing) (old new : Option (List ℕ)) : Type 0 where
   pub follows : Follows scenario_run after
   pub setup : scenario_run.world.setup ≡ s
@@ -109,7 +109,7 @@ DrawsLine line old new drawing drawings taken then =
     (view : AccessView) (run : Run) → Follows old run → Counts old.world.setup run.happened (tally drawing) → Recalls view old.world.setup (parts_of old.world.setup run.happened) drawing.drawing →
     Advances view old.world.setup run (run_after old.world.setup line run) new drawing drawings taken then
 
--- How `draw` ends: where it ends well, what was written is a picture of a window of the whole run; after a fault of the input nothing was written.
+-- How `draw` ends. If it succeeds, it has written a picture of a window of the whole run; after a fault of the input, it has written nothing.
 abbrev pub DrewRun : PictureOptions → Form → Result (Unit {0}) Fault → Streams → Streams → Type 0
 DrewRun options form (Ok done) old new =
     IfSome old.to_come (λ input. (said : Script) × (scenario_of input ≡ Ok said) × (replay_text input ≡ Ok (replayed said)) × DrawsAll options form input said old.taken new.taken)

@@ -1,4 +1,4 @@
--- What stands while a record is read and drawn line by line, and how that ends.
+-- What holds while a record is read and drawn line by line, and how that ends.
 use Rattle.std.specs.Prelude.{◌≡◌, ◌<◌, ◌≤◌, ℕ, true, List, [], ◌∷◌, ◌++◌, codes, flat_map, length, reverse, Option, None, Some, IfSome, Result, Ok, Err}
 use Rattle.std.specs.Io.KnownBytes.{IsAtEnd, Keeps}
 use Rattle.scenario.specs.files.Engines.{Streams}
@@ -30,7 +30,7 @@ use Rattle.draw.specs.declared.records.sheet.RecordPicture.{RecordPicture}
 use Rattle.draw.specs.declared.records.stored.RecordEntries.{RecordEntries}
 use Rattle.draw.specs.declared.views.AccessView.{AccessView}
 
--- the lines that a page lists: the headings and the opening pairs of the record, and one that stands for its entries
+-- the lines that a page lists: the headings and the opening pairs of the record, and one line for all entries
 abbrev pub listed : Setup → List ℕ
 listed s = flat_map printed_line (head_words s) ++ codes "(entries)\n"
 
@@ -44,14 +44,14 @@ picture_of view (form.Picture top) s past items =
     ++ bands_reported (plan_of (form.Picture top) view.window s) items)
     ++ picture_back (heights_reported (plan_of (form.Picture top) view.window s) items) view.reads
 
--- Markup is the picture of a window of a record of which a judge tells this, or nothing, if there is none; and nothing else: that of items which are what the record gives, one by one. So all items say its marks.
+-- Markup is the picture of a window of a record with this report of a judge, or with none, and nothing else: its items are those of the record, one by one. So all items say its marks.
 pub record IsRecordPicture (view : AccessView) (form : Form) (said : Said) (reported markup : List ℕ) : Type 0 where
   pub items : List Item
   pub are : given items ≡ record_gives view said reported
   pub marks : flat_map marks_said (line_contents items) ≡ marks_in (reverse said.entries)
   pub is : markup ≡ picture_of view form said.setup (reverse said.entries) items
 
--- A whole picture was written: it is that of a window of a record of which a judge tells this, and nothing else; its tags fit, and no element is open at its end; and the titles of its marks, read back, are the lines in the window. If the window is all entries, these are the marks of the record, in their order, what the judge tells, line by line, and a last line.
+-- A whole picture of a window of a record was written, with this report of a judge, and nothing else. Its tags fit, and no element is open at its end. The titles of its marks, read back, are the lines in the window. If the window is all entries, these are the marks of the record, in their order, the judge's report, line by line, and a last line.
 pub record DrawsSaid (view : AccessView) (form : Form) (said : Said) (reported : List ℕ) (old new : Option (List ℕ)) : Type 0 where
   pub markup : List ℕ
   pub picture : IsRecordPicture view form said reported markup
@@ -60,20 +60,20 @@ pub record DrawsSaid (view : AccessView) (form : Form) (said : Said) (reported :
   pub all_read_back : view.window ≡ all_entries → lines_in markup ≡ record_lines said reported
   pub writes : Writes old new markup
 
--- What it shows is decided by what is asked for and by the number of entries that are shown.
+-- The options and the number of entries that are shown decide what the picture shows.
 abbrev pub DrawsAsked : PictureOptions → Form → Said → List ℕ → Option (List ℕ) → Option (List ℕ) → Type 0
 DrawsAsked asked form said = DrawsSaid (record_view asked (length said.entries)) form said
 
--- That of the record that a text says, of which no judge tells.
+-- The picture of the record that a text says, without a judge.
 abbrev pub DrawsRecord : PictureOptions → Form → List ℕ → Option (List ℕ) → Option (List ℕ) → Type 0
 DrawsRecord asked form text old new = IsOfRecord (λ s entries numbers. DrawsAsked asked form (record { setup = s; entries = entries }) [] old new) text
 
--- These entries of a record are shown: all, which keep all laws; or those up to the first that breaks one.
+-- These entries of a record are shown: all of them, which keep all laws, or those up to the first that breaks one.
 pub data Shows (Keeps : List Entry → Type 0) (entries shown : List Entry) : Type 0 where
   All : shown ≡ entries → Keeps entries → Shows Keeps entries shown
   UpTo : (before : List Entry) (e : Entry) (later : List Entry) → shown ≡ before ++ e ∷ [] → entries ≡ shown ++ later → Keeps before → (Keeps shown → ⊥) → Shows Keeps entries shown
 
--- this holds of what is shown of a record, and of what a judge tells of the whole record, whose entries stand in the lines with these numbers
+-- this holds of the entries that are shown and of the judge's report on the whole record, whose entries lie in the lines with these numbers
 pub record IsJudged (Keeps : Setup → List Entry → Type 0) (Reports : Setup → List Entry → List ℕ → List ℕ → ℕ → Type 0) (status : ℕ) (P : Said → List ℕ → Type 0) (s : Setup) (entries : List Entry) (numbers : List ℕ) : Type 0 where
   pub reported : List ℕ
   pub reports : Reports s entries numbers reported status
@@ -81,11 +81,11 @@ pub record IsJudged (Keeps : Setup → List Entry → Type 0) (Reports : Setup �
   pub shows : Shows (Keeps s) entries shown
   pub is : P (record { setup = s; entries = shown }) reported
 
--- The picture of the record that a text says, up to the first entry that breaks a law, and of what a judge tells of that record.
+-- The picture of the record that a text says, up to the first entry that breaks a law, with the judge's report on that record.
 abbrev pub DrawsJudged : (Setup → List Entry → Type 0) → (Setup → List Entry → List ℕ → List ℕ → ℕ → Type 0) → PictureOptions → Form → ℕ → List ℕ → Option (List ℕ) → Option (List ℕ) → Type 0
 DrawsJudged Keeps Reports asked form status text old new = IsOfRecord (IsJudged Keeps Reports status (λ said reported. DrawsAsked asked form said reported old new)) text
 
--- what a page has before its bands was written; one picture has it later, once its height is known
+-- the part of a page before its bands was written; in one picture, this part is written later, once its height is known
 pub record HeadsPage (reads : Mode) (s : Setup) (old new : Option (List ℕ)) : Type 0 where
   pub head : List ℕ
   pub is : head ≡ page_front subject.Record s (listed s) reads
@@ -97,7 +97,7 @@ abbrev pub Heads : Mode → Form → Setup → Option (List ℕ) → Option (Lis
 Heads reads form.Page s old new = HeadsPage reads s old new
 Heads reads (form.Picture top) s old new = new ≡ old
 
--- these entries of a record with this setup are drawn, but for what is held back
+-- these entries of a record with this setup are drawn, except for the lines that are held back
 pub record IsDrawn (view : AccessView) (form : Form) (s : Setup) (past : Past) (d : RecordDrawing) (old new : Option (List ℕ)) : Type 0 where
   pub source : d.drawing.source ≡ source_of s
   pub monitors : Monitors view.reads s (entries_among (entry_parts past)) d.monitor.monitor
@@ -111,12 +111,12 @@ pub record AreStored (asked : PictureOptions) (past : Past) (stored : List Entry
   pub are : stored ≡ reverse past
   pub unwritten : new ≡ old
 
--- or it is decided that what the picture of a long record shows is shown, and they are drawn so
+-- or the view of a long record is decided on, and they are drawn in this view
 pub record AreDrawn (asked : PictureOptions) (form : Form) (s : Setup) (past : Past) (d : RecordDrawing) (old new : Option (List ℕ)) : Type 0 where
   pub decided : IsDecided asked (length past)
   pub drawn : IsDrawn (long_view asked) form s past d old new
 
--- the same by what there is
+-- the entries are stored or drawn, depending on whether there is a drawing
 abbrev pub AreShownBy : Option RecordDrawing → List Entry → PictureOptions → Form → Setup → Past → Option (List ℕ) → Option (List ℕ) → Type 0
 AreShownBy None stored asked form s past old new = AreStored asked past stored old new
 AreShownBy (Some d) stored asked form s past old new = AreDrawn asked form s past d old new
@@ -124,7 +124,7 @@ AreShownBy (Some d) stored asked form s past old new = AreDrawn asked form s pas
 abbrev pub DrawsPast : PictureOptions → Form → RecordEntries → Setup → Past → Option (List ℕ) → Option (List ℕ) → Type 0
 DrawsPast asked form e s past old new = AreShownBy e.drawing e.stored.items asked form s past old new
 
--- the same by what was read: behind an entry the setup stays
+-- the entries are stored or drawn, by what was read; after an entry, the setup does not change
 abbrev pub AreReadBy : Option RecordDrawing → List Entry → PictureOptions → Form → Option Progress → Past → Option (List ℕ) → Option (List ℕ) → Type 0
 AreReadBy None stored asked form before past old new = AreStored asked past stored old new
 AreReadBy (Some d) stored asked form None past old new = ⊥
@@ -133,26 +133,26 @@ AreReadBy (Some d) stored asked form (Some p) past old new = (p.ended ≡ true) 
 abbrev pub DrawsAt : PictureOptions → Form → RecordEntries → Option Progress → Past → Option (List ℕ) → Option (List ℕ) → Type 0
 DrawsAt asked form e before past old new = AreReadBy e.drawing e.stored.items asked form before past old new
 
--- this was read, these entries were said, the newest first, each was taken, and they were drawn
+-- this was read, it said these entries, the newest first, each was taken, and they are stored or drawn
 pub record Corresponds (t : RecordPicture) (before : Option Progress) (past : Past) (old new : Option (List ℕ)) : Type 0 where
   pub reader : t.reader ≡ before
   pub clear : cleared before ≡ before
   pub draws : DrawsAt t.options t.form t.entries before past old new
 
--- what a line says was read, and drawn if it is an entry
+-- a line was read, and drawn if it is an entry
 pub record GoesOn (line : Result (Option Progress) FaultKind) (t : RecordPicture) (past : Past) (old new : Option (List ℕ)) : Type 0 where
   pub now : Option Progress
   pub says : line ≡ Ok now
   pub corresponds : Corresponds t (cleared now) (entry_in now ++ past) old new
 
--- why a line is not drawn: its fault, a call that failed, or want of memory
+-- why a line is not drawn: its fault, a call that failed, or allocation failure
 abbrev pub LineStops : Fault → ℕ → (FaultKind → Type 0) → Type 0
 LineStops (fault.Line f) number says = (f.line ≡ number) × UnlessMemory f.kind (says f.kind)
 LineStops fault.Write number says = Unit {0}
 LineStops fault.Memory number says = Unit {0}
 LineStops fault.Read number says = ⊥
 
--- how many entries are stored or drawn
+-- the number of entries that are stored or drawn
 abbrev pub count_by : Option RecordDrawing → List Entry → ℕ
 count_by None stored = length stored
 count_by (Some d) stored = d.drawing.entries
@@ -160,40 +160,40 @@ count_by (Some d) stored = d.drawing.entries
 abbrev pub entries_of : RecordEntries → ℕ
 entries_of e = count_by e.drawing e.stored.items
 
--- all bands of these entries and of what a judge tells were written, and a page's front before them
+-- all bands of these entries and of a judge's report were written, with the part of a page before them
 pub record EndsAt (view : AccessView) (form : Form) (s : Setup) (past : Past) (reported : List ℕ) (height : ℕ) (old new : Option (List ℕ)) : Type 0 where
   pub mid : Option (List ℕ)
   pub heads : Heads view.reads form s old mid
   pub bands : DrawsBands (plan_of form view.window s) mid new (given_all view s (source_of s) (entry_parts past) ++ record_end view s (source_of s) past reported) height
 
--- the same of what is shown by what is asked for, with the words of the store before the window
+-- the bands were written in the view that the options ask for, and these are the words of the store before the window
 pub record EndsAsked (asked : PictureOptions) (form : Form) (s : Setup) (past : Past) (reported : List ℕ) (shows : Mode) (opening : List ℕ) (height : ℕ) (old new : Option (List ℕ)) : Type 0 where
   pub shows_it : shows ≡ (record_view asked (length past)).reads
   pub opens : opening ≡ store_words (store_before (record_view asked (length past)).window s past)
   pub ends : EndsAt (record_view asked (length past)) form s past reported height old new
 
--- the same of a record
+-- the bands of a record were written
 pub record DrawsBandsOf (asked : PictureOptions) (form : Form) (drawn : DrawnEntry) (old new : Option (List ℕ)) (said : Said) (reported : List ℕ) : Type 0 where
   pub setup : drawn.setup ≡ said.setup
   pub ends : EndsAsked asked form said.setup (reverse said.entries) reported drawn.shows drawn.opening.items drawn.height old new
 
--- of the record that a text says, of which no judge tells
+-- the bands of the record that a text says were written, without a judge
 abbrev pub DrawsAllBands : PictureOptions → Form → DrawnEntry → Option (List ℕ) → Option (List ℕ) → List ℕ → Type 0
 DrawsAllBands asked form drawn old new = IsOfRecord (λ s entries numbers. DrawsBandsOf asked form drawn old new (record { setup = s; entries = entries }) [])
 
--- why drawing ends early: a fault of what the input says, a call that failed, or want of memory
+-- why drawing ends early: a fault of what the input says, a call that failed, or allocation failure
 abbrev pub IsDrawFault : Fault → Option (List ℕ) → Type 0
 IsDrawFault (fault.Line f) to_come = IfSome to_come (λ text. UnlessMemory f.kind (record_of text ≡ Err f))
 IsDrawFault fault.Read to_come = Unit {0}
 IsDrawFault fault.Write to_come = Unit {0}
 IsDrawFault fault.Memory to_come = Unit {0}
 
--- nothing was written of one picture; of a page what stood before the fault may have been
+-- nothing was written of one picture; of a page, the part before the fault may have been written
 abbrev pub LeavesNone : Form → Option (List ℕ) → Option (List ℕ) → Type 0
 LeavesNone form.Page old new = Unit {0}
 LeavesNone (form.Picture top) old new = Keeps old new
 
--- How drawing a record ends: with a picture of what the whole input says, or with its fault, which is the one that judging it has; each fault has its cause.
+-- How drawing a record ends: with a picture of what the whole input says, or with a fault, which is the fault that judging it has. Each fault has its cause.
 abbrev pub DrewAs : {A : Type 0} → (A → List ℕ → Option (List ℕ) → Option (List ℕ) → Type 0) → Form → Result A Fault → Streams → Streams → Type 0
 DrewAs draws form (Ok done) old new = IfSome old.to_come (λ text. draws done text old.taken new.taken) × IsAtEnd new.to_come
 DrewAs draws form (Err (fault.Line f)) old new = IfSome old.to_come (λ text. UnlessMemory f.kind (record_of text ≡ Err f)) × LeavesNone form old.taken new.taken
@@ -204,11 +204,11 @@ DrewAs draws form (Err fault.Memory) old new = Unit {0}
 abbrev pub DrewRecord : PictureOptions → Form → Result (Unit {0}) Fault → Streams → Streams → Type 0
 DrewRecord asked form = DrewAs (λ done. DrawsRecord asked form) form
 
--- The same of a record that is judged, with the status that the judge answers.
+-- How drawing a judged record ends, with the status that the judge returns.
 abbrev pub DrewJudged : (Setup → List Entry → Type 0) → (Setup → List Entry → List ℕ → List ℕ → ℕ → Type 0) → PictureOptions → Form → Result ℕ Fault → Streams → Streams → Type 0
 DrewJudged Keeps Reports asked form = DrewAs (DrawsJudged Keeps Reports asked form) form
 
--- where bytes are held, a write that fails wants memory
+-- where bytes are stored in memory, a failed write is an allocation failure
 abbrev pub without_write : Fault → Fault
 without_write fault.Write = fault.Memory
 without_write other = other

@@ -1,4 +1,4 @@
-//! The watch that finds the overlapped reads of a record.
+//! The monitor that finds the overlapped reads of a record.
 ghost use Rattle.std.specs.Prelude.{◌≡◌, [], ◌∷◌, IfOk, Ok};
 ghost use Rattle.model.specs.plain_store.{checked};
 ghost use Rattle.model.specs.plain_store.declared.setups.Setup.{Setup as Given};
@@ -12,7 +12,7 @@ use picture::Reads;
 use record_accesses::plain_store::Setup;
 use std::alloc::{AllocError, Global};
 
-/// A watch that observes the entries of a record, if overlapped reads are shown. A run needs none, because its memory
+/// A monitor that observes the entries of a record, if overlapped reads are shown. A run needs none, because its memory
 /// reports which reads are overlapped.
 #[derive(Drop)]
 pub struct ReadMonitor {
@@ -20,7 +20,7 @@ pub struct ReadMonitor {
 }
 
 impl ReadMonitor {
-    /// Returns a watch of no entries, if overlapped reads are shown.
+    /// Returns a monitor that has observed no entries, if overlapped reads are shown.
     ///
     /// # Errors
     ///

@@ -23,7 +23,7 @@ first_bad s entries e l kept breaks = record {
   breaks = breaks;
 }
 
--- one more entry after a good record, by the findings of a watch and an auditor
+-- one more entry after a good record, by the findings of a monitor and an auditor
 pub found_is : (s : Setup) (entries : List Entry) (e : Entry) (is_safe : Bool) (observed : Option Law) (then : AuditorState) → AllKeep s (reverse entries) →
     MatchBool is_safe (KeepsSafe s (reverse entries) e) (KeepsSafe s (reverse entries) e → ⊥) → IsObserved s (reverse entries) e then observed → IsVerdict s (entries ++ e ∷ []) (found (length entries) is_safe observed)
 found_is s entries e false observed then kept safe is = first_bad s entries e law.Safe kept (breaks_safe s (reverse entries) e false refl safe)
@@ -36,7 +36,7 @@ found_good k false observed is = absurd (cc)
 found_good k true (Some l) is = absurd (cc)
 found_good k true None is = refl
 
--- the findings of a watch and an auditor on one more entry
+-- the findings of a monitor and an auditor on one more entry
 pub record AreReported (j : JudgeState) (e : Entry) (is_safe : Bool) (w : MonitorState) (observed : Option Law) (a : AuditorState) : Type 0 where
   pub monitored : w.setup ≡ j.monitor.setup
   pub monitor : (past : Past) → HasMonitored j.monitor past → HasMonitored w (e ∷ past)

@@ -7,7 +7,7 @@ use Rattle.auditor.specs.{AuditorState, HasObserved, IsAt, IsVerdict, Law, Verdi
 use Rattle.auditor.specs.safe_monitor.declared.verdicts.Law.TheVariants.{Safe}
 use Rattle.auditor.specs.safe_monitor.declared.verdicts.Verdict.TheVariants.{Good, Bad}
 
--- a watch, an auditor, the verdict so far, and the number of entries observed
+-- a monitor, an auditor, the verdict so far, and the number of entries observed
 pub record JudgeState : Type 0 where
   pub monitor : MonitorState
   pub auditor : AuditorState
@@ -26,7 +26,7 @@ pub record HasAudited (a : AuditorState) (s : Setup) (past : Past) : Type 0 wher
   pub setup : a.core.setup ≡ s
   pub observed : HasObserved a past
 
--- A judge has observed these entries, and its verdict is the one on them. While it is good, the watch and the auditor have observed all entries; once it is bad, the auditor has observed those before the bad one.
+-- A judge has observed these entries, and its verdict is the one on them. While it is good, the monitor and the auditor have observed all entries; once it is bad, the auditor has observed those before the bad one.
 pub record HasJudged (j : JudgeState) (s : Setup) (entries : List Entry) : Type 0 where
   pub good : checked s ≡ Ok tt
   pub count : j.entries ≡ length entries
@@ -46,7 +46,7 @@ BothObserveOneMore old e verdict new = (s : Setup) (entries : List Entry) → ol
 abbrev pub StaysBefore : JudgeState → Entry → Verdict Law → JudgeState → Type 0
 StaysBefore old e verdict new = (s : Setup) (entries : List Entry) → old.verdict ≡ Good → HasJudged old s entries → (verdict ≡ Good → ⊥) → new.auditor ≡ old.auditor
 
--- the verdict with entry k, if that on the entries before it is good, by the findings of a watch and an auditor
+-- the verdict with entry k, if that on the entries before it is good, by the findings of a monitor and an auditor
 abbrev pub found : ℕ → Bool → Option Law → Verdict Law
 found k false law = Bad k Safe
 found k true law = verdict_with k law

@@ -18,7 +18,7 @@ use plain_store::{NestedTypes, Setup};
 use std::alloc::{AllocError, Global};
 use std::marker::Model;
 
-/// The judge of records of this project's lock. It stores a watch, an auditor, and the verdict so far.
+/// The judge of records of this project's lock. It stores a monitor, an auditor, and the verdict so far.
 #[derive(Drop)]
 pub struct ThisLockJudge {
     monitor: SafeMonitor,
@@ -142,7 +142,7 @@ impl RecordJudge for ThisLockJudge {
     ghost newest = { newest_is_bad };
 }
 
-/// Returns the verdict with an entry, by the findings of a watch and an auditor.
+/// Returns the verdict with an entry, by the findings of a monitor and an auditor.
 fn found(entry: u64, is_safe: bool, law: Option<Law>) -> Verdict
     ensures { result ≡ verdict_found entry is_safe law }
 {

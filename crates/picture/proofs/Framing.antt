@@ -1,4 +1,4 @@
--- What stands before and behind the bands begins elements, and ends them.
+-- The parts before and after the bands: which elements they begin, and which they end.
 use Rattle.std.proofs.Common.{◌≡◌, ℕ, Result, Ok, Err, IfOk, OnOk, List, [], ◌∷◌, codes, Some, refl, ap, ◌∙◌}
 use Rattle.markup.specs.{Reading, begun, group, opens_in, reading, with_begun, with_tags}
 use Rattle.picture.specs.{Subject, list_begun, page_names, picture_names, script_of}
@@ -11,7 +11,7 @@ Leaves read before after = (read.lines ≡ []) × (read.opens (Some before) ≡ 
 leaves : (read other : Reading) (before after : List (List ℕ)) → read ≡ other → Leaves other before after → Leaves read before after
 leaves read other before after is so = (ap (λ (r : Reading). r.lines) is ∙ so.0, ap (λ (r : Reading). r.opens (Some before)) is ∙ so.1)
 
--- what holds where a call went well gives what else holds then
+-- a consequence of a fact that holds after a successful call holds after it, too
 pub on_ok : {A E : Type 0} {P Q : Type 0} (r : Result A E) → (P → Q) → OnOk r P → OnOk r Q
 on_ok (Ok done) gives holds = gives holds
 on_ok (Err e) gives holds = tt

@@ -1,10 +1,10 @@
--- What stands around the bands, put together piece by piece.
+-- The parts before and after the bands, put together piece by piece.
 use Rattle.std.proofs.Common.{◌≡◌, ℕ, Result, Ok, Err, OnOk, List, [], ◌∷◌, ◌++◌, codes, flat_map, ap, ◌∙◌, append_assoc}
 use Rattle.markup.specs.{Attribute, Said, attribute_text, said_text}
 use Rattle.std.specs.Fmt.{decimal}
 use Rattle.picture.specs.{Subject, counted_of, format_word, plural_of, says, subject_word}
 
--- one piece more
+-- one more piece
 pub adds : (old now new more : List ℕ) → new ≡ now ++ more → now ≡ old → new ≡ old ++ more
 adds old now new more is was = is ∙ ap (λ l. l ++ more) was
 

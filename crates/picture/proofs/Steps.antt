@@ -1,4 +1,4 @@
--- What is drawn of a column, and then of those behind it.
+-- The shapes of a column, and then those of the columns after it.
 use Rattle.std.proofs.Common.{◌≡◌, ℕ, ◌+◌, add-one, ◌<◌, Bool, true, false, cond, is_some, Option, List, ◌++◌, drop, length, map, flat_map, get_or, ap, sym, ◌∙◌}
 use Rattle.markup.specs.{Point, Shape, drawings}
 use Rattle.model.specs.{Stage}
@@ -7,7 +7,7 @@ use Rattle.picture.specs.{SeenBand, Stretch, Subject, accesses_from, axis, axis_
 use Rattle.picture.proofs.Drawn.{drop_next, then_drawn}
 
 module _ (columns : List Column) (k : ℕ) (column : Column) (within : k < length columns) (here : column ≡ get_or columns k column) where
-  -- the shades: somebody is inside behind the column or not
+  -- the shades: after the column, a process is inside or none is
   pub shades_next : (chain end : ℕ) (from next : Option ℕ) (inside : Bool) → inside ≡ is_some column.after.inside → next ≡ inside_since from inside column.x →
       shades chain end from (map seen (drop k columns)) ≡ shade_up_to chain from inside column.x ++ shades chain end next (map seen (drop (k + 1) columns))
   shades_next chain end from next inside is so =
@@ -19,7 +19,7 @@ module _ (columns : List Column) (k : ℕ) (column : Column) (within : k < lengt
   pub axis_next : (subject : Subject) (end from : ℕ) → axis subject end from (map seen (drop k columns)) ≡ axis_up_to from (seen column) ++ axis subject end column.x (map seen (drop (k + 1) columns))
   axis_next subject end from = ap (λ cs. axis subject end from (map seen cs)) (drop_next columns k column within here)
 
-  -- the bars of a lane: the stage of its process is the same behind the column, or another
+  -- the bars of a lane: after the column, the stage of its process is the same or another one
   pub bars_stay : (lane : Lane) (p end : ℕ) (stage next : Stage) (from : ℕ) → next ≡ stage_among column.after.stages p → is_stage next stage ≡ true →
       bars lane p end stage from (map seen (drop k columns)) ≡ bars lane p end stage from (map seen (drop (k + 1) columns))
   bars_stay lane p end stage next from is same =
@@ -35,7 +35,7 @@ module _ (columns : List Column) (k : ℕ) (column : Column) (within : k < lengt
       (ap (λ (s : Stage). is_stage s stage) (sym is) ∙ other)
       ∙ ap (λ (s : Stage). bar lane stage from column.x ++ bars lane p end s column.x (map seen (drop (k + 1) columns))) (sym is)
 
-  -- the words of a lane: a stretch goes on behind the column, or ends
+  -- the words of a lane: a stretch continues after the column, or ends
   pub words_stay : (p middle end : ℕ) (stretch : Stretch) → ends_at p stretch (seen column) ≡ false → words_from p middle end stretch (map seen (drop k columns)) ≡ words_from p middle end stretch (map seen (drop (k + 1) columns))
   words_stay p middle end stretch stays =
       ap (λ cs. words_from p middle end stretch (map seen cs)) (drop_next columns k column within here)

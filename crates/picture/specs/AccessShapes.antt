@@ -18,7 +18,7 @@ box_style kind.Read true = codes "overlapped"
 box_style kind.Write is_overlapped = codes "write"
 box_style kind.Update is_overlapped = codes "update"
 
--- the same of an access that does not end in its band
+-- the style of the box of an access that does not end in its band
 abbrev pub open_style : AccessKind → Bool → List ℕ
 open_style kind is_overlapped = box_style kind is_overlapped ++ codes " unended"
 
@@ -54,7 +54,7 @@ styled_words style lane x access =
 abbrev pub move_words : Lane → ℕ → ShownAccess → List Shape
 move_words = styled_words (codes "move")
 
--- the style of what an access gives: that of a read that a write overlapped stands out
+-- the style of the value that an access gives: a read that a write overlapped has a style of its own
 abbrev pub value_by : AccessKind → Bool → List ℕ
 value_by kind.Read true = codes "saw"
 value_by _ is_overlapped = codes "move"
@@ -106,7 +106,7 @@ abbrev pub shapes_if : Lane → Option UnendedAccess → ℕ → ℕ → Option 
 shapes_if lane before from x None = []
 shapes_if lane before from x (Some access) = access_shapes lane before from access x access.step
 
--- where the access began that is open behind a column
+-- the position at which the access that is open after a column began
 abbrev pub from_next : ℕ → ℕ → Seen → ℕ
 from_next p from column = cond (is_some (made_by p column.access)) column.x from
 
@@ -146,7 +146,7 @@ abbrev pub tie_to : Layout → ℕ → ShownAccess → ℕ → List Shape
 tie_to layout x access p =
     cond (is_over access p) (tie_between x (boxes_of (lane_in layout access.process)) (boxes_of (lane_in layout p))) []
 
--- the ties to the accesses of the first so many processes
+-- the ties to the accesses of the processes below a number
 abbrev pub ties_to : Layout → ℕ → ShownAccess → ℕ → List Shape
 ties_to layout x access zero = []
 ties_to layout x access (suc p) = ties_to layout x access p ++ tie_to layout x access p

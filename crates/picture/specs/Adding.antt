@@ -1,4 +1,4 @@
--- What a call that goes well adds to markup.
+-- What a successful call adds to markup.
 use Rattle.std.specs.Prelude.{◌≡◌, ◌++◌, ℕ, List, Option, Result, IfOk, OnOk, flat_map}
 use Rattle.picture_layout.specs.{Column, seen_accesses, reported_in}
 use Rattle.markup.specs.{Shape, drawings, reading, with_begun, with_lines}
@@ -19,15 +19,15 @@ module _ {A E : Type 0} where
   abbrev pub ReportsLines : Result A E → List ℕ → List ℕ → List (List ℕ) → Type 0
   ReportsLines result old new lines = OnOk result (reading new ≡ with_lines lines (reading old))
 
-  -- an element that goes on
+  -- an element that remains open
   abbrev pub Begins : Result A E → List ℕ → List ℕ → List ℕ → Type 0
   Begins result old new tag = OnOk result (reading new ≡ with_begun tag (reading old))
 
--- the lines that some columns tell
+-- the lines that some columns show
 abbrev pub all_reported : List Column → List (List ℕ)
 all_reported columns = flat_map reported_in columns
 
--- these lines are given with the band that is full, if one is
+-- these lines are those of the band that the call returns, if it returns one, and then those that are kept
 abbrev pub GivesLines : {E : Type 0} → Result (Option (List ℕ)) E → List (List ℕ) → List (List ℕ) → Type 0
 GivesLines result kept lines = IfOk result (λ full. lines_of_band full ++ kept ≡ lines)
 

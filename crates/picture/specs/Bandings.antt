@@ -1,4 +1,4 @@
--- The bands of a picture, by what it is told. Of items, of columns and of full bands the newest stands first.
+-- The bands of a picture, by its items. Lists of items, of columns and of full bands begin with the newest.
 use Rattle.std.specs.Prelude.{ℕ, ◌+◌, ◌-◌, min, Bool, true, false, List, [], ◌∷◌, ◌++◌, codes, fold, length, Option, None, Some}
 use Rattle.std.specs.Fmt.{decimal}
 use Rattle.markup.specs.{End, drawings, drawn, entering_by, lowering}
@@ -13,7 +13,7 @@ use Rattle.picture.specs.declared.page.Form.TheVariants as form
 use Rattle.picture.specs.declared.subjects.Subject.{Subject}
 use Rattle.shown_verdict.specs.declared.verdicts.ShownVerdict.{ShownVerdict}
 
--- what a picture is told
+-- the items from which a picture is drawn
 pub data Item : Type 0 where
   Reports : RunLine → Item  -- a line of the run
   Reads : OverlappedRead → Item  -- a read that a write overlapped
@@ -68,7 +68,7 @@ newest_at at (column ∷ before) = column.at
 abbrev pub begun_by : ℕ → RunLine → Option ℕ → State → List Seen → List Seen
 begun_by at line frees after columns = alone line (line.at - newest_at at columns) frees after ∷ columns
 
--- a line joins the newest column, if it is a mark of its event; else it begins one
+-- a line joins the newest column if it is a mark of that column's event; otherwise it begins a column
 abbrev pub line_by : Bool → ℕ → RunLine → Option ℕ → State → Seen → List Seen → List Seen
 line_by true at line frees after column before = joined column line frees after ∷ before
 line_by false at line frees after column before = begun_by at line frees after (column ∷ before)
@@ -96,7 +96,7 @@ pub record Bands : Type 0 where
   pub begun : List Seen
   pub full : List (List Seen)
 
--- what stands at the beginning of the history, and how many characters it has
+-- the words at the beginning of the history, and their number of characters
 abbrev pub opens_with : List ℕ → List ℕ
 opens_with [] = []
 opens_with (b ∷ opening) = shortened (codes "opens with " ++ b ∷ opening)
@@ -105,19 +105,19 @@ abbrev pub opening_length : List ℕ → ℕ
 opening_length [] = 0
 opening_length (b ∷ opening) = min (length (b ∷ opening)) 33 + 11
 
--- where words end before the first column of a band: in the first band what the store opens with stands in the lane of the history
+-- The ends of the words before the first column of a band. In the first band, the lane of the history begins with the words of the opening store.
 abbrev pub placing_before : List ℕ → List (List Seen) → WordEnds
 placing_before opening [] = placing_at_first (opening_length opening)
 placing_before opening (band ∷ full) = placing_at_first 0
 
--- and behind columns
+-- the ends of the words after columns
 abbrev pub with_placed : WordEnds → Seen → WordEnds
 with_placed placing column = put_at placing column column.x
 
 abbrev pub placing_behind : WordEnds → List Seen → WordEnds
 placing_behind = fold with_placed
 
--- and behind those of the band that is begun
+-- the ends of the words after the columns of the band that is begun
 abbrev pub placing_in : List ℕ → Bands → WordEnds
 placing_in opening bands = placing_behind (placing_before opening bands.full) bands.begun
 
@@ -133,7 +133,7 @@ room_by false bands = filled bands
 abbrev pub with_room : List ℕ → Seen → Bands → Bands
 with_room opening column bands = room_by (has_room_at (placing_in opening bands) (place_of (placing_in opening bands) column)) bands
 
--- a column behind the others of the band, at its place
+-- a column is put after the others of the band, at its position
 abbrev pub with_put : List ℕ → Seen → Bands → Bands
 with_put opening column bands = record { begun = bands.begun ++ moved_to column (place_of (placing_in opening bands) column).x ∷ []; full = bands.full }
 
@@ -142,25 +142,25 @@ abbrev pub bands_of : List ℕ → List Seen → Bands
 bands_of opening [] = record { begun = []; full = [] }
 bands_of opening (column ∷ before) = with_put opening column (with_room opening column (bands_of opening before))
 
--- what stands behind columns, by what stood before them: what was told up to the last one, and how many events were accepted before it
+-- the state of all processes after columns, and the number of events accepted before the last column; if there are no columns, these are as before
 abbrev pub behind_columns : List Seen → State × ℕ → State × ℕ
 behind_columns columns before = elim (last_in columns) [ None ↦ before | Some column ↦ (column.after, column.at) ]
 
--- and what is before a band; before the first one it is the entry before the left edge
+-- the state and the number of events accepted before a band; before the first band, the state at the left edge and the number of the entry before it
 abbrev pub before_band : Plan → List (List Seen) → State × ℕ
 before_band plan [] = (plan.state, plan.at - 1)
 before_band plan (band ∷ full) = behind_columns band (before_band plan full)
 
--- what the store opens with, in the first band alone
+-- the words of the opening store, which only the first band has
 abbrev pub opens_before : List ℕ → List (List Seen) → List ℕ
 opens_before opening [] = opens_with opening
 opens_before opening (band ∷ full) = []
 
--- the accesses that are open at the left edge of a band, and its waves, by what was left before it
+-- the accesses that are open at the left edge of a band, and its waves, by the accesses before it
 abbrev pub accesses_in : SeenAccesses → List Seen → SeenAccesses
 accesses_in before band = accesses_at before (stretched_all band)
 
--- what full bands leave
+-- the accesses after full bands
 abbrev pub accesses_behind : SeenAccesses → List (List Seen) → SeenAccesses
 accesses_behind first [] = first
 accesses_behind first (band ∷ full) =
@@ -175,7 +175,7 @@ abbrev pub layout_of_band : Plan → List Seen → List (List Seen) → Bool →
 layout_of_band plan band full is_last =
     layout_in plan.state.processes (accesses_behind plan.accesses full) band is_last
 
--- how many bands are full
+-- the number of full bands
 abbrev pub number_of : List (List Seen) → ℕ
 number_of [] = 0
 number_of (band ∷ full) = held_in_64 (number_of full + 1)
@@ -195,7 +195,7 @@ abbrev pub framed : Form → ℕ → ℕ → ℕ → List ℕ → List ℕ
 framed form.Page number above height shapes = band_tag number height ++ codes "\n" ++ shapes ++ codes "</svg>\n"
 framed (form.Picture top) number above height shapes = lowering (held_in_64 (top + above)) ++ shapes ++ drawn End
 
--- what is written of a band behind full ones, with a verdict below it, if there is one
+-- the bytes of a band after full bands, with a verdict below it, if there is one
 abbrev pub band_bytes : Plan → Bool → Option ShownVerdict → List Seen → List (List Seen) → List ℕ
 band_bytes plan is_last verdict band full =
     framed plan.form (number_of (band ∷ full)) (heights plan full)
@@ -210,20 +210,20 @@ band_bytes plan is_last verdict band full =
       subject = plan.subject;
     }) (accesses_in (accesses_behind plan.accesses full) band)))
 
--- what is written of full bands
+-- the bytes of full bands
 abbrev pub full_bytes : Plan → List (List Seen) → List ℕ
 full_bytes plan [] = []
 full_bytes plan (band ∷ full) = full_bytes plan full ++ band_bytes plan false None band full
 
--- what is written of bands whose last column is the last of all, with a verdict below the last one, if there is one
+-- the bytes of bands whose last column is the last of all, with a verdict below the last band, if there is one
 abbrev pub whole_bytes : Plan → Option ShownVerdict → Bands → List ℕ
 whole_bytes plan verdict bands = full_bytes plan bands.full ++ band_bytes plan true verdict bands.begun bands.full
 
--- what is written of items, up to where the bands are full that come before the newest column
+-- the bytes written of items so far: the bands that are full once all columns before the newest are placed
 abbrev pub full_drawn : Plan → List Item → List ℕ
 full_drawn plan items = full_bytes plan (bands_of plan.opening (older (columns_of plan items))).full
 
--- what is written of all items, once there are no more, and the heights of their bands
+-- the bytes of all bands of items, once there are no more items, and the heights of these bands
 abbrev pub bands_drawn : Plan → List Item → List ℕ
 bands_drawn plan items =
     whole_bytes plan (verdict_in items) (bands_of plan.opening (columns_of plan items))

@@ -14,7 +14,7 @@ use Rattle.picture.specs.declared.bands.Band.{Band}
 use Rattle.picture.specs.declared.subjects.Subject.{Subject}
 use Rattle.picture.specs.declared.words.Stretch.{Stretch}
 
--- a band, with lists for what its fields hold: its columns, what stood before them, and where its lanes lie
+-- a band, with lists for what its fields hold: its columns, the state before them, and the positions of its lanes
 pub record SeenBand : Type 0 where
   pub columns : List Seen
   pub before : State
@@ -39,7 +39,7 @@ seen_band band = record {
 abbrev pub last_in : List Seen → Option Seen
 last_in columns = slice_get columns (length columns - 1)
 
--- what is drawn for each process below a number, ascending
+-- the shapes of each process below a number, ascending
 abbrev pub for_each : (ℕ → List Shape) → ℕ → List Shape
 for_each shapes zero = []
 for_each shapes (suc p) = for_each shapes p ++ shapes p
@@ -48,7 +48,7 @@ for_each shapes (suc p) = for_each shapes p ++ shapes p
 abbrev pub shade_of : ℕ → ℕ → ℕ → Shape
 shade_of chain from to = Block (codes "shade") (point from 20) (to - from) (chain - 20)
 
--- where somebody has been inside from, after a column at a place after which somebody is inside or not
+-- the position from which a process has been inside, after a column at position `x`, if one is inside there
 abbrev pub inside_since : Option ℕ → Bool → ℕ → Option ℕ
 inside_since from false x = None
 inside_since (Some from) true x = Some from
@@ -60,7 +60,7 @@ shade_up_to chain (Some from) false to = shade_of chain from to ∷ []
 shade_up_to chain (Some from) true to = []
 shade_up_to chain None inside to = []
 
--- the shades from a column on: somebody has been inside from this place on, if anybody is
+-- the shades from a column on, where `from` is the position from which a process has been inside, if one is
 abbrev pub shades : ℕ → ℕ → Option ℕ → List Seen → List Shape
 shades chain end from [] = shade_up_to chain from false end
 shades chain end from (column ∷ columns) =
@@ -84,7 +84,7 @@ gap_words from column = cond (reports_gap from column) (Label (codes "gap") (poi
 abbrev pub axis_up_to : ℕ → Seen → List Shape
 axis_up_to from column = axis_line from column ∷ (tick column ++ gap_words from column)
 
--- the axis from a place on, and what it counts
+-- the axis from a position on, and the unit that it counts
 abbrev pub axis : Subject → ℕ → ℕ → List Seen → List Shape
 axis subject end from [] = line_from (codes "axis") (point from 14) (point end 14) ∷ Label (codes "name") (point 8 17) (time_unit subject) ∷ []
 axis subject end from (column ∷ columns) = axis_up_to from column ++ axis subject end column.x columns
@@ -95,12 +95,12 @@ lane_shapes band p =
     lane_name (lane_in band.layout p) p
     ++ bars (lane_in band.layout p) p band.layout.end (stage_among band.before.stages p) 52 band.columns
 
--- the chain of the history, from its first place to its last
+-- the chain of the history, from its first position to its last
 abbrev pub chain_line : ℕ → Option (ℕ × ℕ) → List Shape
 chain_line knot None = []
 chain_line knot (Some ends) = line_from (codes "chain") (point ends.0 knot) (point ends.1 knot) ∷ []
 
--- what the store opens with
+-- the words of the opening store
 abbrev pub opening_words : ℕ → List ℕ → List Shape
 opening_words knot [] = []
 opening_words knot (b ∷ words) = Label (codes "store") (point 62 (knot + 4)) (b ∷ words) ∷ []
@@ -110,7 +110,7 @@ abbrev pub history_name : Bool → ℕ → List Shape
 history_name true knot = Label (codes "name") (point 8 (knot + 3)) (codes "history") ∷ []
 history_name false knot = []
 
--- after how many positions of the history its chain goes on at the left edge: none where the words of the store begin it
+-- the number of positions of the history before the left edge, from which its chain continues; 0 if the words of the store begin the lane
 abbrev pub places_behind : List ℕ → ℕ → ℕ
 places_behind [] places = places
 places_behind (b ∷ opens) places = 0
@@ -124,15 +124,15 @@ chain_shapes band =
     ++ chain_line (knot_of band.layout)
     (chain_ends_of (places_behind band.opens band.before.places) band.is_last band.layout.end band.columns))
 
--- an arrow from a place to a lane, by the styles of its line and of its tip: its line, up to five pixels before its tip, and its tip
+-- an arrow from a point to a lane, by the styles of its line and of its tip: its line, up to five pixels before its tip, and its tip
 abbrev pub arrow_by : List ℕ → List ℕ → Point → ℕ → ℕ → List ℕ → List Shape
 arrow_by line tip from end at head = line_from line from (point from.x end) ∷ path_from tip (point from.x at) head ∷ []
 
--- how far from the middle line of a lane the tip of an arrow ends
+-- the distance of the tip of an arrow from the middle line of its lane
 abbrev pub distance_of_tip : Lane → ℕ
 distance_of_tip lane = cond lane.is_full 9 5
 
--- from above or from below
+-- an arrow from above or from below
 abbrev pub arrow : List ℕ → List ℕ → Point → Lane → List Shape
 arrow line tip from lane = cond (nat_lt from.y (bar_of lane))
     (arrow_by line tip from (bar_of lane - distance_of_tip lane - 5) (bar_of lane - distance_of_tip lane) (codes "l-4 -7h8z"))
@@ -143,11 +143,11 @@ abbrev pub freed_arrow : Layout → Point → Option ℕ → List Shape
 freed_arrow layout from None = []
 freed_arrow layout from (Some freed) = arrow (codes "frees") (codes "tip") from (lane_in layout freed)
 
--- the line from a column to its knot, if it tells a place in the history
+-- the line from a column to its knot, if the column shows a position in the history
 abbrev pub drop_line : Layout → Point → Seen → List Shape
 drop_line layout from column = cond (is_some (taken_in column)) (line_from (codes "drop") from (point from.x (knot_of layout)) ∷ []) []
 
--- from where to where a read was open, on the middle line of its reader, and whose bit it read
+-- the bracket that shows how long a read was open, at the middle line of its reader, and the line to the process whose bit it read
 abbrev pub open_by : ℕ → ℕ → ℕ → ℕ → List Shape
 open_by begin x reader owner =
     path_from (codes "open") (point begin (reader + 9)) (codes "V" ++ decimal (reader + 15) ++ codes "H" ++ decimal x ++ codes "V" ++ decimal (reader + 9))
@@ -156,12 +156,12 @@ open_by begin x reader owner =
 abbrev pub open_shapes : SeenBand → OverlappedRead → ℕ → List Shape
 open_shapes band read x = open_by (event_position read.begin (52, band.before_at) band.columns) x (bar_of (lane_in band.layout read.reader)) (bar_of (lane_in band.layout read.owner))
 
--- the same, if a column shows a read
+-- that bracket and line, if a column shows a read
 abbrev pub open_from : SeenBand → ℕ → Option OverlappedRead → List Shape
 open_from band x None = []
 open_from band x (Some read) = open_shapes band read x
 
--- what leads from a column in the lane of a process to other lanes: whom it frees, its knot, and how long its read was open
+-- the shapes from a column in the lane of a process to other lanes: the arrow to the process that it frees, the line to its knot, and its read
 abbrev pub links_from : SeenBand → Seen → Point → List Shape
 links_from band column from = freed_arrow band.layout from column.frees ++ drop_line band.layout from column ++ open_from band column.x column.read
 
@@ -183,7 +183,7 @@ words_of_lane band p = words_from p (bar_of (lane_in band.layout p) + 3) band.la
 abbrev pub lane_words : SeenBand → ℕ → List Shape
 lane_words band p = cond (lane_in band.layout p).is_full (words_of_lane band p) []
 
--- a place so far to the right of another, as far as a number of 32 bits goes
+-- the point this far to the right of another; its x is at most the greatest number of 32 bits
 abbrev pub right_by : Point → ℕ → Point
 right_by at right = record { x = min (at.x + right) (2 ^ 32 - 1); y = at.y }
 
@@ -191,7 +191,7 @@ right_by at right = record { x = min (at.x + right) (2 ^ 32 - 1); y = at.y }
 abbrev pub rows_place : Point → Point
 rows_place head = down_by (right_by head 3) 23
 
--- where a row stands: the first one there, and any other below it
+-- the position of a row: the given point for the first row, and the next row below it for any other
 abbrev pub place_of_row : Point → ℕ → Point
 place_of_row at number = cond (number == 0) at (down_by at 11)
 
@@ -199,7 +199,7 @@ place_of_row at number = cond (number == 0) at (down_by at 11)
 abbrev pub row_shapes : Bool → Bool → Point → ℕ → Wording → List Shape
 row_shapes is_drawn is_refusal at number row = cond is_drawn (Label (row_class row.is_verb is_refusal) (place_of_row at number) row.text ∷ []) []
 
--- the rows of a line, numbered from here on: all if it stands alone, else the one at its place
+-- The rows of a line, numbered from `number`. If the line is alone in its column, all of them are drawn; otherwise only the row with the number `place` is.
 abbrev pub rows_shapes : Bool → ℕ → Bool → Point → ℕ → List Wording → List Shape
 rows_shapes is_alone place is_refusal at number [] = []
 rows_shapes is_alone place is_refusal at number (row ∷ rows) =
@@ -208,8 +208,8 @@ rows_shapes is_alone place is_refusal at number (row ∷ rows) =
 abbrev pub rows_of_line : Seen → ℕ → Bool → Point → List Shape
 rows_of_line column place is_refusal at = rows_shapes (length column.lines == 1) place is_refusal at 0 column.rows
 
--- what a mark's attributes say: where it stands, the line of the scenario that made it, the store after it if it changed, and of
--- the last line of its column who stands in line behind it
+-- The attributes of a mark: its position, the line of the scenario that made it, the store after it if it changed, and, for the
+-- last line of its column, the line of tickets after the column.
 abbrev pub store_said : Option TakenChange → List Said
 store_said None = []
 store_said (Some change) = (key.Store, change.store.items) ∷ []
@@ -217,7 +217,7 @@ store_said (Some change) = (key.Store, change.store.items) ∷ []
 abbrev pub queue_said : Bool → List ℕ → List Said
 queue_said is_last queue = cond is_last ((key.Queue, queue) ∷ []) []
 
--- all that a mark says, where this is who stands in line
+-- all attributes of a mark, where `queue` is the line of tickets
 abbrev pub mark_said : ℕ → RunLine → Bool → List ℕ → List Said
 mark_said x line is_last queue = (key.Place, decimal x) ∷ (key.Source, decimal line.source) ∷ (store_said (change_reported line.line_content) ++ queue_said is_last queue)
 
@@ -229,7 +229,7 @@ abbrev pub pair_words : Option TakenChange → Point → List Shape
 pair_words None knot = []
 pair_words (Some change) knot = Label (codes "store") (down_by (moved_by knot 6 0) 22) (string_bytes change.pair) ∷ []
 
--- the sign of a line, at the foot of its column and, if it tells a place in the history, at its knot too
+-- the sign of a line, at the foot of its column and, if the line shows a position in the history, also at its knot
 abbrev pub foot_by : SeenBand → Seen → RunLine → Point → Option ℕ → List Shape
 foot_by band column line foot None = sign line.line_content (moved_by foot (cond (settles_and_takes_in column) 15 0) 0)
 foot_by band column line foot (Some place) =
@@ -244,12 +244,12 @@ line_shapes band column head foot place line =
     mark_shape column line (place == length column.lines - 1)
     ∷ (rows_of_line column place (reports_refusal line.line_content) (rows_place head) ++ foot_shapes band column line foot ++ End ∷ [])
 
--- those of lines, numbered from here on
+-- the groups of lines, numbered from `place`
 abbrev pub lines_shapes : SeenBand → Seen → Point → Point → ℕ → List RunLine → List Shape
 lines_shapes band column head foot place [] = []
 lines_shapes band column head foot place (line ∷ lines) = line_shapes band column head foot place line ++ lines_shapes band column head foot (place + 1) lines
 
--- the words of a read, whose title is no line of the run
+-- the words of a read; its title is not a line of the run
 abbrev pub read_shapes : OverlappedRead → Point → List Shape
 read_shapes read at = Note (title_text read) ∷ Label (codes "saw") at (saw_text read) ∷ Label (codes "of-what") (down_by at 11) (bit_text read) ∷ End ∷ []
 
@@ -269,13 +269,13 @@ head_shapes column head foot =
     ∷ (number_words column.event head
     ++ read_words column.read (rows_place head))
 
--- the group of a line that stands in the lane of the history
+-- the group of a line in the lane of the history
 abbrev pub note_shapes : SeenBand → Seen → RunLine → List Shape
 note_shapes band column line =
     mark_shape column line true ∷ line_from (codes "pole") (point column.x (knot_of band.layout)) (down_by (point column.x (knot_of band.layout)) 36)
     ∷ (sign line.line_content (point column.x (knot_of band.layout)) ++ rows_of_line column 0 false (point (column.x + 4) (knot_of band.layout + 23)) ++ End ∷ [])
 
--- a column: in the lane of its process, or in that of the history
+-- a column, in the lane of its process or in the lane of the history
 abbrev pub column_in : SeenBand → Seen → Lane → List Shape
 column_in band column lane =
     head_shapes column (point column.x lane.top) (point column.x (bar_of lane))
@@ -288,7 +288,7 @@ column_by band column (Some p) = column_in band column (lane_in band.layout p)
 abbrev pub column_shapes : SeenBand → Seen → List Shape
 column_shapes band column = column_by band column column.lane
 
--- where the first shade begins, if somebody is inside before the band
+-- the position at which the first shade begins, if a process is inside before the band
 abbrev pub from_left : Option ℕ → Option ℕ
 from_left None = None
 from_left (Some p) = Some 52
@@ -300,7 +300,7 @@ first_inside before = from_left before.inside
 abbrev pub lane_accesses : SeenBand → SeenAccesses → ℕ → List Shape
 lane_accesses band accesses p = accesses_from (lane_in band.layout p) p band.layout.end (open_of accesses.open_accesses p) 52 band.columns
 
--- all of a band, in the order in which it is drawn, where these accesses are open at its left edge and these waves are drawn
+-- all shapes of a band, in the order in which they are drawn, with these accesses open at its left edge, and with these waves
 abbrev pub band_shapes : SeenBand → SeenAccesses → List Shape
 band_shapes band accesses =
     shades band.layout.chain band.layout.end (first_inside band.before) band.columns

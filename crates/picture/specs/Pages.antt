@@ -1,4 +1,4 @@
--- What a page holds back: the lines that were told and are not drawn yet; and what it keeps of all lines.
+-- The lines that a page holds back, which it has taken in and not drawn yet, and what it stores of all lines.
 use Rattle.std.specs.Prelude.{◌≡◌, ℕ, ◌-◌, Bool, List, [], ◌∷◌, ◌++◌, codes, flat_map, map, Option, None, Some, option_map}
 use Rattle.std.specs.Option.{option_to_list}
 use Rattle.model.specs.{Stage}
@@ -23,11 +23,11 @@ abbrev pub lines_of_band : Option (List ℕ) → List (List ℕ)
 lines_of_band None = []
 lines_of_band (Some band) = lines_in band
 
--- the stages that the lines have told so far, those that are held back too
+-- the stages after all lines so far, including the lines that are held back
 abbrev pub stages_kept : Page → List Stage
 stages_kept page = page.state.stages
 
--- the elements that are open behind what stands before the bands, in a page and in one picture
+-- the elements that are open after the part before the bands, in a page and in one picture
 abbrev pub page_names : List (List ℕ)
 page_names = codes "body" ∷ codes "html" ∷ []
 
@@ -99,32 +99,32 @@ abbrev pub page_of : Plan → List Item → SeenPage
 page_of plan items =
     record (page_by plan (state_after plan.state items) (columns_of plan items)) { verdict = verdict_in items }
 
--- what is written of a band, if there is one
+-- the bytes of a band, if there is one
 abbrev pub band_text : Option (List ℕ) → List ℕ
 band_text None = []
 band_text (Some band) = band
 
--- A page takes in one item more, and gives the band that is full with what came before it, if one is.
+-- A page takes in one more item. It returns the band that is full with the items before, if one is.
 abbrev pub TakesItem : Item → SeenPage → Option (List ℕ) → SeenPage → Type 0
 TakesItem item old full new =
     (plan : Plan) (items : List Item) → old ≡ page_of plan items →
     (new ≡ page_of plan (item ∷ items))
     × (full_drawn plan (item ∷ items) ≡ full_drawn plan items ++ band_text full)
 
--- Once there are no more items, it gives the last bands, with a verdict, if there is one.
+-- Once there are no more items, a page returns the last bands, with a verdict, if there is one.
 abbrev pub GivesLast : Option ShownVerdict → SeenPage → Option (List ℕ) → List ℕ → SeenPage → Type 0
 GivesLast verdict old full last new =
     (plan : Plan) (items : List Item) (at : ℕ) → old ≡ page_of plan items →
     (bands_drawn plan (judged_with at verdict items) ≡ full_drawn plan items ++ band_text full ++ last)
     × (new.height ≡ heights_drawn plan (judged_with at verdict items))
 
--- what an access leaves of the accesses before it, with the state of all processes there
+-- the accesses after an access, by those before it and the state of all processes there
 abbrev pub accesses_left : SeenAccesses → ShownAccess → State → SeenAccesses
 accesses_left before access state =
     accesses_after (accesses_at before (column_of_access access 0 state ∷ []))
     (column_of_access access 0 state ∷ [])
 
--- the words of the store after a change, if there is one, and after what a line says, by those before it
+-- the words of the store after a change, if there is one, and after a line, by the words before it
 abbrev pub opening_by : List ℕ → Option TakenChange → List ℕ
 opening_by opening None = opening
 opening_by opening (Some change) = change.store.items
@@ -143,7 +143,7 @@ passed plan (Accesses access) =
     record plan { accesses = accesses_left plan.accesses access plan.state }
 passed plan (Judges at verdict) = plan
 
--- A page without items is one whose picture begins after an item.
+-- A page without items becomes one whose picture begins after an item.
 abbrev pub Passes : Item → SeenPage → SeenPage → Type 0
 Passes item old new = (plan : Plan) → old ≡ page_of plan [] → new ≡ page_of (passed plan item) []
 
@@ -158,7 +158,7 @@ Places old full new =
     (plan : Plan) (state : State) (last_at : ℕ) (columns : List Seen) → state.processes ≡ plan.state.processes → old ≡ page_holding plan state (newest columns) last_at (bands_of plan.opening (older columns)) →
     (new ≡ page_holding plan state None last_at (bands_of plan.opening columns)) × (full_bytes plan (bands_of plan.opening columns).full ≡ full_bytes plan (bands_of plan.opening (older columns)).full ++ band_text full)
 
--- It is, and a line begins the next one, which is not placed yet.
+-- That column is placed, and a line begins the next one, which is not placed yet.
 pub record BeginsColumn (line : RunLine) (frees : Option ℕ) (old : SeenPage) (full : Option (List ℕ)) (new : SeenPage) : Type 0 where
   pub placed : SeenPage
   pub places : Places old full placed
@@ -170,7 +170,7 @@ MakesRoom column old full new =
     (plan : Plan) (state : State) (pending : Option Seen) (last_at : ℕ) (bands : Bands) → state.processes ≡ plan.state.processes → old ≡ page_holding plan state pending last_at bands →
     (new ≡ page_holding plan state pending last_at (with_room plan.opening column bands)) × (full_bytes plan (with_room plan.opening column bands).full ≡ full_bytes plan bands.full ++ band_text full)
 
--- A column is put behind the others.
+-- A column is put after the others.
 abbrev pub Puts : Seen → SeenPage → SeenPage → Type 0
 Puts column old new =
     (plan : Plan) (state : State) (pending : Option Seen) (last_at : ℕ) (bands : Bands) → old ≡ page_holding plan state pending last_at bands → new ≡ page_holding plan state pending last_at (with_put plan.opening column bands)

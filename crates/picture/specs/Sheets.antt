@@ -1,4 +1,4 @@
--- What stands around the bands, as bytes.
+-- The parts of a picture before and after its bands, as bytes.
 use Rattle.std.specs.Prelude.{ℕ, ◌+◌, ◌-◌, ◌^◌, ◌==◌, cond, min, nat_lt, List, [], ◌∷◌, ◌++◌, codes, flat_map, map}
 use Rattle.std.specs.Fmt.{decimal}
 use Rattle.bstr.specs.Text.{lines_of, without_terminator}
@@ -14,7 +14,7 @@ use Rattle.picture.specs.declared.reads.Reads.TheVariants.{All, Hidden, Shown}
 use Rattle.picture.specs.declared.subjects.Subject.{Subject}
 use Rattle.picture.specs.declared.subjects.Subject.TheVariants as subject
 
--- a number, of which what 64 bits do not hold is not told apart
+-- a number, or the greatest number of 64 bits if it is greater
 abbrev pub held_in_64 : ℕ → ℕ
 held_in_64 n = min n (2 ^ 64 - 1)
 
@@ -26,16 +26,16 @@ says = flat_map said_text
 abbrev pub view_of : ℕ → List ℕ
 view_of height = codes "0 0 1200 " ++ decimal height
 
--- what makes `process` many
+-- the ending of the plural of `process`
 abbrev pub plural_of : ℕ → List ℕ
 plural_of processes = cond (processes == 1) [] (codes "es")
 
--- what it is of: how many processes
+-- the subject of a picture, with the number of its processes
 abbrev pub counted_of : Subject → ℕ → List ℕ
 counted_of subject processes =
     subject_word subject ++ codes " of " ++ decimal processes ++ codes " process" ++ plural_of processes
 
--- the first word of its file, and the numbers of its setup
+-- the first word of the file of a subject, and the numbers of its setup
 abbrev pub setup_words : Subject → Setup → List ℕ
 setup_words subject s =
     codes " (" ++ format_word subject ++ codes " " ++ decimal s.version ++ codes ", tickets " ++ decimal s.ticket_bits
@@ -45,7 +45,7 @@ setup_words subject s =
 abbrev pub heading_of : Subject → Setup → List ℕ
 heading_of subject s = counted_of subject s.processes ++ setup_words subject s
 
--- how a page lies where it is printed: upright for more than ten processes
+-- the orientation of a page when it is printed: upright for more than ten processes
 abbrev pub paper_of : ℕ → List ℕ
 paper_of processes = cond (nat_lt 10 processes) (codes "\n@page{size:A4 portrait;margin:10mm}\n") (codes "\n@page{size:A4 landscape;margin:10mm}\n")
 
@@ -55,11 +55,11 @@ height_of_legend Hidden = 104
 height_of_legend Shown = 122
 height_of_legend All = 182
 
--- how the picture of the legend begins in a page
+-- the start of the legend's picture in a page
 abbrev pub legend_tag : Reads → List ℕ
 legend_tag reads = entering_by tag.Svg (says ((key.ViewBox, view_of (height_of_legend reads)) ∷ (key.Role, codes "img") ∷ (key.Label, codes "Legend") ∷ []))
 
--- and that with what the legend shows
+-- the start of that picture, and the shapes of the legend
 abbrev pub legend_front : Subject → Reads → List ℕ
 legend_front subject reads = codes "\n" ++ legend_tag reads ++ codes "\n" ++ (PATTERNS.now ++ codes "\n") ++ legend_of subject reads
 
@@ -70,11 +70,11 @@ item_of line = text_element_by tag.Item [] line ++ codes "\n"
 abbrev pub list_of : List ℕ → List ℕ
 list_of printed = flat_map item_of (map without_terminator (lines_of printed)) ++ item_of (codes "(end)")
 
--- the styles of a page, and how it lies where it is printed
+-- the styles of a page, and its orientation when it is printed
 abbrev pub styles_of : ℕ → List ℕ
 styles_of processes = STYLE.now ++ codes "\n" ++ PAGE_STYLE.now ++ paper_of processes
 
--- how a page begins, up to its body, which is open then
+-- the start of a page, up to its body, which remains open
 abbrev pub page_begun : ℕ → List ℕ → List ℕ
 page_begun processes title =
     codes "<!doctype html>\n<html lang=\"en\"><head><meta charset=\"utf-8\">\n<meta name=\"viewport\" content=\"width=device-width\">\n"
@@ -83,7 +83,7 @@ page_begun processes title =
     ++ styles_of processes
     ++ codes "</style></head><body>\n"
 
--- what the body of a page has before its bands
+-- the part of a page's body before its bands
 abbrev pub body_front : Subject → List ℕ → List ℕ → Reads → List ℕ
 body_front subject heading printed reads =
     text_element_by tag.Heading [] heading
@@ -92,7 +92,7 @@ body_front subject heading printed reads =
     ++ list_of printed
     ++ codes "</ol></details>\n"
 
--- what a page has before its bands: that of a run or of a record, and that of a trace under a heading
+-- the part of a page before its bands, for a run or a record, and for a trace under a heading
 abbrev pub page_front_by : Subject → ℕ → List ℕ → List ℕ → Reads → List ℕ
 page_front_by subject processes heading printed reads = page_begun processes (title_of heading printed) ++ body_front subject heading printed reads
 
@@ -107,7 +107,7 @@ abbrev pub slider_of : List ℕ → List ℕ
 slider_of opening =
     codes "<input" ++ says ((key.Id, codes "at") ∷ (key.Type, codes "range") ∷ (key.Least, codes "0") ∷ (key.Value, codes "0") ∷ (key.Label, codes "Line of the run") ∷ (key.Store, opening) ∷ []) ++ codes ">"
 
--- what it has behind them, which begins with the slider
+-- the part of a page after its bands, which begins with the slider
 abbrev pub page_back_by : Subject → List ℕ → List ℕ
 page_back_by subject opening =
     codes "<div id=\"now\"><div>"
@@ -122,11 +122,11 @@ page_back = page_back_by subject.Run
 abbrev pub trace_page_back : List ℕ
 trace_page_back = page_back_by subject.Trace []
 
--- how high one picture is, whose bands' heights come to so much
+-- the height of one picture, by the sum of the heights of its bands
 abbrev pub picture_height : ℕ → Reads → ℕ
 picture_height bands reads = held_in_64 (held_in_64 (bands + height_of_legend reads) + 42)
 
--- how one picture of this height begins
+-- the start of one picture of this height
 abbrev pub svg_tag : ℕ → List ℕ
 svg_tag height = entering_by tag.Svg (says (
     (key.Namespace, codes "http://www.w3.org/2000/svg") ∷ (key.Width, decimal 1200) ∷ (key.Height, decimal height) ∷ (key.ViewBox, view_of height) ∷ (key.Role, codes "group") ∷ (key.LabelledBy, codes "t d") ∷ []))
@@ -134,7 +134,7 @@ svg_tag height = entering_by tag.Svg (says (
 abbrev pub svg_front : ℕ → List ℕ
 svg_front height = codes "<?xml version=\"1.0\" encoding=\"UTF-8\"?>\n" ++ svg_tag height ++ codes "\n"
 
--- its title, and what it shows
+-- the title of one picture, and its description
 abbrev pub title_tag : List ℕ → List ℕ
 title_tag heading = text_element_by tag.Title (says ((key.Id, codes "t") ∷ [])) heading
 
@@ -144,7 +144,7 @@ description_tag subject = text_element_by tag.Desc (says ((key.Id, codes "d") �
 abbrev pub titles_of : Subject → List ℕ → List ℕ
 titles_of subject heading = title_tag heading ++ codes "\n" ++ description_tag subject
 
--- its ground, and its heading
+-- the background of one picture, and its heading
 abbrev pub ground_tag : ℕ → List ℕ
 ground_tag height = empty_element_by tag.Rect (says ((key.Width, decimal 1200) ∷ (key.Height, decimal height) ∷ (key.Fill, codes "#fff") ∷ []))
 
@@ -154,7 +154,7 @@ heading_tag heading = text_element_by tag.Text (says ((key.X, decimal 8) ∷ (ke
 abbrev pub ground_of : ℕ → List ℕ → List ℕ
 ground_of height heading = ground_tag height ++ heading_tag heading ++ codes "\n"
 
--- what one picture has before its bands
+-- the part of one picture before its bands
 abbrev pub picture_front_by : Subject → List ℕ → ℕ → Reads → List ℕ
 picture_front_by subject heading bands reads =
     svg_front (picture_height bands reads)
@@ -171,7 +171,7 @@ picture_front subject s = picture_front_by subject (heading_of subject s)
 abbrev pub trace_picture_front : List ℕ → ℕ → Reads → List ℕ
 trace_picture_front = picture_front_by subject.Trace
 
--- what it has behind them: the legend
+-- the part of one picture after its bands: the legend
 abbrev pub picture_back_by : Subject → ℕ → Reads → List ℕ
 picture_back_by subject bands reads = lowering (held_in_64 (bands + 34)) ++ legend_of subject reads ++ codes "\n</g></svg>\n"
 

@@ -1,4 +1,4 @@
--- What a picture is of.
+-- The subjects of pictures: a run, a record, or a trace.
 use Rattle.std.specs.Prelude.{ℕ, Bool, true, false, List, codes}
 use Rattle.picture.specs.declared.constants.TheConstants.{SCRIPT, TRACE_SCRIPT}
 use Rattle.picture.specs.declared.legends.TheConstants.{ACCESS_LEGEND, LEGEND, READS_LEGEND, TRACE_ACCESS_LEGEND, TRACE_LEGEND}
@@ -32,7 +32,7 @@ time_unit Run = codes "events"
 time_unit Record = codes "events"
 time_unit Trace = codes "entries"
 
--- what one picture states that it shows
+-- the description of one picture: what it shows
 abbrev pub shown_by : Subject → List ℕ
 shown_by Run = DESCRIPTION.now
 shown_by Record = DESCRIPTION.now
@@ -50,13 +50,13 @@ legend_of Trace Hidden = TRACE_LEGEND.now
 legend_of Trace Shown = TRACE_LEGEND.now
 legend_of Trace All = TRACE_ACCESS_LEGEND.now
 
--- what stands in a page before the list of lines: the end of the legend, and what is listed
+-- the part of a page before its list of lines: the end of the legend, and the name of what is listed
 abbrev pub list_begun : Subject → List ℕ
 list_begun Run = codes "\n</svg>\n<details open><summary>The scenario</summary><ol>\n"
 list_begun Record = codes "\n</svg>\n<details open><summary>The record</summary><ol>\n"
 list_begun Trace = codes "\n</svg>\n<details open><summary>The trace</summary><ol>\n"
 
--- the script of a page: that of a trace does not tell of a store, nor of a line of processes
+-- the script of a page; the script for a trace shows no store and no line of tickets
 abbrev pub script_of : Subject → List ℕ
 script_of Run = SCRIPT.now
 script_of Record = SCRIPT.now

@@ -1,4 +1,4 @@
--- The words in the bars of a lane, who stands in line, and how far what stands at the foot of a column reaches.
+-- The words in the bars of a lane, the line of tickets, and the width of the signs at the foot of a column.
 use Rattle.std.specs.Prelude.{ℕ, ◌+◌, ◌*◌, max, Bool, cond, nat_lt, List, [], ◌∷◌, ◌++◌, codes, length, take, Option, None, Some}
 use Rattle.std.specs.Fmt.{decimal}
 use Rattle.std.specs.List.{join_by}
@@ -15,22 +15,22 @@ listed_with = join_by decimal
 abbrev pub group_text : List ℕ → ProcessGroup → List ℕ
 group_text others group = cond (nat_lt 3 group.count) (decimal group.count ++ others) (listed_with (codes ",") (take group.count group.first))
 
--- what the bar of a process says, if it says anything
+-- the word in the bar of a process, if it has one
 abbrev pub word_text : BarWord → Option (List ℕ)
 word_text word.Nothing = None
 word_text (word.Is stage) = Some (stage_word stage)
 word_text (word.Behind group) = Some (codes "behind " ++ group_text (codes " others") group)
 word_text (word.Awaits group) = Some (group_text [] group ++ codes " choosing")
 
--- who stands in line, with single spaces
+-- the processes in the line of tickets, with single spaces
 abbrev pub queue_text : State → List ℕ
 queue_text state = listed_with (codes " ") (queue_of state)
 
--- the style of a row, which a refusal has otherwise
+-- the style of a row; a refusal has a style of its own
 abbrev pub row_class : Bool → Bool → List ℕ
 row_class is_verb is_refusal = cond is_verb (codes "verb") (codes "rest") ++ cond is_refusal (codes " no") []
 
--- how far the sign of a mark reaches to its right
+-- how far the sign of a mark reaches to the right
 abbrev pub mark_reach : Mark → ℕ
 mark_reach (mark.Called command) = 8
 mark_reach (mark.Answered answer) = 4
@@ -42,12 +42,12 @@ mark_reach mark.Withdrew = 5
 mark_reach (mark.Taken place reply) = capped (5 + 3 * length (decimal place))
 mark_reach _ = 1
 
--- the same for a line, which has another sign if it tells no mark
+-- how far the sign of a line reaches to the right; a line without a mark has another sign
 abbrev pub reach_by : Option Mark → ℕ
 reach_by None = 6
 reach_by (Some mark) = mark_reach mark
 
--- how far what stands at the foot of a column reaches to its right
+-- how far the signs at the foot of a column reach to the right
 abbrev pub lines_reach : List RunLine → ℕ
 lines_reach [] = 1
 lines_reach (line ∷ lines) = max (reach_by (mark_reported line.line_content)) (lines_reach lines)
@@ -55,6 +55,6 @@ lines_reach (line ∷ lines) = max (reach_by (mark_reported line.line_content)) 
 abbrev pub right_reach_of : Seen → ℕ
 right_reach_of column = lines_reach column.lines
 
--- and to its left
+-- how far they reach to the left
 abbrev pub left_reach_of : Seen → ℕ
 left_reach_of column = cond (settles_and_takes_in column) 24 (right_reach_of column)

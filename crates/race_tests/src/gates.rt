@@ -240,7 +240,7 @@ fn a_port_held_inside_lets_the_other_in(rt: HostRuntime) -> Result<(), Fail> {
     Ok(())
 }
 
-// Both ports are held for good: the lower one is told.
+// Both ports are held for good: the race reports the lower one.
 #[test]
 fn the_lowest_held_port_is_reported(rt: HostRuntime) -> Result<(), Fail> {
     let adds = [add()];

@@ -40,7 +40,7 @@ pub fn race_of_two<R: Threads + Wait + Sync, G: Gate + Sync>(
     Ok(race(rt, alloc, &setup, &plans, gate))
 }
 
-/// What such a race leaves, which stands in one history. Its fault fails the test.
+/// Returns the closing state of such a race, whose calls belong to one history. A fault of the race fails the test.
 pub fn raced<R: Threads + Wait + Abort + Sync, G: Gate + Sync>(
     rt: &R,
     alloc: Global,

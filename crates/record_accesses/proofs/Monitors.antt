@@ -1,4 +1,4 @@
--- What the watch keeps after one more entry.
+-- The state of the monitor after one more entry.
 use Rattle.std.proofs.Common.{◌≡◌, ℕ, ◌<◌, ◌≤◌, Bool, true, false, ◌&&◌, nat_le, nat_lt, cond, List, ◌∷◌, Option, None, Some, length, option_map, Result, Ok, Err, IfOk, OnOk, is_ok, if◌then◌else◌, refl, sym, ap, ◌∙◌, subst, arith}
 use Rattle.std.proofs.lemmas.Bool.{and_parts, ltb-true}
 use Rattle.std.proofs.lemmas.Bool.Decides.{nat_tests}
@@ -64,7 +64,7 @@ none-shown s limit past e h = ap (λ t. cond t (monitored_of s limit past e e.ac
 pub out-of-range : (s : Setup) (p : ℕ) → s.processes ≤ 16 → 16 ≤ p → nat_lt p s.processes ≡ false
 out-of-range s p few above = grind (arith, nat_tests)
 
--- what was taken is what was watched
+-- a monitor that has taken in one more entry has observed it
 pub monitored-on : (w new : MonitorState) (s : Setup) (limit : WaveLimit) (past : Past) (p : ℕ) (access : Option Access) (marks : List Mark) → HasMonitored w s limit past → new.setup ≡ w.setup → new.limit ≡ w.limit →
     HasTaken new (entry_with p (possible_access w.setup p access) marks ∷ possible_past s past) → HasMonitored new s limit (entry_with p access marks ∷ past)
 monitored-on w new s limit past p access marks h setup same taken = record {

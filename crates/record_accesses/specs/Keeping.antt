@@ -58,7 +58,7 @@ pub record HasOpened (all : List (Option OpenBitAccess)) (past : Past) : Type 0 
   pub room : length all ≡ 16
   pub each : (p : ℕ) → p < 16 → get_or all p None ≡ opened p past
 
--- The watch.
+-- The monitor.
 
 -- The setup, the bits, the bits that have waves, the open accesses, and the limit of waves.
 pub record MonitorState : Type 0 where
@@ -78,7 +78,7 @@ pub record HasTaken (w : MonitorState) (past : Past) : Type 0 where
 abbrev pub OfTaken : MonitorState → ℕ → Bool → (Past → List Mark → Type 0) → Type 0
 OfTaken w number drops_it P = (past : Past) (marks : List Mark) → HasTaken w past → number ≡ length past → drops marks ≡ drops_it → P past marks
 
--- It has watched these entries of a record with this setup, and shows the waves within this limit.
+-- The monitor has observed these entries of a record with this setup, and shows the waves within this limit.
 pub record HasMonitored (w : MonitorState) (s : Setup) (limit : WaveLimit) (past : Past) : Type 0 where
   pub setup : w.setup ≡ s
   pub shows : w.limit ≡ limit

@@ -1,9 +1,9 @@
 //! The accesses of a run or of a record, good or bad, as a picture shows them.
 //!
-//! The definitions look back over the entries before an entry. A [`RecordAccessMonitor`] observes the entries one by one. Its
-//! method `observe` takes an entry with its number, and returns what is shown of the access of the entry. The watch keeps the
-//! access that each process has open, and the state of each bit that was written, so its memory does not grow with the number
-//! of entries. It is created before the first entry:
+//! The definitions look back over the entries before an entry. A [`RecordAccessMonitor`] observes the entries one by
+//! one. Its method `observe` takes an entry with its number, and returns what is shown of the access of the entry. The
+//! monitor keeps the access that each process has open, and the state of each bit that was written, so its memory does
+//! not grow with the number of entries. It is created before the first entry:
 //!
 //! ```rust
 //! let mut monitor = RecordAccessMonitor::new(alloc, setup, limit)?;
@@ -39,7 +39,7 @@
 //! | `overlaps` | which open accesses an access overlaps |
 //! | `monitored` | an access in numbers |
 //! | `words` | an access in words |
-//! | `monitor` | the watch |
+//! | `monitor` | the monitor |
 //! | `wave_rows` | the row of each bit that has a wave |
 //! | `written_bits` | the state of each bit that was written |
 #![tactic(auto)]

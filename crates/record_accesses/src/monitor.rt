@@ -1,4 +1,4 @@
-//! The watch of the accesses of a record.
+//! The monitor of the accesses of a record.
 ghost use Rattle.std.specs.Prelude.{◌≡◌, ◌<◌, ◌∷◌, [], Bool, IfOk, IfSome, List, None, Ok, OnOk, Some, length, option_map};
 ghost use Rattle.picture_layout.specs.{given_access};
 ghost use Rattle.plain_store.specs.{checked};
@@ -26,9 +26,9 @@ use std::marker::Model;
 /// The most processes.
 const MOST_PROCESSES: u8 = 16;
 
-/// A watch of the accesses of a record, good or bad. It observes entries one by one and returns what a picture shows of the
-/// access of each. It keeps the access that each process has open, the state of each bit that was written, and the row of each
-/// bit that has a wave, so its memory does not grow with the record.
+/// A monitor of the accesses of a record, good or bad. It observes entries one by one and returns what a picture shows
+/// of the access of each. It keeps the access that each process has open, the state of each bit that was written, and
+/// the row of each bit that has a wave, so its memory does not grow with the record.
 #[derive(Drop)]
 pub struct RecordAccessMonitor {
     openings: Openings,
@@ -53,8 +53,8 @@ impl Model for RecordAccessMonitor {
 }
 
 impl RecordAccessMonitor {
-    /// Creates a watch of a record with this setup, before the first entry. It shows the changes of waves within the limit. What
-    /// it shows of an entry before `limit.from` has neither words nor a cell.
+    /// Creates a monitor of a record with this setup, before the first entry. It shows the changes of waves within the
+    /// limit. An entry before `limit.from` is shown without words and without a cell.
     ///
     /// # Errors
     ///

@@ -6,7 +6,7 @@ use model::Move;
 use reader_copies::{CopiedBit, CopiedRow, CopyRead, CopyWrite, Made, Progress};
 use std::test::Fail;
 
-/// Whether a step tells this: the copy of which reader, the move, and what remains.
+/// Returns whether a step reports this access of the copy of this reader, and whether this remains.
 fn reports(step: (Made, Progress), reader: u8, how: Move, remains: Progress) -> bool {
     step.0 == Made { reader, how } && step.1 == remains
 }
@@ -63,7 +63,7 @@ fn open_both(row: &mut CopiedRow) -> (CopyWrite, CopyRead)
     (write, read)
 }
 
-/// Writes 1 to the last bit of such a row in four steps, and tells what remains.
+/// Writes 1 to the last bit of such a row in four steps, and returns what remains.
 fn write_last(row: &mut CopiedRow) -> Progress
     requires { row.old ≡ open_row }
     ensures { row.new ≡ with_last_written open_row }
@@ -81,7 +81,7 @@ fn other_bits_stay()
     ensures { OthersStay }
 {}
 
-/// Ends that read and the write of the copy of reader 0, and tells both accesses.
+/// Ends that read and the write of the copy of reader 0, and returns both accesses.
 fn end_both(row: &mut CopiedRow, write: CopyWrite, read: CopyRead) -> (Made, Made)
     requires row { row.old ≡ with_last_written open_row }
     requires write { write ≡ record { value = true; made = 1; ended = false } }

@@ -1,5 +1,5 @@
 //! Tests of the bits, the registers, the lock, the section and the memory unit, in a crate of their own, so that each of
-//! those layers is proved once. What the program does with them stands under examples/, not here.
+//! those layers is proved once. The uses of these layers by the program are under examples/, not here.
 #![tactic(auto)]
 
 #[cfg(test)]

@@ -18,7 +18,7 @@ fn leaves(alloc: Global) -> Result<(Access, Option<(Field, u16)>), AllocError> {
     Ok((access, torn.map(|torn| (torn.field, torn.bit))))
 }
 
-// On registers a step makes the access that its cursor tells, and a failure tells the bit whose write has
+// On registers, a step makes the access that its cursor reports, and a failure reports the bit whose write has
 // begun.
 #[test]
 fn steps_on_registers(rt: HostRuntime) -> Result<(), AllocError> {

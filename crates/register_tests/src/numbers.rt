@@ -20,7 +20,7 @@ fn accepts(alloc: Global, width: u16) -> Result<(), NumberFault> {
     Ok(())
 }
 
-/// A number stands in its bytes with the least significant first, and comes back.
+/// The bytes of a number have the least significant byte first, and give the number back.
 fn has_low_byte_first(rt: &impl Abort) {
     assert!(rt; bits_of(258) == [2, 1, 0, 0, 0, 0, 0, 0]);
     assert!(rt; number_of(&[2, 1]) == 258);

@@ -1,4 +1,4 @@
--- The entries that a watch has observed, after one more entry.
+-- The entries that a monitor has observed, after one more entry.
 use Rattle.std.proofs.Common.{◌≡◌, ℕ, ◌+◌, ◌*◌, ◌<◌, Bool, true, false, cond, List, [], ◌∷◌, ◌++◌, Option, None, Some, length, slice_index_or, slice_set, get_or, length-set, refl, sym, ap, ◌∙◌, subst, inl, inr}
 use Rattle.std.proofs.lemmas.Bool.{cases_eq}
 use Rattle.std.proofs.lemmas.List.{get_or-set_same, get_or-set_other, get_or_default}
@@ -77,7 +77,7 @@ observed_access w past e a then access there outer inner on observed = λ b b_th
         ∙ observed b b_there
         ∙ ap (monitored_after (opening_bit w.setup b)) (sym (moves_other past e a b access is))
 
--- A watch whose look is set.
+-- A monitor whose look is set.
 
 pub register_in : (w : MonitorState) (a : Access) → IsMonitor w → IsThere w.setup a → register_of a < length w.registers
 register_in w a good there = subst (λ n. register_of a < n) (sym good.registers) (register_below w.setup a there)
@@ -104,7 +104,7 @@ monitor_set w r k l good there = record {
   bits = λ owner field below. lengths_stay w.registers r k (owner * 7 + field_number field) l there ∙ good.bits owner field below;
 }
 
--- The registers of a watch at an access of a bit in range.
+-- The registers of a monitor at an access of a bit in range.
 pub record AtAccess (w : MonitorState) (a : Access) (register place : ℕ) : Type 0 where
   pub good : IsMonitor w
   pub there : IsThere w.setup a

@@ -1,4 +1,4 @@
--- The registers of a watch before the first entry.
+-- The registers of a monitor before the first entry.
 use Rattle.std.proofs.Common.{◌≡◌, ℕ, ◌+◌, ◌*◌, ◌<◌, ◌%◌, false, List, [], ◌∷◌, ◌++◌, Ok, length, replicate, slice_index_or, slice_set, sym, ap, ◌∙◌, subst, arith, inl, inr, eq-eqb}
 use Rattle.std.proofs.Math.Seq.{get_or-append_seam}
 use Rattle.std.proofs.lemmas.Bool.{cases_eq, cases_lt}

@@ -1,4 +1,4 @@
--- The state of a watch: a look for each single-reader bit.
+-- The state of a monitor: a look for each single-reader bit.
 use Rattle.std.specs.Prelude.{◌≡◌, ℕ, ◌+◌, ◌*◌, ◌%◌, ◌<◌, Bool, false, List, [], ◌∷◌, length, slice_index_or, Option, Ok, Some, true}
 use Rattle.model.specs.{Access, Entry, Field, Past, field_number, moves_of, opening_bit, width}
 use Rattle.model.specs.safe_bit.{Move}
@@ -26,17 +26,17 @@ copy_of s a = a.reader * width s a.field + a.bit
 abbrev pub monitored_at : List (List MonitoredBit) → ℕ → ℕ → MonitoredBit
 monitored_at registers register place = slice_index_or (slice_index_or registers register []) place (monitored_after false [])
 
--- a watch has a look for each bit in range
+-- a monitor has a look for each bit in range
 pub record IsMonitor (w : MonitorState) : Type 0 where
   pub good : checked w.setup ≡ Ok tt
   pub registers : length w.registers ≡ w.setup.processes * 7
   pub bits : (owner : ℕ) (field : Field) → owner < w.setup.processes → length (slice_index_or w.registers (owner * 7 + field_number field) []) ≡ w.setup.processes * width w.setup field
 
--- the watch has observed these entries: the look of each bit in range is the look after the moves on it
+-- the monitor has observed these entries: the look of each bit in range is the look after the moves on it
 abbrev pub HasObserved : MonitorState → Past → Type 0
 HasObserved w past = (a : Access) → IsThere w.setup a → monitored_at w.registers (register_of a) (copy_of w.setup a) ≡ monitored_after (opening_bit w.setup a) (moves_of a past)
 
--- a fact holds for each past that the watch has observed, and for each entry with this access
+-- a fact holds for each past that the monitor has observed, and for each entry with this access
 abbrev pub OfObserved : MonitorState → Option Access → (Setup → Past → Entry → Type 0) → Type 0
 OfObserved w access P = (past : Past) (e : Entry) → e.access ≡ access → HasObserved w past → P w.setup past e
 

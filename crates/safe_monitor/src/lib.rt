@@ -1,5 +1,5 @@
-//! The law `Safe` of an entry, checked by a watch that observes the entries of a record one by one; and the verdicts of the
-//! judges of records.
+//! The law `Safe` of an entry, checked by a monitor that observes the entries of a record one by one; and the verdicts
+//! of the judges of records.
 #![tactic(auto)]
 
 mod by_parts;

@@ -16,8 +16,8 @@ use std::alloc::{AllocError, Global};
 use std::marker::Model;
 use store_image::Image;
 
-/// A watch on the law `Safe`. It observes the entries of a record one at a time. It keeps the state that the safe rule needs
-/// of each single-reader bit, in four bits, so it needs the same memory however long the record is.
+/// A monitor of the law `Safe`. It observes the entries of a record one at a time. It keeps the state that the safe
+/// rule needs of each single-reader bit, in four bits, so it needs the same memory however long the record is.
 #[derive(Drop)]
 pub struct SafeMonitor {
     setup: Setup,
@@ -35,7 +35,7 @@ impl Model for SafeMonitor {
 }
 
 impl SafeMonitor {
-    /// Creates the watch before the first entry. It fails only if memory runs out.
+    /// Creates the monitor before the first entry. It fails only if memory runs out.
     pub fn new(alloc: Global, setup: &Setup) -> Result<SafeMonitor, AllocError>
         requires { checked setup.now ≡ Ok tt }
         ensures setup { IfOk result (λ w. w.setup ≡ setup.now) }
@@ -54,7 +54,7 @@ impl SafeMonitor {
         })
     }
 
-    /// Copies the watch, which has then observed the same entries.
+    /// Copies the monitor. The copy has then observed the same entries.
     pub fn twin(&self, alloc: Global) -> Result<SafeMonitor, AllocError>
         ensures { IfOk result (λ w. w ≡ self.now) }
     {

@@ -41,6 +41,6 @@ number_from n (b ∷ bs) =
 abbrev pub number_of : List ℕ → ℕ
 number_of = number_from 0
 
--- the process whose number a text begins with; 255 stands for more
+-- the process whose number a text begins with; 255 represents any greater number
 abbrev pub process_of : List ℕ → ℕ
 process_of text = min (number_of text) 255

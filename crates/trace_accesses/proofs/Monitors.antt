@@ -1,4 +1,4 @@
--- What the watch keeps goes on with an entry.
+-- The state of the monitor after one more entry.
 use Rattle.std.proofs.Common.{◌≡◌, ℕ, ◌+◌, ◌<◌, ◌≤◌, ◌*◌, Bool, true, false, nat_lt, cond, List, ◌∷◌, Option, None, Some, length, option_map, Result, Ok, Err, IfOk, refl, sym, ap, ◌∙◌, subst, add-one}
 use Rattle.std.proofs.lemmas.Bool.{and_parts, leb-true, ltb-true}
 use Rattle.trace.specs.{CellAccess, LockMark, TraceEntry, TracePast, TraceSetup, is_trace_setup, trace_entry}
@@ -69,7 +69,7 @@ module _ (w : MonitorState) (a : CellAccess) (memory : MemoryState) (rows : Rows
 
 -- Entries of any kind.
 
--- what was taken is what was watched
+-- a monitor that has taken in one more entry has observed it
 pub monitored-on : (w new : MonitorState) (s : TraceSetup) (limit : WaveLimit) (past : TracePast) (e : TraceEntry) → HasMonitored w s limit past → new.memory.setup ≡ w.memory.setup → new.limit ≡ w.limit →
     HasTaken new (trace_entry e.process (possible_access w.memory.setup e.process e.access) e.marks ∷ possible_past s past) → HasMonitored new s limit (e ∷ past)
 monitored-on w new s limit past e h setup same taken = record {

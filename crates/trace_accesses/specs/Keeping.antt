@@ -60,7 +60,7 @@ pub record HasRows (s : TraceSetup) (r : RowsState) (rows : List Cell) : Type 0 
   pub places : (c : Cell) → IsTrue (has_cell s c) → row_at r (place_of c) ≡ row_in rows c
   pub count : r.count ≡ length rows
 
--- The watch.
+-- The monitor.
 
 -- the memory, the rows, the limit of waves, and the number of entries
 pub record MonitorState : Type 0 where
@@ -84,7 +84,7 @@ pub record HasTaken (w : MonitorState) (past : TracePast) : Type 0 where
 abbrev pub OfTaken : MonitorState → (TracePast → Type 0) → Type 0
 OfTaken w P = (past : TracePast) → HasTaken w past → P past
 
--- it has watched these entries of a trace with this setup, and shows the waves within this limit
+-- the monitor has observed these entries of a trace with this setup, and shows the waves within this limit
 pub record HasMonitored (w : MonitorState) (s : TraceSetup) (limit : WaveLimit) (past : TracePast) : Type 0 where
   pub setup : w.memory.setup ≡ s
   pub shows : w.limit ≡ limit

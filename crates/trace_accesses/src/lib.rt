@@ -22,7 +22,7 @@
 //! | `rows` | which cells have waves, and the row of each wave |
 //! | `monitored` | an access in numbers |
 //! | `words` | an access in words |
-//! | `monitor` | the watch |
+//! | `monitor` | the monitor |
 #![tactic(auto)]
 
 mod limits;

@@ -1,4 +1,4 @@
-//! The watch of the accesses of a trace.
+//! The monitor of the accesses of a trace.
 ghost use Rattle.std.specs.Prelude.{◌≡◌, ◌<◌, ◌+◌, ◌-◌, ◌^◌, ◌∷◌, [], IfOk, List, option_map, true};
 ghost use Rattle.picture_layout.specs.{given_access};
 ghost use Rattle.trace.specs.{LockMark as Mark, TracePast as Past, TraceSetup as Setup, is_trace_setup, trace_entry};
@@ -16,9 +16,9 @@ use std::marker::Model;
 use trace::{CellAccess, TraceEntry, TraceSetup};
 use trace_memory::CellMemory;
 
-/// A watch of the accesses of a trace, good or bad. It observes entries one by one and returns what a picture shows of the access
-/// of each. It keeps the state and the row of each cell and the open access of each of sixteen processes, so its memory does
-/// not grow with the trace.
+/// A monitor of the accesses of a trace, good or bad. It observes entries one by one and returns what a picture shows
+/// of the access of each. It keeps the state and the row of each cell and the open access of each of sixteen processes,
+/// so its memory does not grow with the trace.
 #[derive(Drop)]
 pub struct AccessMonitor {
     memory: CellMemory,
@@ -48,7 +48,7 @@ impl Model for AccessMonitor {
 }
 
 impl AccessMonitor {
-    /// Creates a watch of a trace with this setup, before the first entry. It shows the changes of waves within the limit.
+    /// Creates a monitor of a trace with this setup, without entries. It shows the changes of waves within the limit.
     ///
     /// # Errors
     ///

@@ -13,7 +13,7 @@ use Rattle.trace_engine.proofs.Trials.{unless_then}
 use Rattle.trace_draw.specs.{DrawnTrace, DrawsAllBands, DrawsLine, EndsSheet, EndsTrace, HasShown, IsDrawFault, IsReported, NothingYet, SoFar, Corresponds, TracePicture, TraceView, count_of, with_output}
 use Rattle.trace_draw.proofs.Shown.{shown_count}
 
--- a picture that there is
+-- the picture exists
 pub some_shown : (now : Option (List ℕ)) (o : Option TracePicture) → IsSome o → IsSome (with_output now o)
 some_shown now None some = some
 some_shown now (Some picture) some = refl
@@ -26,11 +26,11 @@ count_with : (now : Option (List ℕ)) (o : Option TracePicture) → count_by (�
 count_with now None = refl
 count_with now (Some picture) = refl
 
--- what was found in it
+-- an option has at most one value
 pub same_some : (o : Option TraceProgress) (p q : TraceProgress) → o ≡ Some p → o ≡ Some q → p ≡ q
 same_some o p q is other = let both : Some p ≡ Some q = sym is ∙ other in cc
 
--- what was observed by what was read, is by the setup that was read
+-- the observations that hold for what was read hold for the setup that was read
 pub observes_at : (view : TraceView) (first now : Option (List ℕ)) (picture : Option TracePicture) (p : TraceProgress) (s : TraceSetup) (entries : List TraceEntry) (numbers : List ℕ) → p.setup ≡ s →
     ObservesAt (HasShown view first) (with_output now picture) (Some p) entries numbers → Observes (HasShown view first) (with_output now picture) s entries numbers
 observes_at view first now None p s entries numbers same observed = observed
@@ -45,7 +45,7 @@ begun_with view None picture s e n old new is shown first entries numbers nothin
     (subst (λ (f : Option (List ℕ)). HasShown view f (picture, new) s (e ∷ []) (n ∷ [])) nothing shown))
 begun_with view (Some other) picture s e n old new is shown first entries numbers nothing observed = absurd (cc)
 
--- or a picture of no entries
+-- or a picture of no entries is begun
 pub begun_first : (view : TraceView) (none : Option TracePicture) (picture : TracePicture) (s : TraceSetup) (old new : Option (List ℕ)) → none ≡ None → HasShown view old (picture, new) s [] [] →
     (first : Option (List ℕ)) (entries : List TraceEntry) (numbers : List ℕ) → NothingYet none first old → Observes (HasShown view first) (with_output old none) s entries numbers → HasShown view first (picture, new) s entries numbers
 begun_first view None picture s old new is shown first entries numbers nothing observed =
@@ -54,18 +54,18 @@ begun_first view None picture s old new is shown first entries numbers nothing o
     (subst (λ (f : Option (List ℕ)). HasShown view f (picture, new) s [] []) nothing shown))
 begun_first view (Some other) picture s old new is shown first entries numbers nothing observed = absurd (cc)
 
--- a reader that there is
+-- the reader exists
 pub read_some : (o : Option TraceProgress) → IsSome o → (p : TraceProgress) × (o ≡ Some p)
 read_some None some = absurd (cc)
 read_some (Some p) some = (p, refl)
 
 module _ (view : TraceView) where
-  -- what was read, judged and drawn, and that reading the rest gives what reading all gives
+  -- the entries that were read, judged and drawn so far; reading the rest gives what reading the whole text gives
   pub record DrawnUpTo (to_come rest : Option (List ℕ)) (taken : ℕ) (reader : Option TraceProgress) (picture : Option TracePicture) (first now : Option (List ℕ)) : Type 0 where
     pub onwards : Onwards (HasShown view first) to_come rest taken reader (with_output now picture)
     pub nothing : NothingYet picture first now
 
-  -- so it stands
+  -- so the reader and the picture correspond to what was read
   corresponds_at : (to_come rest : Option (List ℕ)) (taken : ℕ) (reader : Option TraceProgress) (picture : Option TracePicture) (first now : Option (List ℕ)) (u : DrawnUpTo to_come rest taken reader picture first now) → Corresponds view reader picture first now u.onwards.before u.onwards.entries u.onwards.numbers
   corresponds_at to_come rest taken reader picture first now u = record { read_up_to = u.onwards.read_up_to; nothing = u.nothing }
 
@@ -77,13 +77,13 @@ module _ (view : TraceView) where
     nothing = corresponds.nothing;
   }
 
-  -- no more entries are drawn than lines were taken
+  -- at most as many entries are drawn as lines were taken
   pub drawn_few : (to_come rest : Option (List ℕ)) (taken : ℕ) (reader : Option TraceProgress) (picture : Option TracePicture) (first now : Option (List ℕ)) → DrawnUpTo to_come rest taken reader picture first now → count_by count_of picture ≤ taken
   drawn_few to_come rest taken reader picture first now u =
       let few = onwards_few (HasShown view first) (λ (h : SoFar). count_of h.0) (shown_count view first) to_come rest taken reader (with_output now picture) u.onwards in
       subst (λ n. n ≤ taken) (count_with now picture) few
 
-  -- a line more
+  -- one more line
   pub drawn_on : (to_come mid rest : Option (List ℕ)) (l l' : LineState) (n : ℕ) (line : List ℕ) (reader reader' : Option TraceProgress) (picture picture' : Option TracePicture) (first now then : Option (List ℕ)) (u : DrawnUpTo to_come mid l.taken reader picture first now) → TakesNext l l' mid rest →
       n ≡ l'.taken → line ≡ l'.line → DrawsLine view reader picture now reader' picture' then n line → DrawnUpTo to_come rest l'.taken reader' picture' first then
   drawn_on to_come mid rest l l' n line reader reader' picture picture' first now then u takes number is draws =
@@ -122,7 +122,7 @@ module _ (view : TraceView) where
       let corresponds = subst (λ (o : Option TraceProgress). Corresponds view reader picture first now o v.entries v.numbers) before (corresponds_at to_come mid taken reader picture first now u) in
       onwards_all (HasShown view first) (IsReported view.judged (λ s shown reported. EndsTrace view.form view.options d s shown reported first then) d.status) to_come mid taken reader (with_output now picture) v p before (ends first p v.entries v.numbers corresponds) end
 
--- a fault of what the input says is told as such
+-- a fault of what the input says is such a fault of the drawing
 pub input_fault : (e : Fault) (to_come : Option (List ℕ)) → IsTraceFault e to_come → IsDrawFault e to_come
 input_fault (fault.Line f) to_come why = why
 input_fault fault.Read to_come why = tt
@@ -131,7 +131,7 @@ input_fault fault.Memory to_come why = tt
 
 -- The last write.
 
--- what holds of a trace that a text says
+-- a consequence for a trace that a text says
 pub of_trace_then : (P Q : TraceSetup → List TraceEntry → List ℕ → Type 0) (text : List ℕ) → ((s : TraceSetup) (entries : List TraceEntry) (numbers : List ℕ) → P s entries numbers → Q s entries numbers) → IsOfTrace P text → IsOfTrace Q text
 of_trace_then P Q text then is = record { said = is.said; says = is.says; holds = then is.said.setup is.said.entries is.said.numbers is.holds }
 
@@ -144,7 +144,7 @@ pub all_reported : (judged : Bool) (P Q : TraceSetup → List TraceEntry → Lis
 all_reported judged P Q status then None is = tt
 all_reported judged P Q status then (Some text) is = of_trace_then (IsReported judged P status) (IsReported judged Q status) text (reported_then judged P Q status then) is
 
--- A call that writes fails by no fault of the input, and by no read.
+-- A call that writes fails neither by a fault of the input nor by a read.
 pub write_fault : (e : Fault) (to_come : Option (List ℕ)) → IsWriteFault e → IsDrawFault e to_come
 write_fault (fault.Line f) to_come why = absurd why
 write_fault fault.Read to_come why = tt

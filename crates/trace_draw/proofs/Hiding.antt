@@ -14,12 +14,12 @@ none_waits : (o : Option OverlapsObserved) → o ≡ None → ObservesAll Hidden
 none_waits None is = tt
 none_waits (Some x) is = absurd (cc)
 
--- and none is shown later
+-- and no read is shown later
 hides_on : (o : Option OverlapsObserved) (reads : List OverlappedRead) → ObservesAll Hidden some_setup [] reads o → o ≡ None
 hides_on None reads waits = refl
 hides_on (Some x) reads waits = absurd waits
 
--- the lines that are given stand alone
+-- the items of lines have no reads before them
 pub alone : (source at : ℕ) (lines : List Says) → lines_given Hidden source at [] lines ≡ map (GivesLine source at) lines
 alone source at [] = refl
 alone source at (line ∷ lines) = refl
@@ -31,6 +31,6 @@ module _ (had : Canvas) (a b : Option (List ℕ)) (source at : ℕ) (hides : had
       let drawn = draws Hidden some_setup [] [] (none_waits had.overlaps hides) in
       (subst (DrawsOn (kept had) (kept has) a b) (alone source at lines) drawn.0, hides_on has.overlaps (waiting lines []) drawn.1)
 
-  -- the end is
+  -- the end is drawn
   pub last_on : (reported : List ℕ) (last : Says) (height : ℕ) → DrawsLast had a b source at reported last height → DrawsRest (kept had) a b (end_given Hidden source at [] reported last) height
   last_on reported last height draws = draws Hidden some_setup [] [] (none_waits had.overlaps hides)

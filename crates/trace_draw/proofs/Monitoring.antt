@@ -1,4 +1,4 @@
--- Accesses that are watched, and the decision whether they are shown.
+-- The monitor of accesses, and the decision whether accesses are shown.
 use Rattle.std.proofs.Common.{◌≡◌, ◌≤◌, ◌<◌, ◌+◌, ◌||◌, ℕ, suc, true, false, cond, nat_le, [], ◌∷◌, length, Option, Some, None, option_map, refl, ap, sym, subst, ◌∙◌, arith}
 use Rattle.std.proofs.lemmas.Bool.{le-leb, lt-leb}
 use Rattle.std.proofs.lemmas.List.{length-map}
@@ -13,7 +13,7 @@ use Rattle.trace_accesses.specs.{HasMonitored, MonitorState, WaveLimit, possible
 use Rattle.trace_draw.specs.{ComesAfter, IsDecided, TraceDrawing, Monitors, drawn_count, given_access_of, gives_access, shows_all, view_of, monitored}
 
 module _ (mode : Reads) (limit : WaveLimit) (s : TraceSetup) (past : TracePast) where
-  -- where none is watched, none is shown
+  -- without a monitor, no access is shown
   pub none_shown : (e : TraceEntry) → Monitors mode limit s past None → given_access_of mode limit s past e ≡ []
   none_shown e monitors = by mode monitors
     where
@@ -30,7 +30,7 @@ module _ (mode : Reads) (limit : WaveLimit) (s : TraceSetup) (past : TracePast) 
       by reads.Hidden monitors = tt
       by reads.Shown monitors = tt
 
-  -- where they are watched, all are shown
+  -- with a monitor, all accesses are shown
   pub all_shown : (w : MonitorState) → Monitors mode limit s past (Some w) → (mode ≡ reads.All) × HasMonitored w s limit past
   all_shown w monitors = by mode monitors
     where
@@ -39,7 +39,7 @@ module _ (mode : Reads) (limit : WaveLimit) (s : TraceSetup) (past : TracePast) 
       by reads.Hidden monitors = absurd monitors
       by reads.Shown monitors = absurd monitors
 
-  -- no more are watched than there are
+  -- the monitor has observed at most as many entries as there are
   pub monitored_few : (o : Option MonitorState) → Monitors mode limit s past o → monitored o ≤ length past
   monitored_few None monitors = omega arith
   monitored_few (Some w) monitors =
@@ -54,18 +54,18 @@ module _ (mode : Reads) (limit : WaveLimit) (s : TraceSetup) (past : TracePast) 
       let few = monitored_few d.monitor after.monitors in
       omega (arith, drawn, few)
 
--- the item of what is shown of an access
+-- the item for the shown part of an access
 pub gives_none : (o : Option ShownAccess) (shown : Option GivenAccess) → o ≡ None → option_map given_access o ≡ shown → [] ≡ gives_access shown
 gives_none o shown none is = ap gives_access (sym (ap (option_map given_access) none) ∙ is)
 
 pub gives_some : (o : Option ShownAccess) (access : ShownAccess) (shown : Option GivenAccess) → o ≡ Some access → option_map given_access o ≡ shown → GivesAccess (given_access access) ∷ [] ≡ gives_access shown
 gives_some o access shown some is = ap gives_access (sym (ap (option_map given_access) some) ∙ is)
 
--- the view of a number of entries, where all accesses are shown anyway
+-- the view of a number of entries, if all accesses are shown for any number
 all_anyway : (options : PictureOptions) (n : ℕ) → shows_all options ≡ true → view_of options n ≡ reads.All
 all_anyway options n is = ap (λ b. cond (b || nat_le n 400) reads.All reads.Hidden) is
 
--- and where the number decides
+-- and if the number decides
 module _ (options : PictureOptions) (n : ℕ) (undecided : shows_all options ≡ false) where
   by_number : view_of options n ≡ cond (nat_le n 400) reads.All reads.Hidden
   by_number = ap (λ b. cond (b || nat_le n 400) reads.All reads.Hidden) undecided
@@ -74,11 +74,11 @@ module _ (options : PictureOptions) (n : ℕ) (undecided : shows_all options ≡
   pub short_view : n ≤ 400 → reads.All ≡ view_of options n
   short_view few = sym (by_number ∙ ap (λ b. cond b reads.All reads.Hidden) (le-leb n 400 few))
 
-  -- one of many entries shows none
+  -- a picture of many entries shows none
   long_view : 400 < n → view_of options n ≡ reads.Hidden
   long_view many = by_number ∙ ap (λ b. cond b reads.All reads.Hidden) (lt-leb n 400 many)
 
--- so it is decided
+-- so the view is decided
 pub decided_all : (options : PictureOptions) (n : ℕ) → shows_all options ≡ true → IsDecided options reads.All n
 decided_all options n is = λ more. all_anyway options (n + more) is
 
@@ -91,7 +91,7 @@ decided_view options mode n decided =
     let none : n + 0 ≡ n = omega arith in
     sym (subst (λ k. view_of options k ≡ mode) none (decided 0))
 
--- and stays
+-- and it remains decided
 pub decided_later : (options : PictureOptions) (mode : Reads) (n : ℕ) → IsDecided options mode n → IsDecided options mode (suc n)
 decided_later options mode n decided = λ more.
     let same : n + suc more ≡ suc n + more = omega arith in

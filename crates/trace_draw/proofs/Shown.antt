@@ -1,4 +1,4 @@
--- A judge observes the entries of a trace, and those that are shown are held or drawn.
+-- A judge observes the entries of a trace, and the entries that are shown are stored or drawn.
 use Rattle.std.proofs.Common.{◌≡◌, ℕ, true, false, not, ◌||◌, List, [], ◌∷◌, ◌++◌, length, reverse, Option, ap, sym, subst, ◌∙◌, arith}
 use Rattle.std.proofs.lemmas.List.{length-reverse, reverse-append}
 use Rattle.trace.specs.{TraceEntry, TracePast, TraceSetup}
@@ -15,7 +15,7 @@ module _ (view : TraceView) (first : Option (List ℕ)) (s : TraceSetup) where
     shows = subst (λ (l : List TraceEntry). AreShown view.form view.options s (reverse l) picture.entries first now) (sym (shown_none view.judged s)) shows;
   }
 
-  -- an entry more, which is shown
+  -- one more entry, which is shown
   pub shown_on : (picture then : TracePicture) (mid new : Option (List ℕ)) (entries : List TraceEntry) (numbers : List ℕ) (e : TraceEntry) (n : ℕ) → HasShown view first (picture, mid) s entries numbers → HasReported view.judged then.reporter s (entries ++ e ∷ []) (numbers ++ n ∷ []) →
       (not view.judged || is_good picture.reporter.judge.verdict) ≡ true → ((past : TracePast) → AreShown view.form view.options s past picture.entries first mid → AreShown view.form view.options s (e ∷ past) then.entries first new) → HasShown view first (then, new) s (entries ++ e ∷ []) (numbers ++ n ∷ [])
   shown_on picture then mid new entries numbers e n has reported shows on =
@@ -25,7 +25,7 @@ module _ (view : TraceView) (first : Option (List ℕ)) (s : TraceSetup) where
         shows = subst (λ (l : TracePast). AreShown view.form view.options s l then.entries first new) (sym (ap reverse next ∙ reverse-append (shown view.judged s entries) (e ∷ []))) (on (reverse (shown view.judged s entries)) has.shows);
       }
 
-  -- or not
+  -- or which is not shown
   pub shown_passed : (picture then : TracePicture) (mid : Option (List ℕ)) (entries : List TraceEntry) (numbers : List ℕ) (e : TraceEntry) (n : ℕ) → HasShown view first (picture, mid) s entries numbers → HasReported view.judged then.reporter s (entries ++ e ∷ []) (numbers ++ n ∷ []) →
       (not view.judged || is_good picture.reporter.judge.verdict) ≡ false → then.entries ≡ picture.entries → HasShown view first (then, mid) s (entries ++ e ∷ []) (numbers ++ n ∷ [])
   shown_passed picture then mid entries numbers e n has reported stops same =
@@ -36,7 +36,7 @@ module _ (view : TraceView) (first : Option (List ℕ)) (s : TraceSetup) where
             (subst (λ (x : ShownEntries). AreShown view.form view.options s (reverse (shown view.judged s entries)) x first mid) (sym same) has.shows);
       }
 
-  -- all, and what is told
+  -- all entries are shown, and the report is known
   pub shown_reported : (picture : TracePicture) (mid new : Option (List ℕ)) (entries : List TraceEntry) (numbers reported : List ℕ) (drawn : DrawnTrace) → HasShown view first (picture, mid) s entries numbers → ReportsIfJudged view.judged s entries numbers reported drawn.status → drawn.title.items ≡ title_of s →
       ((past : TracePast) → AreShown view.form view.options s past picture.entries first mid → EndsBands view.form view.options drawn.bands s past reported first new) →
       IsReported view.judged (λ s shown reported. EndsTrace view.form view.options drawn s shown reported first new) drawn.status s entries numbers

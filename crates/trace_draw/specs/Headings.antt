@@ -28,7 +28,7 @@ kind_word false = codes "register"
 abbrev pub register_line : TraceRegister → List ℕ
 register_line r = kind_word r.is_shared ++ (codes " " ++ (r.name ++ (codes " " ++ (decimal r.width ++ (codes " opens " ++ (decimal r.opens ++ codes "\n"))))))
 
--- the lines that a page lists: the headings and registers of the trace, and one line that stands for its entries
+-- the lines that a page lists: the headings and registers of the trace, and one line for all entries
 abbrev pub listed : TraceSetup → List ℕ
 listed s = first_lines s ++ flat_map register_line s.registers ++ codes "(entries)\n"
 

@@ -19,16 +19,16 @@ abbrev pub shown_by : TraceVerdict → List TraceEntry → List TraceEntry
 shown_by Good entries = entries
 shown_by (Bad k l) entries = take (k + 1) entries
 
--- of a trace that is judged, those by its verdict; otherwise all
+-- the entries that are shown: of a judged trace, those by its verdict; otherwise all
 abbrev pub shown : Bool → TraceSetup → List TraceEntry → List TraceEntry
 shown false s entries = entries
 shown true s entries = shown_by (verdict_of s entries) entries
 
--- what the lines of the marks of an entry say
+-- the contents of the lines of an entry's marks
 abbrev pub says_entry : TraceEntry → List Says
 says_entry e = map (SaysLockMark e.process) e.marks
 
--- the item of what is shown of an access, if anything is
+-- the item for the shown part of an access, if any of it is shown
 abbrev pub gives_access : Option GivenAccess → List Gives
 gives_access None = []
 gives_access (Some access) = GivesAccess access ∷ []
@@ -51,7 +51,7 @@ given_past mode limit s (e ∷ past) = given_past mode limit s past ++ given_ent
 abbrev pub given_last : TraceSetup → List ℕ → ℕ → List Gives
 given_last s reported n = end_given reads.Hidden (source_of s + 1) n [] reported (SaysLockEnd n)
 
--- all items of a trace of which these entries are shown, and of which a judge tells this
+-- all items of a trace of which these entries are shown, with this report of a judge
 abbrev pub trace_gives : PictureOptions → TraceSetup → List TraceEntry → List ℕ → List Gives
 trace_gives options s entries reported =
     given_past (view_of options (length entries)) (limit_of options) s (reverse entries)
@@ -59,32 +59,32 @@ trace_gives options s entries reported =
 
 -- The lines, without their ends. An access is not a line.
 
--- those of the marks of an entry with this number
+-- the lines of the marks of an entry with this number
 abbrev pub lines_of_marks : ℕ → TraceEntry → List (List ℕ)
 lines_of_marks n e = map (lock_marked_text n e.process) e.marks
 
--- those of the marks of entries, the first of which has this number
+-- the lines of the marks of entries, the first of which has this number
 abbrev pub mark_lines : ℕ → List TraceEntry → List (List ℕ)
 mark_lines n [] = []
 mark_lines n (e ∷ entries) = lines_of_marks n e ++ mark_lines (n + 1) entries
 
--- those of the end of a trace of n entries
+-- the lines of the end of a trace of n entries
 abbrev pub end_lines : ℕ → List ℕ → List (List ℕ)
 end_lines n reported = map judged_text (report_lines reported) ++ lock_ended_text n ∷ []
 
--- all
+-- all lines
 abbrev pub trace_lines : List TraceEntry → List ℕ → List (List ℕ)
 trace_lines entries reported = mark_lines 0 entries ++ end_lines (length entries) reported
 
 -- The lines in a window.
 
--- those of the marks of entries in it, the first of which has this number
+-- the lines in a window of the marks of entries, the first of which has this number
 abbrev pub shown_mark_lines : Window → ℕ → List TraceEntry → List (List ℕ)
 shown_mark_lines w n [] = []
 shown_mark_lines w n (e ∷ entries) =
     lines_if (shows_entry w n) (lines_of_marks n e) ++ shown_mark_lines w (n + 1) entries
 
--- all in it
+-- all lines in a window
 abbrev pub shown_lines : Window → List TraceEntry → List ℕ → List (List ℕ)
 shown_lines w entries reported =
     shown_mark_lines w 0 entries

@@ -36,7 +36,7 @@ pub(crate) struct TraceDrawing {
     monitor: Option<AccessMonitor>,
     /// The number of entries that are drawn.
     entries: u64,
-    /// The line of the page's list that stands for all entries.
+    /// The number of the line in the page's list that represents all entries.
     source: u64,
 }
 

@@ -27,7 +27,7 @@ pub(crate) fn title(alloc: Global, setup: &TraceSetup) -> Result<Vec<u8>, AllocE
     Ok(title.into_bytes())
 }
 
-/// Returns the lines that a page lists: the headings and registers of a trace, and one line that stands for its entries.
+/// Returns the lines that a page lists: the headings and registers of a trace, and one line for all its entries.
 ///
 /// # Errors
 ///
@@ -41,7 +41,7 @@ pub(crate) fn listed_lines(alloc: Global, setup: &TraceSetup) -> Result<Vec<u8>,
     Ok(lines)
 }
 
-/// Returns the number of the line that stands for all entries.
+/// Returns the number of the line for all entries.
 pub(crate) fn line_of_entries(setup: &TraceSetup) -> u64
     ensures line { result ≡ source_of setup.now }
     ensures room { result < 2 ^ 64 - 1 }

@@ -130,7 +130,7 @@ impl TracePicture {
     }
 }
 
-/// Returns what a judge tells of the entries that it has observed, and its exit status; nothing and 0 if it is not asked.
+/// Returns a judge's report on the entries that it has observed, and its exit status; nothing and 0 without a judge.
 fn reported_by(
     alloc: Global,
     judged: bool,

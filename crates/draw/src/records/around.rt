@@ -84,8 +84,8 @@ impl PictureForm {
     }
 }
 
-/// Returns the lines that a page lists: the headings and the opening pairs of a record, and one line that stands for its
-/// entries.
+/// Returns the lines that a page lists: the headings and the opening pairs of a record, and one line for all entries of
+/// the record.
 fn listed_lines(alloc: Global, setup: &Setup) -> Result<Vec<u8>, AllocError>
     ensures { IfOk result (λ lines. lines.items ≡ listed setup.now) }
 {

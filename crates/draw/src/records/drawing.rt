@@ -29,7 +29,7 @@ pub(crate) struct RecordDrawing {
     monitor: ReadMonitor,
 }
 
-/// Returns the line of the page's list that stands for all entries of a record.
+/// Returns the number of the line in the page's list that represents all entries of a record.
 fn line_of_entries(setup: &Setup) -> u64
     ensures line { result ≡ source_of setup.now }
     ensures room { result < 2 ^ 64 - 1 }
@@ -107,8 +107,8 @@ impl RecordDrawing {
         self.drawing.step(process, access, overlapped, output)
     }
 
-    /// Returns whether the access of the next entry ends an overlapped read, if reads are shown. The watch is not asked if no
-    /// reads are shown, so that the compiler drops the access of a Step that it has read.
+    /// Returns whether the access of the next entry ends an overlapped read, if reads are shown. Otherwise the monitor
+    /// is not asked, so that the compiler drops the access of a Step that it has read.
     #[inline(always)]
     fn ends_overlapped(&mut self, access: Option<Access>) -> bool
         ensures overlapped { (view : Seen) (s : Given) (parts : List Part) (e : Noted) →

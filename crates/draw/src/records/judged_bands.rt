@@ -151,7 +151,7 @@ fn end_judged<H: Judging, W: Sink>(
     }
 }
 
-/// Returns what a judge tells of the lines that were read, or `None` if all of them were skipped.
+/// Returns a judge's report on the lines that were read, or `None` if all of them were skipped.
 fn reporting_of<H: Judging>(alloc: Global, trial: Trial<H>) -> Result<Option<Reporting>, AllocError>
     ensures { IfOk result
         (λ reporting. (before : Option Progress) (entries : List Noted) (numbers : List ℕ) →

@@ -146,7 +146,7 @@ impl RunDrawing {
         })
     }
 
-    /// Draws and counts what a turn tells.
+    /// Draws and counts the report of a turn.
     fn draw_reported<W: Sink>(&mut self, reported: &TurnReport, output: &mut W) -> Result<(), Fault>
         requires writes { W.failures output.old < 2 ^ 64 - 1 }
         requires events { self.old.drawing.entries < 2 ^ 64 - 1 }

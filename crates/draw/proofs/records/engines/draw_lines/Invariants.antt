@@ -3,8 +3,8 @@ use Rattle.scenario.specs.files.{EndHolds, coming}
 use Rattle.draw.proofs.RecordEnds.{Onwards}
 use Rattle.draw.proofs.records.engines.draw_lines.Given as goal
 
--- reading what is left goes on to what reading all gives, each entry so far was drawn, a source that has told its end is at
--- it, and no call has failed
+-- Reading the rest leads to what reading the whole input gives, and each entry so far was drawn. A source that has reported its end
+-- is at its end, and no call has failed.
 abbrev pub invariant-lines : goal.invariant-lines
 invariant-lines g l = record {
   onwards : Onwards (g.R.Source.to_come l.fn.input) (coming l.lines.ahead (g.R.Source.to_come l.input)) l.lines.taken l.sheet (g.W.Sink.taken l.fn.output) (g.W.Sink.taken l.output);

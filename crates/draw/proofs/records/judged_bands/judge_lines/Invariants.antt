@@ -3,7 +3,7 @@ use Rattle.scenario.specs.files.{EndHolds, coming}
 use Rattle.draw.proofs.JudgedFile.{Judged}
 use Rattle.draw.proofs.records.judged_bands.judge_lines.Given as goal
 
--- each entry so far was heard, and drawn as far as it is shown; a source that has told its end is at it, and no call has failed
+-- The judge has observed each entry so far, and each is drawn as far as it is shown. A source that has reported its end is at its end, and no call has failed.
 abbrev pub invariant-lines : goal.invariant-lines
 invariant-lines g l = record {
   judged : Judged g.H.EntryObserver.HasObserved g.H.Judging.Keeps g.H.Judging.finds_good (g.R.Source.to_come l.fn.input) (coming l.lines.ahead (g.R.Source.to_come l.input)) l.lines.taken l.trial.reader l.trial.observer l.shows l.sheet (g.W.Sink.taken l.fn.output) (g.W.Sink.taken l.output);
