@@ -1,11 +1,11 @@
 //! The engine `calls`: it writes a line for each call of a scenario's run as the call ends, and finally those of the open calls.
-ghost use Rattle.std.specs.Prelude.{◌≡◌, ◌+◌, ◌-◌, ◌^◌, ◌<◌, length, IfErr, IfOk, OnOk};
+ghost use Rattle.std.specs.Prelude.{◌≡◌, ◌-◌, ◌^◌, ◌<◌, length, IfOk, OnOk};
 ghost use Rattle.std.specs.Io.KnownBytes.{Appends};
 ghost use Rattle.model.specs.{Past};
 ghost use Rattle.scenario.specs.files.Engines.{Ran, streams};
 ghost use Rattle.scenario.specs.files.{ReadsFront, WritesFront};
 ghost use Rattle.scenario.specs.{script};
-ghost use Rattle.scenario_run.specs.{IsWriteFault, ended, failed_write};
+ghost use Rattle.scenario_run.specs.{FailsAsWriting, ended};
 ghost use Rattle.calls.specs.Observing.{HasObserved, open_call};
 ghost use Rattle.calls.specs.Lines.{header, line_of, open_lines};
 ghost use Rattle.calls.specs.Tables.{calls_text, tabled};
@@ -58,8 +58,7 @@ fn table_scenario<W: Sink, L: ProgressObserver>(
         (Appends (W.taken output.old) (W.taken output.new) (tabled (script scenario.now))) }
     ensures front { WritesFront (W.taken output.old) (W.taken output.new)
         (tabled (script scenario.now)) }
-    ensures fault { IfErr result IsWriteFault }
-    ensures failures { W.failures output.new ≡ W.failures output.old + failed_write result }
+    ensures fails { FailsAsWriting W.failures result output.old output.new }
 {
     let mut scenario_run = ScenarioRun::new(alloc, &scenario.setup)?;
     let mut table = CallTable::new(alloc, &scenario.setup)?;
@@ -78,8 +77,7 @@ fn write_header<W: Sink>(output: &mut W) -> Result<(), Fault>
     requires { W.failures output.old < 2 ^ 64 - 1 }
     ensures written { OnOk result (Appends (W.taken output.old) (W.taken output.new) header) }
     ensures front { WritesFront (W.taken output.old) (W.taken output.new) header }
-    ensures fault { IfErr result IsWriteFault }
-    ensures failures { W.failures output.new ≡ W.failures output.old + failed_write result }
+    ensures fails { FailsAsWriting W.failures result output.old output.new }
 {
     write_all(output, HEADER.as_bytes())
 }
@@ -98,8 +96,7 @@ fn write_open<W: Sink>(
         Appends (W.taken output.old) (W.taken output.new) (open_lines setup.now past)) }
     ensures front { (past : Past) → HasObserved table.now past →
         WritesFront (W.taken output.old) (W.taken output.new) (open_lines setup.now past) }
-    ensures fault { IfErr result IsWriteFault }
-    ensures failures { W.failures output.new ≡ W.failures output.old + failed_write result }
+    ensures fails { FailsAsWriting W.failures result output.old output.new }
 {
     for process in 0..setup.processes {
         write_open_call(alloc, table, process, output)?;
@@ -123,8 +120,7 @@ fn write_open_call<W: Sink>(
     ensures front { (past : Past) → HasObserved table.now past →
         WritesFront (W.taken output.old) (W.taken output.new)
         (line_of (length past - 1) (open_call table.now.setup process past)) }
-    ensures fault { IfErr result IsWriteFault }
-    ensures failures { W.failures output.new ≡ W.failures output.old + failed_write result }
+    ensures fails { FailsAsWriting W.failures result output.old output.new }
 {
     let called = table.open_call(process);
     let last = table.newest();

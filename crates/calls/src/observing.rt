@@ -1,10 +1,10 @@
 //! An observer that tabulates the calls of a run. It writes the line of each call that ends before the next event is made.
-ghost use Rattle.std.specs.Prelude.{◌≡◌, ◌+◌, ◌-◌, ◌^◌, ◌<◌, ◌∷◌, [], IfErr, OnErr, OnOk, Some, length, refl, false};
+ghost use Rattle.std.specs.Prelude.{◌≡◌, ◌+◌, ◌-◌, ◌^◌, ◌<◌, ◌∷◌, [], OnErr, OnOk, Some, length, refl, false};
 ghost use Rattle.std.proofs.Common.{◌∙◌};
 ghost use Rattle.std.specs.Io.KnownBytes.{Appends};
 ghost use Rattle.model.specs.{Entry as Noted, Past};
 ghost use Rattle.scenario.specs.files.{WritesFront};
-ghost use Rattle.scenario_run.specs.{IsWriteFault, Took, TookPart, failed_write, part_before, part_on, part_unobserved, took_none, took_on};
+ghost use Rattle.scenario_run.specs.{FailsAsWriting, Took, TookPart, part_before, part_on, part_unobserved, took_none, took_on};
 ghost use Rattle.calls.specs.Observing.{ComesInTurn, HasObserved, ended_call};
 ghost use Rattle.calls.specs.Lines.{call_line, line_of};
 ghost use Rattle.calls.specs.Tables.{CutsReported, HasTabled, Reports, fewer, known_step, lines_after, lines_longer};
@@ -104,8 +104,7 @@ fn observe_reported<W: Sink>(
         (CutsReported reported.now table.old (W.taken output.old) (W.taken output.new)) }
     ensures setup { table.new.setup ≡ table.old.setup }
     ensures entries { table.new.entries < table.old.entries + 2 }
-    ensures fault { IfErr result IsWriteFault }
-    ensures failures { W.failures output.new ≡ W.failures output.old + failed_write result }
+    ensures fails { FailsAsWriting W.failures result output.old output.new }
 {
     match reported {
         TurnReport::Accepted(made) => {
@@ -160,8 +159,7 @@ fn observe<W: Sink>(
         (line_of (length past) (ended_call table.old.setup past e)) }
     ensures setup { table.new.setup ≡ table.old.setup }
     ensures entries { table.new.entries ≡ table.old.entries + 1 }
-    ensures fault { IfErr result IsWriteFault }
-    ensures failures { W.failures output.new ≡ W.failures output.old + failed_write result }
+    ensures fails { FailsAsWriting W.failures result output.old output.new }
 {
     let newest = table.entries();
     let ended = table.observe(process, known, access, marks);
@@ -180,8 +178,7 @@ pub(crate) fn write_if<W: Sink>(
         (Appends (W.taken output.old) (W.taken output.new) (line_of newest called.now)) }
     ensures front { WritesFront (W.taken output.old) (W.taken output.new)
         (line_of newest called.now) }
-    ensures fault { IfErr result IsWriteFault }
-    ensures failures { W.failures output.new ≡ W.failures output.old + failed_write result }
+    ensures fails { FailsAsWriting W.failures result output.old output.new }
 {
     match called {
         None => Ok(()),
@@ -202,8 +199,7 @@ fn write_call<W: Sink>(
         (Appends (W.taken output.old) (W.taken output.new) (call_line newest called.now)) }
     ensures front { WritesFront (W.taken output.old) (W.taken output.new)
         (call_line newest called.now) }
-    ensures fault { IfErr result IsWriteFault }
-    ensures failures { W.failures output.new ≡ W.failures output.old + failed_write result }
+    ensures fails { FailsAsWriting W.failures result output.old output.new }
 {
     let mut line = Vec::new(alloc);
     print_call(alloc, called, newest, &mut line)?;

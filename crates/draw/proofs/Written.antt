@@ -1,9 +1,6 @@
 -- Pieces that are written one after the other.
-use Rattle.std.proofs.Common.{◌≡◌, ℕ, Result, Ok, Err, IfErr, IfOk, OnOk, IsErrAnd, List, [], ◌++◌, Option, Some, None, refl, ap, sym, ◌∙◌, append-nil, append_assoc}
+use Rattle.std.proofs.Common.{◌≡◌, ℕ, Result, Ok, Err, IfErr, IfOk, OnOk, List, [], ◌++◌, Option, Some, None, ap, sym, ◌∙◌, append-nil, append_assoc}
 use Rattle.std.specs.Io.KnownBytes.{Appends}
-use Rattle.scenario.specs.files.{Fault}
-use Rattle.scenario.specs.files.declared.faults.Fault.TheVariants as fault
-use Rattle.draw.specs.{failed_write}
 
 -- one piece, and then the next
 pub appends_both : (a b c : Option (List ℕ)) (front more : List ℕ) → Appends a b front → Appends b c more → Appends a c (front ++ more)
@@ -29,15 +26,6 @@ ok_then_both (Err e) then p q = tt
 pub ok_then_all : {A E : Type 0} (r : Result A E) {P Q R S : Type 0} → (P → Q → R → S) → OnOk r P → OnOk r Q → OnOk r R → OnOk r S
 ok_then_all (Ok done) then p q s = then p q s
 ok_then_all (Err e) then p q s = tt
-
--- a fault that is handed on counts as it did
-pub failed_same : {A : Type 0} (r : Result A Fault) (e : Fault) → IsErrAnd r (λ x. x ≡ e) → failed_write r ≡ failed_write {A = Unit {0}} (Err e)
-failed_same (Ok done) e same = absurd same
-failed_same {A} (Err f) e same = failed_kind f ∙ ap (λ f. failed_write {A = Unit {0}} (Err f)) same
-  where
-    failed_kind : (f : Fault) → failed_write {A = A} (Err f) ≡ failed_write {A = Unit {0}} (Err f)
-    failed_kind (fault.Line f) = refl
-    failed_kind f = refl
 
 -- of what a call answered
 pub if_ok_then : {A E : Type 0} (r : Result A E) {P Q : A → Type 0} → ((x : A) → P x → Q x) → IfOk r P → IfOk r Q

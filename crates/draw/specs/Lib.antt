@@ -27,7 +27,7 @@ pub use Overlaps.{Observes, ObservesAll, ReportsEnd, ReportsOver, Monitors, begu
 pub use StoreChanges.{Changed, change_by, changed, store_words, words_by}
 pub use TakenStores.{IsAfterMarks, after_call, call_after, called_by, change_by_call, change_of, change_with, next_number, no_call, store_by, store_with, taken_by}
 pub use Views.{IsDecided, full_view, is_short, long_view, most_asked, most_stored, record_view, short_view, waves_asked, waves_from, waves_for_few_entries}
-pub use Rattle.scenario.specs.files.{IsWriteFault, failed_write}
+pub use Rattle.scenario.specs.files.{FailsAsWriting, IsWriteFault, failed_write}
 pub use declared.canvas.Canvas.{Canvas}
 pub use declared.taken_store.LastCall.{LastCall}
 pub use declared.taken_store.TakenStore.{TakenStore}

@@ -1,6 +1,6 @@
 //! The canvas of a picture: a page that shows a window and writes each band as soon as the band is full, and the overlapped
 //! reads that it shows.
-ghost use Rattle.std.specs.Prelude.{◌≡◌, ◌+◌, ◌-◌, ◌^◌, ◌<◌, List, [], ◌∷◌, ◌++◌, is_some, length, map, IfErr, IfOk, None, OnOk, Ok};
+ghost use Rattle.std.specs.Prelude.{◌≡◌, ◌-◌, ◌^◌, ◌<◌, List, [], ◌∷◌, ◌++◌, is_some, length, map, IfOk, None, OnOk, Ok};
 ghost use Rattle.model.specs.plain_store.{checked};
 ghost use Rattle.model.specs.plain_store.declared.setups.Setup.{Setup as Given};
 ghost use Rattle.model.specs.{Entry, Mark as Marked, Past};
@@ -12,7 +12,7 @@ ghost use Rattle.draw.specs.Canvases.{DrawsLast, DrawsLines, DrawsMarks, DrawsOn
 ghost use Rattle.draw.specs.Items.{GivesAccess, GivesRead, gives_access, says_of};
 ghost use Rattle.draw.specs.Overlaps.{ObservesAll, ReportsEnd, overlapped_by, shown_of};
 ghost use Rattle.draw.specs.TakenStores.{IsAfterMarks};
-ghost use Rattle.scenario.specs.files.{IsWriteFault, failed_write};
+ghost use Rattle.scenario.specs.files.{FailsAsWriting};
 
 use crate::overlaps::{OverlapsObserved, take_ended};
 use crate::store_changes::words_by_pairs;
@@ -150,8 +150,7 @@ impl Canvas {
         requires { W.failures output.old < 2 ^ 64 - 1 }
         ensures drawn { OnOk result (DrawsMarks self.old self.new store.old store.new
             (W.taken output.old) (W.taken output.new) source at process marks.now) }
-        ensures fault { IfErr result IsWriteFault }
-        ensures failures { W.failures output.new ≡ W.failures output.old + failed_write result }
+        ensures fails { FailsAsWriting W.failures result output.old output.new }
     {
         for mark in marks {
             self.draw_mark(store, source, at, process, mark, output)?;
@@ -172,8 +171,7 @@ impl Canvas {
         requires { W.failures output.old < 2 ^ 64 - 1 }
         ensures drawn { OnOk result (DrawsMarks self.old self.new store.old store.new
             (W.taken output.old) (W.taken output.new) source at process (mark.now ∷ [])) }
-        ensures fault { IfErr result IsWriteFault }
-        ensures failures { W.failures output.new ≡ W.failures output.old + failed_write result }
+        ensures fails { FailsAsWriting W.failures result output.old output.new }
     {
         let _nested: NestedTypes = None;
         let change = store.mark(process, mark)?;
@@ -198,8 +196,7 @@ impl Canvas {
         ensures drawn { OnOk result
             (DrawsLines self.old self.new (W.taken output.old) (W.taken output.new) line.source
             line.at (says_of line.line_content ∷ [])) }
-        ensures fault { IfErr result IsWriteFault }
-        ensures failures { W.failures output.new ≡ W.failures output.old + failed_write result }
+        ensures fails { FailsAsWriting W.failures result output.old output.new }
     {
         self.draw_reads(output)?;
         let full = self.page.take(line)?;
@@ -214,8 +211,7 @@ impl Canvas {
             ObservesAll mode s past reads self.old.overlaps →
             DrawsOn (kept self.old) (kept self.new) (W.taken output.old) (W.taken output.new)
             (map GivesRead (shown_of mode reads)) × ObservesAll mode s past [] self.new.overlaps) }
-        ensures fault { IfErr result IsWriteFault }
-        ensures failures { W.failures output.new ≡ W.failures output.old + failed_write result }
+        ensures fails { FailsAsWriting W.failures result output.old output.new }
     {
         let ended = take_ended(self.alloc, &mut self.overlaps);
         for read in &ended {
@@ -231,8 +227,7 @@ impl Canvas {
             (DrawsOn (kept self.old) (kept self.new) (W.taken output.old) (W.taken output.new)
             (GivesRead read.now ∷ [])) }
         ensures overlaps { self.new.overlaps ≡ self.old.overlaps }
-        ensures fault { IfErr result IsWriteFault }
-        ensures failures { W.failures output.new ≡ W.failures output.old + failed_write result }
+        ensures fails { FailsAsWriting W.failures result output.old output.new }
     {
         let full = self.page.take_read(*read)?;
         write_band(&full, output)
@@ -249,8 +244,7 @@ impl Canvas {
         ensures drawn { OnOk result (DrawsOn (kept self.old) (kept self.new)
             (W.taken output.old) (W.taken output.new) (GivesAccess (given_access access) ∷ [])) }
         ensures overlaps { self.new.overlaps ≡ self.old.overlaps }
-        ensures fault { IfErr result IsWriteFault }
-        ensures failures { W.failures output.new ≡ W.failures output.old + failed_write result }
+        ensures fails { FailsAsWriting W.failures result output.old output.new }
     {
         let full = self.page.take_access(access)?;
         write_band(&full, output)
@@ -282,8 +276,7 @@ impl Canvas {
             (gives_access (shown_access s limit past (entry_with process access.now marks)))
             × HasMonitored monitor.new s limit (entry_with process access.now marks ∷ past)) }
         ensures overlaps { self.new.overlaps ≡ self.old.overlaps }
-        ensures fault { IfErr result IsWriteFault }
-        ensures failures { W.failures output.new ≡ W.failures output.old + failed_write result }
+        ensures fails { FailsAsWriting W.failures result output.old output.new }
     {
         let alloc = self.alloc;
         match monitor.observe_access(alloc, number, process, access, drops_read)? {
@@ -309,8 +302,7 @@ impl Canvas {
         ensures drawn { IfOk result
             (λ height. DrawsLast self.old (W.taken output.old) (W.taken output.new) line.source
             line.at reported.now (says_of line.line_content) height) }
-        ensures fault { IfErr result IsWriteFault }
-        ensures failures { W.failures output.new ≡ W.failures output.old + failed_write result }
+        ensures fails { FailsAsWriting W.failures result output.old output.new }
     {
         let at = line.at;
         let verdict = self.draw_up_to_verdict(line, reported, output)?;
@@ -330,8 +322,7 @@ impl Canvas {
         ensures drawn { IfOk result
             (λ verdict. DrawsUpToVerdict self.old self.new (W.taken output.old) (W.taken output.new)
             line.source line.at reported.now (says_of line.line_content) verdict) }
-        ensures fault { IfErr result IsWriteFault }
-        ensures failures { W.failures output.new ≡ W.failures output.old + failed_write result }
+        ensures fails { FailsAsWriting W.failures result output.old output.new }
     {
         if reported.is_empty() {
             self.draw(line, output)?;

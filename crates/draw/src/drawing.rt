@@ -1,5 +1,5 @@
 //! The picture of a run or of a record, which is drawn part by part.
-ghost use Rattle.std.specs.Prelude.{◌≡◌, ◌+◌, ◌-◌, ◌^◌, ◌<◌, [], ◌∷◌, IfErr, IfOk, List, Ok, OnOk, Some, is_some, length};
+ghost use Rattle.std.specs.Prelude.{◌≡◌, ◌+◌, ◌-◌, ◌^◌, ◌<◌, [], ◌∷◌, IfOk, List, Ok, OnOk, Some, is_some, length};
 ghost use Rattle.model.specs.plain_store.{checked};
 ghost use Rattle.model.specs.plain_store.declared.setups.Setup.{Setup as Given};
 ghost use Rattle.model.specs.{Entry, Mark as Marked, Past};
@@ -9,7 +9,7 @@ ghost use Rattle.draw.specs.Canvases.{DrawsLast, DrawsLines, DrawsOn, kept, kept
 ghost use Rattle.draw.specs.Drawings.{DrawsPart, HasOpening, Recalls, MonitorsAccesses, observes as is_observing};
 ghost use Rattle.draw.specs.Items.{Part, PartEntry, PartLine, entries_among, given_access_of, says_of};
 ghost use Rattle.draw.specs.Overlaps.{ReportsEnd};
-ghost use Rattle.scenario.specs.files.{IsWriteFault, failed_write};
+ghost use Rattle.scenario.specs.files.{FailsAsWriting};
 ghost use Rattle.draw.specs.declared.views.AccessView.{AccessView as Seen};
 
 use crate::canvas::Canvas;
@@ -122,8 +122,7 @@ impl Drawing {
             (W.taken output.old) (W.taken output.new)) }
         ensures source { self.new.source ≡ self.old.source }
         ensures entries { OnOk result (self.new.entries ≡ self.old.entries + 1) }
-        ensures fault { IfErr result IsWriteFault }
-        ensures failures { W.failures output.new ≡ W.failures output.old + failed_write result }
+        ensures fails { FailsAsWriting W.failures result output.old output.new }
     {
         let _nested: NestedTypes = None;
         let at = self.entries;
@@ -159,8 +158,7 @@ impl Drawing {
             (W.taken output.old) (W.taken output.new)) }
         ensures source { self.new.source ≡ self.old.source }
         ensures entries { OnOk result (self.new.entries ≡ self.old.entries + 1) }
-        ensures fault { IfErr result IsWriteFault }
-        ensures failures { W.failures output.new ≡ W.failures output.old + failed_write result }
+        ensures fails { FailsAsWriting W.failures result output.old output.new }
     {
         let access = Some(access);
         self.canvas.observe(self.entries, access, overlapped)?;
@@ -193,8 +191,7 @@ impl Drawing {
         ensures before { self.new.before ≡ self.old.before }
         ensures entries { self.new.entries ≡ self.old.entries }
         ensures source { self.new.source ≡ self.old.source }
-        ensures fault { IfErr result IsWriteFault }
-        ensures failures { W.failures output.new ≡ W.failures output.old + failed_write result }
+        ensures fails { FailsAsWriting W.failures result output.old output.new }
     {
         let number = self.entries;
         match &mut self.accesses {
@@ -235,8 +232,7 @@ impl Drawing {
         ensures store { self.new.store ≡ self.old.store }
         ensures entries { self.new.entries ≡ self.old.entries }
         ensures source { self.new.source ≡ self.old.source }
-        ensures fault { IfErr result IsWriteFault }
-        ensures failures { W.failures output.new ≡ W.failures output.old + failed_write result }
+        ensures fails { FailsAsWriting W.failures result output.old output.new }
     {
         let line = self.line(line_content);
         self.canvas.draw(line, output)
@@ -258,8 +254,7 @@ impl Drawing {
         ensures drawn { IfOk result
             (DrawsLast self.old.canvas (W.taken output.old) (W.taken output.new) self.old.source
             self.old.entries reported.now (says_of line_content)) }
-        ensures fault { IfErr result IsWriteFault }
-        ensures failures { W.failures output.new ≡ W.failures output.old + failed_write result }
+        ensures fails { FailsAsWriting W.failures result output.old output.new }
     {
         let line = self.line(line_content);
         self.canvas.end(line, reported, output)

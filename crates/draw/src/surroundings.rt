@@ -1,8 +1,8 @@
 //! The markup before and after the bands of one picture, and after those of a page.
-ghost use Rattle.std.specs.Prelude.{◌≡◌, ◌+◌, ◌-◌, ◌^◌, ◌<◌, IfErr, IfOk, OnOk};
+ghost use Rattle.std.specs.Prelude.{◌≡◌, ◌-◌, ◌^◌, ◌<◌, IfOk, OnOk};
 ghost use Rattle.picture.specs.{picture_back, picture_front, picture_names};
 ghost use Rattle.draw.specs.PictureForm.{EndsPage, IsAround};
-ghost use Rattle.scenario.specs.files.{IsWriteFault, failed_write};
+ghost use Rattle.scenario.specs.files.{FailsAsWriting};
 
 use crate::writing::write_markup;
 use picture::{Markup, Reads, Subject, page_end, picture_end, picture_head};
@@ -40,8 +40,7 @@ pub fn around_picture(
 pub fn write_page_end<W: Sink>(alloc: Global, opening: &[u8], output: &mut W) -> Result<(), Fault>
     requires { W.failures output.old < 2 ^ 64 - 1 }
     ensures ends { OnOk result (EndsPage opening.now (W.taken output.old) (W.taken output.new)) }
-    ensures fault { IfErr result IsWriteFault }
-    ensures failures { W.failures output.new ≡ W.failures output.old + failed_write result }
+    ensures fails { FailsAsWriting W.failures result output.old output.new }
 {
     let end = page_end(alloc, opening)?;
     write_markup(&end, output)

@@ -1,9 +1,9 @@
 //! Writing markup.
-ghost use Rattle.std.specs.Prelude.{◌≡◌, ◌+◌, ◌-◌, ◌^◌, ◌<◌, ◌++◌, IfErr, IfSome, OnOk};
+ghost use Rattle.std.specs.Prelude.{◌-◌, ◌^◌, ◌<◌, ◌++◌, IfSome, OnOk};
 ghost use Rattle.picture.specs.markup.{EndsAll, lines_in};
 ghost use Rattle.picture.specs.{band_text, lines_of_band};
 ghost use Rattle.draw.specs.Canvases.{Draws, Writes};
-ghost use Rattle.scenario.specs.files.{IsWriteFault, failed_write};
+ghost use Rattle.scenario.specs.files.{FailsAsWriting};
 
 use picture::Markup;
 use scenario::{Fault, Sink, write_all};
@@ -20,8 +20,7 @@ pub fn write_markup<W: Sink>(markup: &Markup, output: &mut W) -> Result<(), Faul
     ensures drawn { OnOk result
         (EndsAll markup.now →
         Draws (W.taken output.old) (W.taken output.new) markup.now (lines_in markup.now)) }
-    ensures fault { IfErr result IsWriteFault }
-    ensures failures { W.failures output.new ≡ W.failures output.old + failed_write result }
+    ensures fails { FailsAsWriting W.failures result output.old output.new }
 {
     write_all(output, markup.as_slice())
 }
@@ -34,8 +33,7 @@ pub(crate) fn write_band<W: Sink>(band: &Option<Markup>, output: &mut W) -> Resu
         (IfSome band.now EndsAll →
         Draws (W.taken output.old) (W.taken output.new) (band_text band.now)
         (lines_of_band band.now)) }
-    ensures fault { IfErr result IsWriteFault }
-    ensures failures { W.failures output.new ≡ W.failures output.old + failed_write result }
+    ensures fails { FailsAsWriting W.failures result output.old output.new }
 {
     match band {
         Some(band) => write_markup(band, output),
@@ -54,8 +52,7 @@ pub(crate) fn write_last<W: Sink>(
         (IfSome band.now EndsAll → EndsAll last.now →
         Draws (W.taken output.old) (W.taken output.new) (band_text band.now ++ last.now)
         (lines_of_band band.now ++ lines_in last.now)) }
-    ensures fault { IfErr result IsWriteFault }
-    ensures failures { W.failures output.new ≡ W.failures output.old + failed_write result }
+    ensures fails { FailsAsWriting W.failures result output.old output.new }
 {
     write_band(band, output)?;
     write_markup(last, output)

@@ -1,10 +1,10 @@
 //! The engine `audit`: the verdict on the record of a scenario's run. An auditor observes each entry as the
 //! run makes it. No record is stored.
-ghost use Rattle.std.specs.Prelude.{◌≡◌, ◌+◌, ◌-◌, ◌^◌, ◌<◌, IfErr, IfOk, OnOk};
+ghost use Rattle.std.specs.Prelude.{◌≡◌, ◌-◌, ◌^◌, ◌<◌, IfOk, OnOk};
 ghost use Rattle.judge.specs.safe_monitor.declared.verdicts.Verdict.TheVariants.{Good};
 ghost use Rattle.scenario.specs.files.Engines.{Ran, streams};
 ghost use Rattle.engines.specs.Sinks.{Wrote, WroteFront};
-ghost use Rattle.scenario.specs.files.{IsWriteFault, ReadsFront, failed_write};
+ghost use Rattle.scenario.specs.files.{FailsAsWriting, ReadsFront};
 ghost use Rattle.scenario.specs.{script};
 ghost use Rattle.engines.specs.Audits.{InputReportsVerdict, IsRunVerdict, ReportsVerdict, audit_text, audited, run_length};
 ghost use Rattle.scenario_run.specs.{ended};
@@ -57,8 +57,7 @@ fn audit_scenario<W: Sink, L: ProgressObserver>(
     ensures front { WroteFront W.taken output.old output.new (audited (script scenario.now)) }
     ensures verdict { IfOk result (λ status. ReportsVerdict (script scenario.now) status
         (W.taken output.old) (W.taken output.new)) }
-    ensures fault { IfErr result IsWriteFault }
-    ensures failures { W.failures output.new ≡ W.failures output.old + failed_write result }
+    ensures fails { FailsAsWriting W.failures result output.old output.new }
 {
     let audited = audit_run(alloc, scenario, progress_observer)?;
     write_line(output, verdict_line(alloc, &audited))?;

@@ -1,6 +1,6 @@
 //! The engine `record`: the record of a scenario's run as text, each entry written before the next event is made. No
 //! record is stored.
-ghost use Rattle.std.specs.Prelude.{◌≡◌, ◌+◌, ◌-◌, ◌^◌, ◌<◌, IfErr, IsOk, OnErr, OnOk, ⊤, true, refl};
+ghost use Rattle.std.specs.Prelude.{◌≡◌, ◌-◌, ◌^◌, ◌<◌, IsOk, OnErr, OnOk, ⊤, true, refl};
 ghost use Rattle.std.proofs.Common.{◌∙◌};
 ghost use Rattle.scenario.specs.files.Engines.{Ran, streams};
 ghost use Rattle.engines.specs.Sinks.{Wrote, WroteBytes, WroteBytesFront, WroteFront};
@@ -9,7 +9,7 @@ ghost use Rattle.judge.specs.record_file.{RecordsAreReadAgain, RecordsFitLines, 
 ghost use Rattle.scenario.specs.{script};
 ghost use Rattle.engines.specs.RecordedRuns.{InputWritesRecord, RecordedRunsAreReadAgain};
 ghost use Rattle.engines.specs.Recordings.{entries_longer, entries_text, entry_reported, recorded, recording_text, step_line};
-ghost use Rattle.scenario_run.specs.{IsWriteFault, Took, TookPart, ended, failed_write, part_before, part_on, part_unobserved, took_none, took_on};
+ghost use Rattle.scenario_run.specs.{FailsAsWriting, Took, TookPart, ended, part_before, part_on, part_unobserved, took_none, took_on};
 
 use judge::{StepLine, print_entry, print_setup};
 use scenario::progress::ProgressObserver;
@@ -60,8 +60,7 @@ fn record_scenario<W: Sink, L: ProgressObserver>(
     requires { W.failures output.old < 2 ^ 64 - 1 }
     ensures written { Wrote W.taken result output.old output.new (recorded (script scenario.now)) }
     ensures front { WroteFront W.taken output.old output.new (recorded (script scenario.now)) }
-    ensures fault { IfErr result IsWriteFault }
-    ensures failures { W.failures output.new ≡ W.failures output.old + failed_write result }
+    ensures fails { FailsAsWriting W.failures result output.old output.new }
 {
     let mut scenario_run = ScenarioRun::new(alloc, &scenario.setup)?;
     write_bytes(output, print_setup(alloc, &scenario.setup))?;
@@ -152,8 +151,7 @@ fn write_step<W: Sink>(
     ensures written { Wrote W.taken result output.old output.new
         (step_line made.process made.access) }
     ensures front { WroteFront W.taken output.old output.new (step_line made.process made.access) }
-    ensures fault { IfErr result IsWriteFault }
-    ensures failures { W.failures output.new ≡ W.failures output.old + failed_write result }
+    ensures fails { FailsAsWriting W.failures result output.old output.new }
 {
     printed.print(made.process, made.access);
     write_all(output, printed.as_bytes())
@@ -174,8 +172,7 @@ fn write_entry<W: Sink>(
     requires { W.failures output.old < 2 ^ 64 - 1 }
     ensures written { Wrote W.taken result output.old output.new (entry_reported reported.now) }
     ensures front { WroteFront W.taken output.old output.new (entry_reported reported.now) }
-    ensures fault { IfErr result IsWriteFault }
-    ensures failures { W.failures output.new ≡ W.failures output.old + failed_write result }
+    ensures fails { FailsAsWriting W.failures result output.old output.new }
 {
     match reported {
         TurnReport::Accepted(made) => {
@@ -197,8 +194,7 @@ fn write_entry_line<W: Sink>(
     requires { W.failures output.old < 2 ^ 64 - 1 }
     ensures written { Wrote W.taken result output.old output.new (entry_line entry.now) }
     ensures front { WroteFront W.taken output.old output.new (entry_line entry.now) }
-    ensures fault { IfErr result IsWriteFault }
-    ensures failures { W.failures output.new ≡ W.failures output.old + failed_write result }
+    ensures fails { FailsAsWriting W.failures result output.old output.new }
 {
     text.clear();
     print_entry(alloc, entry, text)?;
@@ -212,8 +208,7 @@ fn write_bytes<W: Sink>(output: &mut W, bytes: Result<Vec<u8>, AllocError>) -> R
     ensures made { OnOk result (IsOk bytes) }
     ensures front { WroteBytesFront W.taken output.old output.new bytes }
     ensures none { OnErr bytes (W.taken output.new ≡ W.taken output.old) }
-    ensures fault { IfErr result IsWriteFault }
-    ensures failures { W.failures output.new ≡ W.failures output.old + failed_write result }
+    ensures fails { FailsAsWriting W.failures result output.old output.new }
 {
     let bytes = bytes?;
     write_all(output, bytes.as_slice())

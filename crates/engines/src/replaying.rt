@@ -1,11 +1,11 @@
 //! The engine `replay`: the marks of a scenario's run, each written before the next event is made.
-ghost use Rattle.std.specs.Prelude.{◌≡◌, ◌+◌, ◌-◌, ◌^◌, ◌<◌, IfErr, IfOk, OnOk, false, refl};
+ghost use Rattle.std.specs.Prelude.{◌≡◌, ◌-◌, ◌^◌, ◌<◌, IfOk, OnOk, false, refl};
 ghost use Rattle.std.proofs.Common.{◌∙◌};
 ghost use Rattle.scenario.specs.files.Engines.{Ran, streams};
 ghost use Rattle.scenario.specs.{script};
 ghost use Rattle.engines.specs.Replayings.{IsRunSummary};
 ghost use Rattle.engines.specs.Sinks.{Wrote, WroteFront};
-ghost use Rattle.scenario.specs.files.{IsWriteFault, ReadsFront, failed_write};
+ghost use Rattle.scenario.specs.files.{FailsAsWriting, ReadsFront};
 ghost use Rattle.scenario_run.specs.{CanCount, InputKeepsMainTheorem, IsSummaryOf, RunKeepsMainTheorem, Took, TookPart, can_count_less, ended, part_before, part_on, part_unobserved, replay_text, replayed, text_longer, text_of, took_none, took_on};
 ghost use Rattle.scenario_run.specs.Writing.{Counts};
 
@@ -61,8 +61,7 @@ fn replay_scenario<W: Sink, L: ProgressObserver>(
     ensures front { WroteFront W.taken output.old output.new (replayed (script scenario.now)) }
     ensures summary { IfOk result (IsRunSummary (script scenario.now)) }
     ensures main_theorem { OnOk result (RunKeepsMainTheorem (script scenario.now)) }
-    ensures fault { IfErr result IsWriteFault }
-    ensures failures { W.failures output.new ≡ W.failures output.old + failed_write result }
+    ensures fails { FailsAsWriting W.failures result output.old output.new }
 {
     let mut scenario_run = ScenarioRun::new(alloc, &scenario.setup)?;
     let summary = Summary::new();

@@ -1,5 +1,5 @@
 //! The engine `sweep`: the findings of a sweep over a scenario's run.
-ghost use Rattle.std.specs.Prelude.{◌≡◌, ◌+◌, ◌++◌, ◌-◌, ◌^◌, ◌<◌, ◌≤◌, ℕ, List, false, length, true, IfErr, IfOk, OnOk, Ok, ⊤};
+ghost use Rattle.std.specs.Prelude.{◌≡◌, ◌+◌, ◌++◌, ◌-◌, ◌^◌, ◌<◌, ◌≤◌, ℕ, List, false, length, true, IfOk, OnOk, Ok, ⊤};
 ghost use Rattle.std.specs.String.{string_bytes};
 ghost use Rattle.plain_store.specs.declared.commands.Command.{Command as Said};
 ghost use Rattle.scenario.specs.files.Engines.{Ran, streams};
@@ -7,7 +7,7 @@ ghost use Rattle.engines.specs.Listings.{event_reported};
 ghost use Rattle.engines.specs.Sinks.{Wrote, WroteFront};
 ghost use Rattle.scenario.specs.files.{ReadsFront};
 ghost use Rattle.scenario.specs.{script};
-ghost use Rattle.scenario_run.specs.{Follows, IsWriteFault, ended, failed_write, listed, run_at_start};
+ghost use Rattle.scenario_run.specs.{FailsAsWriting, Follows, ended, listed, run_at_start};
 ghost use Rattle.sweeper.specs.{CanSweep, SweepsNone, SweepsOn, can_sweep_less};
 ghost use Rattle.engines.specs.Sweepings.{InputReportsSweep, IsRunSwept, SweepsRun, ReportsSweep, accepted_calls, call_of, calls_in, run_swept, status_of_swept, sweep_text, swept, swept_lines as lines_of_swept};
 
@@ -75,8 +75,7 @@ fn sweep_scenario<W: Sink, L: ProgressObserver>(
     ensures front { WroteFront W.taken output.old output.new (swept (script scenario.now)) }
     ensures swept { IfOk result (λ status. ReportsSweep (script scenario.now) status
         (W.taken output.old) (W.taken output.new)) }
-    ensures fault { IfErr result IsWriteFault }
-    ensures failures { W.failures output.new ≡ W.failures output.old + failed_write result }
+    ensures fails { FailsAsWriting W.failures result output.old output.new }
 {
     let found = sweep_run(alloc, scenario, progress_observer)?;
     write_line(output, swept_lines(alloc, &found))?;

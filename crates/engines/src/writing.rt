@@ -1,10 +1,10 @@
 //! Writing the lines of a run, one at a time.
-ghost use Rattle.std.specs.Prelude.{◌≡◌, ◌+◌, ◌-◌, ◌^◌, ◌<◌, IfOk, IfErr, IsOk, OnOk, OnErr};
+ghost use Rattle.std.specs.Prelude.{◌≡◌, ◌-◌, ◌^◌, ◌<◌, IfOk, IsOk, OnOk, OnErr};
 ghost use Rattle.std.specs.String.{string_bytes};
 ghost use Rattle.engines.specs.Replayings.{mark_lines, text_next};
 ghost use Rattle.engines.specs.Sinks.{Wrote, WroteFront, WroteLine, WroteLineFront};
 ghost use Rattle.scenario_run.specs.run_lines.{line_text, with_end};
-ghost use Rattle.scenario_run.specs.{IsWriteFault, counted, end_line, failed_write, reported_text};
+ghost use Rattle.scenario_run.specs.{FailsAsWriting, counted, end_line, reported_text};
 
 use scenario::{Fault, Sink, write_all};
 use scenario_run::{Mark, ReplayLine, Summary, TurnReport, newest_words};
@@ -21,8 +21,7 @@ fn write_reported<W: Sink>(
     ensures written { Wrote W.taken result output.old output.new
         (reported_text number reported.now) }
     ensures front { WroteFront W.taken output.old output.new (reported_text number reported.now) }
-    ensures fault { IfErr result IsWriteFault }
-    ensures failures { W.failures output.new ≡ W.failures output.old + failed_write result }
+    ensures fails { FailsAsWriting W.failures result output.old output.new }
 {
     match reported {
         TurnReport::Accepted(made) => {
@@ -53,8 +52,7 @@ fn write_marks<W: Sink>(
     ensures written { Wrote W.taken result output.old output.new
         (mark_lines event process marks.now) }
     ensures front { WroteFront W.taken output.old output.new (mark_lines event process marks.now) }
-    ensures fault { IfErr result IsWriteFault }
-    ensures failures { W.failures output.new ≡ W.failures output.old + failed_write result }
+    ensures fails { FailsAsWriting W.failures result output.old output.new }
 {
     for mark in marks {
         let line = ReplayLine::Marked {
@@ -73,8 +71,7 @@ fn write_run_line<W: Sink>(alloc: Global, line: &ReplayLine, output: &mut W) -> 
     requires { W.failures output.old < 2 ^ 64 - 1 }
     ensures written { Wrote W.taken result output.old output.new (with_end (line_text line.now)) }
     ensures front { WroteFront W.taken output.old output.new (with_end (line_text line.now)) }
-    ensures fault { IfErr result IsWriteFault }
-    ensures failures { W.failures output.new ≡ W.failures output.old + failed_write result }
+    ensures fails { FailsAsWriting W.failures result output.old output.new }
 {
     write_line(output, ended_line(alloc, line))
 }
@@ -96,8 +93,7 @@ pub(crate) fn write_line<W: Sink>(
     ensures made { OnOk result (IsOk line) }
     ensures front { WroteLineFront W.taken output.old output.new line }
     ensures none { OnErr line (W.taken output.new ≡ W.taken output.old) }
-    ensures fault { IfErr result IsWriteFault }
-    ensures failures { W.failures output.new ≡ W.failures output.old + failed_write result }
+    ensures fails { FailsAsWriting W.failures result output.old output.new }
 {
     let line = line?;
     write_all(output, line.as_bytes())
@@ -112,8 +108,7 @@ pub(crate) fn write_end<W: Sink>(
     requires { W.failures output.old < 2 ^ 64 - 1 }
     ensures written { Wrote W.taken result output.old output.new (end_line summary.now) }
     ensures front { WroteFront W.taken output.old output.new (end_line summary.now) }
-    ensures fault { IfErr result IsWriteFault }
-    ensures failures { W.failures output.new ≡ W.failures output.old + failed_write result }
+    ensures fails { FailsAsWriting W.failures result output.old output.new }
 {
     let line = ReplayLine::Ended {
         events: summary.events,
@@ -137,8 +132,7 @@ pub(crate) fn write_turn<W: Sink>(
         (text_next summary.old reported.now) }
     ensures count { OnOk result (summary.new ≡ counted reported.now summary.old) }
     ensures front { WroteFront W.taken output.old output.new (text_next summary.old reported.now) }
-    ensures fault { IfErr result IsWriteFault }
-    ensures failures { W.failures output.new ≡ W.failures output.old + failed_write result }
+    ensures fails { FailsAsWriting W.failures result output.old output.new }
 {
     write_reported(alloc, summary.events, reported, output)?;
     summary.count(reported);

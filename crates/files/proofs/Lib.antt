@@ -10,6 +10,7 @@ pub mod FoundWords
 -- Long texts, and how engines end
 pub mod CutTexts
 pub mod EngineEnds
+pub mod Failing
 -- The lines of a source: the first 0x0A, bytes that come in blocks, the first line of a text, and its end
 pub mod LineEnds
 pub mod Blocks

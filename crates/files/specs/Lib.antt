@@ -21,7 +21,7 @@ pub use Lines.{IsTooLong, MovesAll, MovesEnded, TakesLine, ends_line, is_inner, 
 pub use Reads.{Makes, Takes, UnlessMemory}
 pub use SourceLines.{ComesToEnd, EndHolds, FindsLine, Given, GoesOn, GoesToNext, Held, KeepsEnd, LineState, Stays, TakesNext, Reported, coming, shown_line, unless_ended}
 pub use Statuses.{status_of_fault}
-pub use Streams.{GivesByte, IsReadFault, IsWriteFault, ReadsFront, ReadsInput, WritesFront, failed_reading, failed_write, failed_writing}
+pub use Streams.{FailsAsWriting, GivesByte, IsReadFault, IsWriteFault, ReadsFront, ReadsInput, WritesFront, failed_reading, failed_write, failed_writing}
 pub use Texts.{AddsText, GivesText}
 pub use Words.{begins_with, is_blank, lines, onto, texts, words_of}
 pub use declared.streams.Failed.{Failed}

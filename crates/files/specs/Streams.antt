@@ -1,5 +1,5 @@
 -- The effect of calls of a source and a sink on the known bytes.
-use Rattle.std.specs.Prelude.{◌≡◌, ◌<◌, ◌≤◌, ℕ, ◌==◌, not, ◌&&◌, if◌then◌else◌, List, length, take, Option, None, Result, Ok, Err, IfOk, MatchResult}
+use Rattle.std.specs.Prelude.{◌≡◌, ◌+◌, ◌<◌, ◌≤◌, ℕ, ◌==◌, not, ◌&&◌, if◌then◌else◌, List, length, take, Option, None, Result, Ok, Err, IfErr, IfOk, MatchResult}
 use Rattle.std.specs.Global.{Vec}
 use Rattle.std.specs.Option.{option_to_list}
 use Rattle.std.specs.Io.KnownBytes.{Appends, Consumes, IsAtEnd, Keeps}
@@ -74,3 +74,8 @@ failed_write (Err Memory) = 0
 failed_write (Err Read) = 0
 failed_write (Err (Line fault)) = 0
 failed_write (Ok done) = 0
+
+-- A call that writes fails only as writing fails, and then the sink has counted a call that failed.
+pub record FailsAsWriting {W A : Type 0} (failures : W → ℕ) (result : Result A Fault) (old new : W) : Type 0 where
+  pub fault : IfErr result IsWriteFault
+  pub counted : failures new ≡ failures old + failed_write result

@@ -1,9 +1,10 @@
 -- A line that is being played: what was observed of it, and the turns that are left.
-use Rattle.std.proofs.Common.{◌≡◌, inl, inr, ℕ, ◌+◌, ◌-◌, ◌<◌, ◌≤◌, List, [], ◌∷◌, ◌++◌, length, map, Option, None, Some, Result, Ok, Err, IfErr, IfOk, IsErrAnd, refl, ap, sym, subst, ◌∙◌, arith}
+use Rattle.std.proofs.Common.{◌≡◌, inl, inr, ℕ, ◌+◌, ◌-◌, ◌<◌, ◌≤◌, List, [], ◌∷◌, ◌++◌, length, map, Option, None, Some, Result, Ok, Err, IfErr, IfOk, refl, ap, sym, subst, ◌∙◌, arith}
 use Rattle.plain_store.specs.{Setup, checked}
 use Rattle.model.specs.{AreGiven, Event}
 use Rattle.scenario.specs.{Line}
 use Rattle.scenario.specs.files.{Fault}
+pub use Rattle.scenario.proofs.files.Failing.{on_fault}
 use Rattle.scenario_run.specs.{ComesAlong, ComesTo, ScenarioRunState, Follows, Happening, Happens, Plays, Run, Summary, Reports, ReportsOf, TurnReport, Tries, Turn, counted, events_in, events_reported, part_of_line, past_after, past_in, refusals, rest_of, room_wanted, run_after, tried, turn_of, turns_in, turns_made}
 use Rattle.scenario_run.specs.declared.reports.TurnReport.TheVariants as reported
 use Rattle.scenario_run.proofs.EventsMade.{ended_still, none_made, part_made, quiet_made, quiet_turns_made, turn_turns_made}
@@ -233,10 +234,6 @@ wanted_by (Err e) n m none some = tt
 
 pub ok_same : {A E : Type 0} (a b : A) → ◌≡◌ {A = Result A E} (Ok a) (Ok b) → a ≡ b
 ok_same a b same = cc
-
-pub on_fault : {A : Type 0} (r : Result A Fault) (e : Fault) (P : Fault → Type 0) → IsErrAnd r (λ x. x ≡ e) → P e → IfErr r P
-on_fault (Ok a) e P is p = tt
-on_fault (Err x) e P is p = subst P (sym is) p
 
 -- facts of a result, by its success or its fault
 pub where_ok : {A : Type 0} (r : Result A Fault) (P Q : A → Type 0) → IfOk r P → ((a : A) → r ≡ Ok a → P a → Q a) → IfOk r Q

@@ -1,13 +1,13 @@
 -- Pieces that are written one after the other, and prefixes of them.
-use Rattle.std.proofs.Common.{◌≡◌, ℕ, zero, suc, ◌+◌, ◌<◌, Result, Ok, Err, IfOk, OnErr, OnOk, IsOk, IsErrAnd, flat_map, drop, get_or, List, [], ◌∷◌, ◌++◌, length, take, Option, refl, ap, sym, subst, ◌∙◌, append-nil}
+use Rattle.std.proofs.Common.{◌≡◌, ℕ, zero, suc, ◌+◌, ◌<◌, Result, Ok, Err, IfOk, OnErr, OnOk, IsOk, flat_map, drop, get_or, List, [], ◌∷◌, ◌++◌, length, take, Option, refl, ap, sym, subst, ◌∙◌, append-nil}
 use Rattle.std.proofs.lemmas.Grind.{flat_map-append}
 use Rattle.std.proofs.lemmas.List.{take_more}
 use Rattle.std.specs.Io.KnownBytes.{Appends}
 use Rattle.std.specs.declared.alloc.AllocError.{AllocError}
 use Rattle.scenario.proofs.Places.{drop_in}
 use Rattle.scenario.specs.files.{Fault, WritesFront}
-use Rattle.scenario.specs.files.declared.faults.Fault.TheVariants as fault
-use Rattle.scenario_run.specs.{Writes, WritesPart, failed_write}
+use Rattle.scenario_run.specs.{Writes, WritesPart}
+pub use Rattle.scenario.proofs.files.Failing.{failed_same}
 pub use Rattle.scenario_run.specs.Growing.{appends_both, appends_none, front_after, front_longer, take_after}
 
 -- the empty list is a prefix of every text
@@ -59,17 +59,6 @@ items_split f xs k x within is =
 pub items_more : {X : Type 0} (f : X → List ℕ) (xs : List X) (k : ℕ) (x : X) → k < length xs → x ≡ get_or xs k x → flat_map f (take (k + 1) xs) ≡ flat_map f (take k xs) ++ f x
 items_more f xs k x within is =
     ap (flat_map f) (take_more xs k x within) ∙ flat_map-append f (take k xs) (get_or xs k x ∷ []) ∙ ap (λ l. flat_map f (take k xs) ++ l) (append-nil (f (get_or xs k x)) ∙ ap f (sym is))
-
--- a fault that is passed on counts as it did before
-pub failed_same : {A : Type 0} (r : Result A Fault) (e : Fault) → IsErrAnd r (λ x. x ≡ e) → failed_write r ≡ failed_write {A = Unit {0}} (Err e)
-failed_same (Ok done) e same = absurd same
-failed_same {A} (Err f) e same = failed_kind f ∙ ap (λ f. failed_write {A = Unit {0}} (Err f)) same
-  where
-    failed_kind : (f : Fault) → failed_write {A = A} (Err f) ≡ failed_write {A = Unit {0}} (Err f)
-    failed_kind fault.Write = refl
-    failed_kind fault.Memory = refl
-    failed_kind fault.Read = refl
-    failed_kind (fault.Line f) = refl
 
 -- a fact that holds in any case holds after a fault
 pub on_err : {A : Type 0} (r : Result A Fault) (P : Type 0) → P → OnErr r P

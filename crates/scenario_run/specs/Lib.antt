@@ -39,7 +39,7 @@ pub use Reporting.{AddsMarks, IsMarked, Reports, ReportsOf, entry_made, events_r
 pub use Texts.{end_line, entry_text, mark_line, newest_store, newest_words, refused_line, replay_text, replayed, store_text, text_at, text_of}
 pub use Turns.{Turn, ends, go_rest, go_turn, happens, made_turn, next_turn, on_turn, once, part_of_line, rest_of, step_turn, turn_of, turns_in, turns_made, wander_turn}
 pub use Writing.{Writes, WritesPart}
-pub use Rattle.scenario.specs.files.{IsWriteFault, failed_write}
+pub use Rattle.scenario.specs.files.{FailsAsWriting, IsWriteFault, failed_write}
 pub use declared.reports.Accepted.{Accepted}
 pub use declared.audits.RunAudit.{RunAudit}
 pub use declared.reports.UnmarkedStep.{UnmarkedStep}

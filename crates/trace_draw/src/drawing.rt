@@ -1,6 +1,6 @@
 //! The picture of a trace so far.
-ghost use Rattle.std.specs.Prelude.{◌≡◌, ◌+◌, ◌-◌, ◌^◌, ◌<◌, ◌∷◌, [], IfErr, IfOk, None, OnOk, map, true};
-ghost use Rattle.draw.specs.{DrawsLast, DrawsLines, DrawsOn, IsWriteFault, SaysLockEnd, SaysLockMark, failed_write, kept, kept_at_first, trace_plan};
+ghost use Rattle.std.specs.Prelude.{◌≡◌, ◌+◌, ◌-◌, ◌^◌, ◌<◌, ◌∷◌, [], IfOk, None, OnOk, map, true};
+ghost use Rattle.draw.specs.{DrawsLast, DrawsLines, DrawsOn, FailsAsWriting, SaysLockEnd, SaysLockMark, kept, kept_at_first, trace_plan};
 ghost use Rattle.picture.specs.declared.reads.Reads.{Reads as View};
 ghost use Rattle.trace.specs.{TracePast as Past, TraceSetup as Setup, is_trace_setup};
 ghost use Rattle.trace_accesses.specs.{HasMonitored, WaveLimit as Limit, shown_access};
@@ -77,8 +77,7 @@ impl TraceDrawing {
         requires room { drawn_count self.old < 2 ^ 64 - 1 }
         ensures drawn { OnOk result (DrawsEntry self.old self.new
             (W.taken output.old) (W.taken output.new) entry.now) }
-        ensures fault { IfErr result IsWriteFault }
-        ensures failures { W.failures output.new ≡ W.failures output.old + failed_write result }
+        ensures fails { FailsAsWriting W.failures result output.old output.new }
     {
         self.draw_access(entry, output)?;
         self.draw_marks(entry.process, &entry.marks, output)?;
@@ -101,8 +100,7 @@ impl TraceDrawing {
         ensures overlaps { self.new.canvas.overlaps ≡ self.old.canvas.overlaps }
         ensures rest { self.new
             ≡ record self.old { canvas = self.new.canvas; monitor = self.new.monitor } }
-        ensures fault { IfErr result IsWriteFault }
-        ensures failures { W.failures output.new ≡ W.failures output.old + failed_write result }
+        ensures fails { FailsAsWriting W.failures result output.old output.new }
     {
         match &mut self.monitor {
             None => Ok(()),
@@ -122,8 +120,7 @@ impl TraceDrawing {
             (W.taken output.old) (W.taken output.new) self.old.source self.old.entries
             (map (SaysLockMark process) marks.now)) }
         ensures rest { self.new ≡ record self.old { canvas = self.new.canvas } }
-        ensures fault { IfErr result IsWriteFault }
-        ensures failures { W.failures output.new ≡ W.failures output.old + failed_write result }
+        ensures fails { FailsAsWriting W.failures result output.old output.new }
     {
         for mark in marks {
             self.draw_mark(process, mark, output)?;
@@ -143,8 +140,7 @@ impl TraceDrawing {
             (W.taken output.old) (W.taken output.new) self.old.source self.old.entries
             (SaysLockMark process mark.now ∷ [])) }
         ensures rest { self.new ≡ record self.old { canvas = self.new.canvas } }
-        ensures fault { IfErr result IsWriteFault }
-        ensures failures { W.failures output.new ≡ W.failures output.old + failed_write result }
+        ensures fails { FailsAsWriting W.failures result output.old output.new }
     {
         let line = RunLine {
             source: self.source,
@@ -174,8 +170,7 @@ impl TraceDrawing {
             (W.taken output.old) (W.taken output.new) (source_of setup.now + 1) self.old.entries
             reported.now (SaysLockEnd self.old.entries) bands.height) }
         ensures shows { IfOk result (λ bands. bands.shows ≡ self.old.shows) }
-        ensures fault { IfErr result IsWriteFault }
-        ensures failures { W.failures output.new ≡ W.failures output.old + failed_write result }
+        ensures fails { FailsAsWriting W.failures result output.old output.new }
     {
         let source = line_of_entries(setup) + 1;
         let at = self.entries;
@@ -231,8 +226,7 @@ fn draw_monitored<W: Sink>(
         HasMonitored monitor.old s limit past →
         HasMonitored monitor.new s limit (entry.now ∷ past) }
     ensures overlaps { canvas.new.overlaps ≡ canvas.old.overlaps }
-    ensures fault { IfErr result IsWriteFault }
-    ensures failures { W.failures output.new ≡ W.failures output.old + failed_write result }
+    ensures fails { FailsAsWriting W.failures result output.old output.new }
 {
     match monitor.observe(alloc, entry)? {
         None => Ok(()),

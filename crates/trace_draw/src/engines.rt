@@ -2,7 +2,7 @@
 ghost use Rattle.std.specs.Prelude.{◌≡◌, ◌+◌, ◌-◌, ◌^◌, ◌<◌, ℕ, [], false, IfErr, IfOk, IfSome, List, None, OnOk, Option, Some};
 ghost use Rattle.std.specs.Io.KnownBytes.{IsAtEnd};
 ghost use Rattle.files.specs.{failed_reading, streams};
-ghost use Rattle.draw.specs.{IsWriteFault, failed_write};
+ghost use Rattle.draw.specs.{FailsAsWriting, failed_write};
 ghost use Rattle.picture.specs.declared.page.Form.TheVariants as form_variants;
 ghost use Rattle.picture.specs.declared.reads.PictureOptions.{PictureOptions as Options};
 ghost use Rattle.trace.specs.{TraceEntry as Entry, TraceSetup as Setup};
@@ -107,8 +107,7 @@ fn end_page<W: Sink>(alloc: Global, drawn: &DrawnTrace, output: &mut W) -> Resul
         (first : Option (List ℕ)) →
         EndsTrace form_variants.Page options drawn.now s shown reported first (W.taken output.old) →
         DrawsTraceSaid form_variants.Page options s shown reported first (W.taken output.new)) }
-    ensures fault { IfErr result IsWriteFault }
-    ensures failures { W.failures output.new ≡ W.failures output.old + failed_write result }
+    ensures fails { FailsAsWriting W.failures result output.old output.new }
 {
     let end = trace_page_end(alloc)?;
     write_markup(&end, output)
@@ -128,8 +127,7 @@ fn write_picture<W: Sink>(
         (Some bands.now) →
         DrawsTraceSaid (form_variants.Picture 34) options s shown reported (W.taken output.old)
         (W.taken output.new)) }
-    ensures fault { IfErr result IsWriteFault }
-    ensures failures { W.failures output.new ≡ W.failures output.old + failed_write result }
+    ensures fails { FailsAsWriting W.failures result output.old output.new }
 {
     let DrawnBands { shows, height } = drawn.bands;
     let head = trace_picture_head(alloc, drawn.title.as_slice(), height, shows)?;

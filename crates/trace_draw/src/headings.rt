@@ -1,8 +1,8 @@
 //! The title of a trace's picture, the lines that its page lists, and the start of the page.
-ghost use Rattle.std.specs.Prelude.{◌≡◌, ◌++◌, ◌+◌, ◌<◌, ◌-◌, ◌^◌, [], IfErr, IfOk, OnOk, Some, flat_map};
+ghost use Rattle.std.specs.Prelude.{◌≡◌, ◌++◌, ◌<◌, ◌-◌, ◌^◌, [], IfOk, OnOk, Some, flat_map};
 ghost use Rattle.picture.specs.{page_names, plural_of, trace_page_front};
 ghost use Rattle.picture.specs.markup.{lines_in, opens_in};
-ghost use Rattle.draw.specs.{IsWriteFault, failed_write};
+ghost use Rattle.draw.specs.{FailsAsWriting};
 ghost use Rattle.trace_draw.specs.Headings.{first_lines, kind_word, listed, memory_word, register_line, source_of, title_of};
 ghost use Rattle.trace_draw.specs.Showing.{Heads};
 
@@ -64,8 +64,7 @@ pub(crate) fn write_head<W: Sink>(
     requires { W.failures output.old < 2 ^ 64 - 1 }
     ensures heads { OnOk result
         (Heads form shows setup.now (W.taken output.old) (W.taken output.new)) }
-    ensures fault { IfErr result IsWriteFault }
-    ensures failures { W.failures output.new ≡ W.failures output.old + failed_write result }
+    ensures fails { FailsAsWriting W.failures result output.old output.new }
 {
     match form {
         Form::Page => {

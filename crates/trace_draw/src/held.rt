@@ -1,6 +1,6 @@
 //! The entries that a picture shows, which are stored until it is decided whether their accesses are shown.
-ghost use Rattle.std.specs.Prelude.{◌≡◌, ◌+◌, ◌-◌, ◌^◌, ◌<◌, ◌∷◌, ◌++◌, [], ℕ, IfErr, IfOk, List, None, OnOk, Option, reverse, true};
-ghost use Rattle.draw.specs.{IsWriteFault, failed_write};
+ghost use Rattle.std.specs.Prelude.{◌≡◌, ◌-◌, ◌^◌, ◌<◌, ◌∷◌, ◌++◌, [], ℕ, IfOk, List, None, OnOk, Option, reverse, true};
+ghost use Rattle.draw.specs.{FailsAsWriting};
 ghost use Rattle.trace.specs.{TracePast as Past, is_trace_setup, trace_entry};
 ghost use Rattle.trace_engine.specs.{count_by};
 ghost use Rattle.trace_draw.specs.Showing.{AreHeld, AreShown, EndsBands, IsDrawn, drawn_count};
@@ -42,8 +42,7 @@ impl ShownEntries {
         requires writes { W.failures output.old < 2 ^ 64 - 1 }
         ensures shown { IfOk result (λ shown. AreShown view.form view.options setup.now [] shown
             (W.taken output.old) (W.taken output.new)) }
-        ensures fault { IfErr result IsWriteFault }
-        ensures failures { W.failures output.new ≡ W.failures output.old + failed_write result }
+        ensures fails { FailsAsWriting W.failures result output.old output.new }
     {
         if view.shows_all() {
             let drawing = begin_drawing(view, setup, Reads::All, output)?;
@@ -77,8 +76,7 @@ impl ShownEntries {
             AreShown view.form view.options setup.now past self.old first (W.taken output.old) →
             AreShown view.form view.options setup.now (entry.now ∷ past) self.new
             first (W.taken output.new)) }
-        ensures fault { IfErr result IsWriteFault }
-        ensures failures { W.failures output.new ≡ W.failures output.old + failed_write result }
+        ensures fails { FailsAsWriting W.failures result output.old output.new }
     {
         match &mut self.drawing {
             Some(drawing) => drawing.draw_entry(entry, output),
@@ -103,8 +101,7 @@ impl ShownEntries {
             AreHeld view.options past self.old.held.items first (W.taken output.old) →
             AreShown view.form view.options setup.now (entry.now ∷ past) self.new
             first (W.taken output.new)) }
-        ensures fault { IfErr result IsWriteFault }
-        ensures failures { W.failures output.new ≡ W.failures output.old + failed_write result }
+        ensures fails { FailsAsWriting W.failures result output.old output.new }
     {
         if self.held.len() < MOST_ENTRIES {
             hold(view.alloc, entry, &mut self.held)?;
@@ -136,8 +133,7 @@ impl ShownEntries {
             AreShown view.form view.options setup.now past self.old first (W.taken output.old) →
             EndsBands view.form view.options bands setup.now past reported.now
             first (W.taken output.new)) }
-        ensures fault { IfErr result IsWriteFault }
-        ensures failures { W.failures output.new ≡ W.failures output.old + failed_write result }
+        ensures fails { FailsAsWriting W.failures result output.old output.new }
     {
         match &mut self.drawing {
             Some(drawing) => drawing.end(setup, reported, output),
@@ -161,8 +157,7 @@ fn draw_held<W: Sink>(
     requires writes { W.failures output.old < 2 ^ 64 - 1 }
     ensures drawn { IfOk result (λ d. IsDrawn view.form view.options shows setup.now
         (reverse held.now) d (W.taken output.old) (W.taken output.new)) }
-    ensures fault { IfErr result IsWriteFault }
-    ensures failures { W.failures output.new ≡ W.failures output.old + failed_write result }
+    ensures fails { FailsAsWriting W.failures result output.old output.new }
 {
     let mut drawing = begin_drawing(view, setup, shows, output)?;
     for entry in held {
@@ -182,8 +177,7 @@ fn begin_drawing<W: Sink>(
     requires writes { W.failures output.old < 2 ^ 64 - 1 }
     ensures drawn { IfOk result (λ d. IsDrawn view.form view.options shows setup.now
         [] d (W.taken output.old) (W.taken output.new)) }
-    ensures fault { IfErr result IsWriteFault }
-    ensures failures { W.failures output.new ≡ W.failures output.old + failed_write result }
+    ensures fails { FailsAsWriting W.failures result output.old output.new }
 {
     let drawing = TraceDrawing::new(view, setup, shows)?;
     write_head(view.alloc, setup, view.form, shows, output)?;

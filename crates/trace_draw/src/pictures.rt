@@ -1,7 +1,7 @@
 //! A judge, and the picture of the entries that it has observed.
-ghost use Rattle.std.specs.Prelude.{◌≡◌, ◌+◌, ◌-◌, ◌^◌, ◌<◌, ◌∷◌, ◌++◌, ◌||◌, [], ℕ, not, IfErr, IfOk, List, OnOk, Option, true};
+ghost use Rattle.std.specs.Prelude.{◌≡◌, ◌-◌, ◌^◌, ◌<◌, ◌∷◌, ◌++◌, ◌||◌, [], ℕ, not, IfOk, List, OnOk, Option, true};
 ghost use Rattle.trace_engine.specs.{HasReported, is_good};
-ghost use Rattle.draw.specs.{IsWriteFault, failed_write};
+ghost use Rattle.draw.specs.{FailsAsWriting};
 ghost use Rattle.trace.specs.{TraceEntry as Entry, TraceSetup as Setup, is_trace_setup};
 ghost use Rattle.trace_draw.specs.Showing.{EndsTrace, HasShown, IsReported, ReportsIfJudged, count_of};
 
@@ -46,8 +46,7 @@ impl TracePicture {
         ensures shown { IfOk result (λ picture.
             HasShown view (W.taken output.old) (picture, W.taken output.new) setup.now [] []) }
         ensures count { IfOk result (λ picture. count_of picture ≡ 0) }
-        ensures fault { IfErr result IsWriteFault }
-        ensures failures { W.failures output.new ≡ W.failures output.old + failed_write result }
+        ensures fails { FailsAsWriting W.failures result output.old output.new }
     {
         let reporter = TraceReporter::new(view.alloc, setup, view.judged)?;
         let entries = ShownEntries::begin(view, setup, output)?;
@@ -76,8 +75,7 @@ impl TracePicture {
             HasShown view first (self.old, W.taken output.old) setup.now entries numbers →
             HasShown view first (self.new, W.taken output.new) setup.now
             (entries ++ entry.now ∷ []) (numbers ++ number ∷ [])) }
-        ensures fault { IfErr result IsWriteFault }
-        ensures failures { W.failures output.new ≡ W.failures output.old + failed_write result }
+        ensures fails { FailsAsWriting W.failures result output.old output.new }
     {
         let shows = self.shows_next(view.judged);
         self.reporter.take(view.alloc, setup, number, entry)?;
@@ -114,8 +112,7 @@ impl TracePicture {
             IsReported view.judged (λ s shown reported.
             EndsTrace view.form view.options drawn s shown reported first (W.taken output.new))
             drawn.status setup.now entries numbers) }
-        ensures fault { IfErr result IsWriteFault }
-        ensures failures { W.failures output.new ≡ W.failures output.old + failed_write result }
+        ensures fails { FailsAsWriting W.failures result output.old output.new }
     {
         let title = title(view.alloc, setup)?;
         let reported = reported_by(view.alloc, view.judged, &self.reporter)?;

@@ -1,6 +1,6 @@
 //! A trace file that is read, judged and drawn line by line.
 ghost use Rattle.std.specs.Prelude.{◌≡◌, ◌+◌, ◌-◌, ◌^◌, ◌<◌, ◌≤◌, ◌∷◌, ◌++◌, [], ℕ, Err, IfErr, IfOk, IfSome, IsSome, List, None, OnOk, Option, Some, length, true};
-ghost use Rattle.draw.specs.{IsWriteFault, LineStops, failed_write};
+ghost use Rattle.draw.specs.{FailsAsWriting, LineStops, failed_write};
 ghost use Rattle.trace.specs.{TraceEntry as Entry, is_trace_setup};
 ghost use Rattle.trace_engine.specs.{Observes, count_by};
 ghost use Rattle.trace_engine.specs.trace_file.TraceFiles.{TraceProgress, line_read};
@@ -79,8 +79,7 @@ impl TraceSheet {
         ensures present { IfOk result (λ drawn. IfSome drawn (λ _. IsSome self.old.reader)) }
         ensures drawn { IfOk result (λ drawn. IfSome drawn (λ d. EndsSheet self.old.view d
             self.old.reader self.old.picture (W.taken output.old) (W.taken output.new))) }
-        ensures fault { IfErr result IsWriteFault }
-        ensures failures { W.failures output.new ≡ W.failures output.old + failed_write result }
+        ensures fails { FailsAsWriting W.failures result output.old output.new }
     {
         let view = self.view;
         let Some(reader) = &self.reader else {
@@ -112,8 +111,7 @@ impl TraceView {
             setup.now entries numbers →
             Observes (HasShown self first) (with_output (W.taken output.new) picture.new)
             setup.now (entries ++ entry.now ∷ []) (numbers ++ number ∷ [])) }
-        ensures fault { IfErr result IsWriteFault }
-        ensures failures { W.failures output.new ≡ W.failures output.old + failed_write result }
+        ensures fails { FailsAsWriting W.failures result output.old output.new }
     {
         match picture {
             Some(picture) => picture.take(self, setup, number, entry, output),
@@ -141,8 +139,7 @@ impl TraceView {
             IsReported self.judged (λ s shown reported.
             EndsTrace self.form self.options d s shown reported first (W.taken output.new))
             d.status setup.now entries numbers) }
-        ensures fault { IfErr result IsWriteFault }
-        ensures failures { W.failures output.new ≡ W.failures output.old + failed_write result }
+        ensures fails { FailsAsWriting W.failures result output.old output.new }
     {
         match picture {
             Some(picture) => picture.end(self, setup, output),
@@ -168,8 +165,7 @@ impl TraceView {
         ensures shown { IfOk result (λ picture.
             HasShown self (W.taken output.old) (picture, W.taken output.new) setup.now
             (entry.now ∷ []) (number ∷ [])) }
-        ensures fault { IfErr result IsWriteFault }
-        ensures failures { W.failures output.new ≡ W.failures output.old + failed_write result }
+        ensures fails { FailsAsWriting W.failures result output.old output.new }
     {
         let mut picture = TracePicture::begin(self, setup, output)?;
         picture.take(self, setup, number, entry, output)?;

@@ -1,11 +1,11 @@
 //! The start of the picture of a record.
-ghost use Rattle.std.specs.Prelude.{◌≡◌, ◌+◌, ◌-◌, ◌^◌, ◌<◌, [], IfErr, IfOk, Ok, OnOk, Some};
+ghost use Rattle.std.specs.Prelude.{◌≡◌, ◌-◌, ◌^◌, ◌<◌, [], IfOk, Ok, OnOk, Some};
 ghost use Rattle.model.specs.plain_store.{checked};
 ghost use Rattle.picture.specs.{page_front, page_names};
 ghost use Rattle.picture.specs.declared.subjects.Subject.TheVariants as subject;
 ghost use Rattle.picture.specs.markup.{lines_in, opens_in};
 ghost use Rattle.draw.specs.Sheets.{Heads, IsDrawn, listed};
-ghost use Rattle.scenario.specs.files.{IsWriteFault, failed_write};
+ghost use Rattle.scenario.specs.files.{FailsAsWriting};
 
 use crate::records::drawing::RecordDrawing;
 use crate::views::AccessView;
@@ -41,8 +41,7 @@ impl PictureForm {
         requires writes { W.failures output.old < 2 ^ 64 - 1 }
         ensures drawn { IfOk result (λ d. IsDrawn view self.form setup.now [] d
             (W.taken output.old) (W.taken output.new)) }
-        ensures fault { IfErr result IsWriteFault }
-        ensures failures { W.failures output.new ≡ W.failures output.old + failed_write result }
+        ensures fails { FailsAsWriting W.failures result output.old output.new }
     {
         let drawing = RecordDrawing::new(self.alloc, setup, self.form, view)?;
         self.write_head(setup, view.reads, output)?;
@@ -54,8 +53,7 @@ impl PictureForm {
         requires { W.failures output.old < 2 ^ 64 - 1 }
         ensures heads { OnOk result
             (Heads shows self.form setup.now (W.taken output.old) (W.taken output.new)) }
-        ensures fault { IfErr result IsWriteFault }
-        ensures failures { W.failures output.new ≡ W.failures output.old + failed_write result }
+        ensures fails { FailsAsWriting W.failures result output.old output.new }
     {
         match self.form {
             Form::Page => {

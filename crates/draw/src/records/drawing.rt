@@ -10,7 +10,7 @@ ghost use Rattle.draw.specs.Overlaps.{ReportsEnd, Monitors};
 ghost use Rattle.draw.specs.RecordDrawings.{DrawsEntry, RecordRecalls};
 ghost use Rattle.draw.specs.RecordItems.{source_of};
 ghost use Rattle.draw.specs.Drawings.{HasOpening};
-ghost use Rattle.scenario.specs.files.{IsWriteFault, failed_write};
+ghost use Rattle.scenario.specs.files.{FailsAsWriting, IsWriteFault, failed_write};
 ghost use Rattle.draw.specs.declared.views.AccessView.{AccessView as Seen};
 
 use crate::drawing::{Drawing, lines_of_setup};
@@ -72,8 +72,7 @@ impl RecordDrawing {
             (W.taken output.old) (W.taken output.new) entry.now) }
         ensures source { self.new.drawing.source ≡ self.old.drawing.source }
         ensures entries { OnOk result (self.new.drawing.entries ≡ self.old.drawing.entries + 1) }
-        ensures fault { IfErr result IsWriteFault }
-        ensures failures { W.failures output.new ≡ W.failures output.old + failed_write result }
+        ensures fails { FailsAsWriting W.failures result output.old output.new }
     {
         let _nested: NestedTypes = None;
         let access = entry.act.access;
@@ -100,8 +99,7 @@ impl RecordDrawing {
             (W.taken output.old) (W.taken output.new) (step_entry process access)) }
         ensures source { self.new.drawing.source ≡ self.old.drawing.source }
         ensures entries { OnOk result (self.new.drawing.entries ≡ self.old.drawing.entries + 1) }
-        ensures fault { IfErr result IsWriteFault }
-        ensures failures { W.failures output.new ≡ W.failures output.old + failed_write result }
+        ensures fails { FailsAsWriting W.failures result output.old output.new }
     {
         let overlapped = self.ends_overlapped(Some(access));
         self.drawing.step(process, access, overlapped, output)
@@ -140,8 +138,7 @@ impl RecordDrawing {
             (DrawsLast self.old.drawing.canvas (W.taken output.old) (W.taken output.new)
             (source_of setup.now + 1) self.old.drawing.entries reported.now
             (SaysEnd self.old.drawing.entries self.old.drawing.store.taken 0)) }
-        ensures fault { IfErr result IsWriteFault }
-        ensures failures { W.failures output.new ≡ W.failures output.old + failed_write result }
+        ensures fails { FailsAsWriting W.failures result output.old output.new }
     {
         self.drawing.source = line_of_entries(setup) + 1;
         let line_content = LineContent::Ended {

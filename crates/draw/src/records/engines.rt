@@ -2,7 +2,7 @@
 ghost use Rattle.std.specs.Prelude.{◌≡◌, ◌+◌, ◌-◌, ◌^◌, ◌<◌, ℕ, [], false, IfErr, IfOk, IfSome, List, None, Ok, OnOk, Option, Some};
 ghost use Rattle.model.specs.plain_store.{checked};
 ghost use Rattle.std.specs.Io.KnownBytes.{IsAtEnd};
-ghost use Rattle.scenario.specs.files.{IsWriteFault, failed_reading, failed_write, streams};
+ghost use Rattle.scenario.specs.files.{FailsAsWriting, failed_reading, failed_write, streams};
 ghost use Rattle.picture.specs.declared.page.Form.TheVariants as form_variants;
 ghost use Rattle.picture.specs.declared.reads.PictureOptions.{PictureOptions as Options};
 ghost use Rattle.judge.specs.record_file.{Said};
@@ -115,8 +115,7 @@ fn end_page<W: Sink>(alloc: Global, drawn: &DrawnEntry, output: &mut W) -> Resul
         ((options : Options) (said : Said) (reported : List ℕ) (first : Option (List ℕ)) →
         DrawsBandsOf options form_variants.Page drawn.now first (W.taken output.old) said reported →
         DrawsAsked options form_variants.Page said reported first (W.taken output.new)) }
-    ensures fault { IfErr result IsWriteFault }
-    ensures failures { W.failures output.new ≡ W.failures output.old + failed_write result }
+    ensures fails { FailsAsWriting W.failures result output.old output.new }
 {
     write_page_end(alloc, drawn.opening.as_slice(), output)
 }
@@ -214,8 +213,7 @@ fn write_picture<W: Sink>(
         reported →
         DrawsAsked options (form_variants.Picture 34) said reported (W.taken output.old)
         (W.taken output.new)) }
-    ensures fault { IfErr result IsWriteFault }
-    ensures failures { W.failures output.new ≡ W.failures output.old + failed_write result }
+    ensures fails { FailsAsWriting W.failures result output.old output.new }
 {
     let (head, end) = around_picture(
         alloc,

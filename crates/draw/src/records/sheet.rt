@@ -3,7 +3,7 @@ ghost use Rattle.std.specs.Prelude.{◌≡◌, ◌+◌, ◌-◌, ◌^◌, ◌<�
 ghost use Rattle.model.specs.plain_store.{checked};
 ghost use Rattle.model.specs.{Past};
 ghost use Rattle.judge.specs.record_file.{Progress, line_read};
-ghost use Rattle.scenario.specs.files.{IsWriteFault, failed_write};
+ghost use Rattle.scenario.specs.files.{FailsAsWriting, failed_write};
 ghost use Rattle.draw.specs.Sheets.{EndsAsked, GoesOn, LineStops, Corresponds, entries_of};
 
 use crate::records::around::PictureForm;
@@ -140,8 +140,7 @@ impl RecordPicture {
             GoesOn (line_read line.now before) self.new past first (W.taken output.new)) }
         ensures same { IfOk result (λ observed. observed ≡ false → self.new ≡ self.old) }
         ensures unwritten { IfOk result (λ observed. observed ≡ false → output.new ≡ output.old) }
-        ensures fault { IfErr result IsWriteFault }
-        ensures failures { W.failures output.new ≡ W.failures output.old + failed_write result }
+        ensures fails { FailsAsWriting W.failures result output.old output.new }
     {
         let Some(drawing) = &mut self.entries.drawing else {
             return Ok(false);
@@ -214,8 +213,7 @@ impl RecordPicture {
             d.opening.items d.height first (W.taken output.new))) }
         ensures present { IfOk result (λ drawn. IfSome drawn (λ _. IsSome self.old.reader)) }
         ensures good { IfOk result (λ drawn. IfSome drawn (λ d. checked d.setup ≡ Ok tt)) }
-        ensures fault { IfErr result IsWriteFault }
-        ensures failures { W.failures output.new ≡ W.failures output.old + failed_write result }
+        ensures fails { FailsAsWriting W.failures result output.old output.new }
     {
         let _nested: NestedTypes = None;
         let Some(reader) = &self.reader else {

@@ -1,5 +1,5 @@
 //! The entries of a record, which are stored until it is decided whether their accesses are shown.
-ghost use Rattle.std.specs.Prelude.{◌≡◌, ◌+◌, ◌-◌, ◌^◌, ◌<◌, ◌∷◌, ◌++◌, [], ℕ, IfErr, IfOk, List, None, Ok, OnOk, Option, reverse};
+ghost use Rattle.std.specs.Prelude.{◌≡◌, ◌+◌, ◌-◌, ◌^◌, ◌<◌, ◌∷◌, ◌++◌, [], ℕ, IfOk, List, None, Ok, OnOk, Option, reverse};
 ghost use Rattle.model.specs.plain_store.{checked};
 ghost use Rattle.model.specs.{Past};
 ghost use Rattle.draw.specs.Canvases.{DrawsLast};
@@ -8,7 +8,7 @@ ghost use Rattle.draw.specs.Items.{SaysEnd};
 ghost use Rattle.draw.specs.RecordItems.{source_of};
 ghost use Rattle.draw.specs.Sheets.{AreStored, DrawsPast, EndsAsked, IsDrawn, entries_of};
 ghost use Rattle.draw.specs.Views.{most_asked, most_stored};
-ghost use Rattle.scenario.specs.files.{IsWriteFault, failed_write};
+ghost use Rattle.scenario.specs.files.{FailsAsWriting};
 
 use crate::records::around::PictureForm;
 use crate::records::drawing::RecordDrawing;
@@ -69,8 +69,7 @@ impl RecordEntries {
             DrawsPast around.asked around.form self.old setup.now past first (W.taken output.old) →
             DrawsPast around.asked around.form self.new setup.now (entry.now ∷ past)
             first (W.taken output.new)) }
-        ensures fault { IfErr result IsWriteFault }
-        ensures failures { W.failures output.new ≡ W.failures output.old + failed_write result }
+        ensures fails { FailsAsWriting W.failures result output.old output.new }
     {
         let _nested: NestedTypes = None;
         match &mut self.drawing {
@@ -96,8 +95,7 @@ impl RecordEntries {
             AreStored around.asked past self.old.stored.items first (W.taken output.old) →
             DrawsPast around.asked around.form self.new setup.now (entry.now ∷ past)
             first (W.taken output.new)) }
-        ensures fault { IfErr result IsWriteFault }
-        ensures failures { W.failures output.new ≡ W.failures output.old + failed_write result }
+        ensures fails { FailsAsWriting W.failures result output.old output.new }
     {
         let _nested: NestedTypes = None;
         if self.stored.len() < most(around.asked) {
@@ -131,8 +129,7 @@ impl RecordEntries {
             DrawsPast around.asked around.form self.old setup.now past first (W.taken output.old) →
             EndsAsked around.asked around.form setup.now past reported.now
             bands.shows bands.opening.items bands.height first (W.taken output.new)) }
-        ensures fault { IfErr result IsWriteFault }
-        ensures failures { W.failures output.new ≡ W.failures output.old + failed_write result }
+        ensures fails { FailsAsWriting W.failures result output.old output.new }
     {
         match &mut self.drawing {
             Some(drawing) => {
@@ -163,8 +160,7 @@ fn end_drawn<W: Sink>(
         (SaysEnd drawing.old.drawing.entries drawing.old.drawing.store.taken 0) bands.height) }
     ensures shows { IfOk result (λ bands. bands.shows ≡ shows) }
     ensures opening { IfOk result (λ bands. HasOpening drawing.old.drawing bands.opening.items) }
-    ensures fault { IfErr result IsWriteFault }
-    ensures failures { W.failures output.new ≡ W.failures output.old + failed_write result }
+    ensures fails { FailsAsWriting W.failures result output.old output.new }
 {
     let opening = drawing.opening()?;
     let height = drawing.end(setup, reported, output)?;
@@ -187,8 +183,7 @@ fn draw_stored<W: Sink>(
     requires writes { W.failures output.old < 2 ^ 64 - 1 }
     ensures drawn { IfOk result (λ d. IsDrawn view around.form setup.now (reverse stored.now) d
         (W.taken output.old) (W.taken output.new)) }
-    ensures fault { IfErr result IsWriteFault }
-    ensures failures { W.failures output.new ≡ W.failures output.old + failed_write result }
+    ensures fails { FailsAsWriting W.failures result output.old output.new }
 {
     let _nested: NestedTypes = None;
     let mut drawing = around.begin(setup, view, output)?;

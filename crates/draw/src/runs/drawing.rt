@@ -4,7 +4,7 @@ ghost use Rattle.model.specs.plain_store.{checked};
 ghost use Rattle.picture.specs.{WindowPlan};
 ghost use Rattle.draw.specs.Canvases.{DrawsBands, DrawsLast, kept, kept_at_first, plan_of};
 ghost use Rattle.draw.specs.Drawings.{HasOpening, Recalls};
-ghost use Rattle.scenario.specs.files.{IsWriteFault, failed_write};
+ghost use Rattle.scenario.specs.files.{FailsAsWriting, IsWriteFault, failed_write};
 ghost use Rattle.scenario.specs.{script};
 ghost use Rattle.scenario_run.specs.{Follows, counted, happenings, run_at_start, summary_of};
 ghost use Rattle.draw.specs.RunDrawings.{DrawsReported, tally};
@@ -63,8 +63,7 @@ pub(crate) fn draw_bands<W: Sink, L: ProgressObserver>(
         ≡ summary_of scenario.now.setup (happenings (script scenario.now))) }
     ensures opening { IfOk result (λ drawn. drawn.opening.items
         ≡ opening_of options.window (script scenario.now)) }
-    ensures fault { IfErr result IsWriteFault }
-    ensures failures { W.failures output.new ≡ W.failures output.old + failed_write result }
+    ensures fails { FailsAsWriting W.failures result output.old output.new }
 {
     let mut run = RunDrawing::new(alloc, &scenario.setup, form, options)?;
     let mut scenario_run = ScenarioRun::new(alloc, &scenario.setup)?;
@@ -104,8 +103,7 @@ fn draw_lines<W: Sink, L: ProgressObserver>(
         → kept run.old.drawing.canvas ≡ kept_at_first plan
         → Recalls view scenario.now.setup [] run.old.drawing
         → drawn.opening.items ≡ opening_of view.window (script scenario.now)) }
-    ensures fault { IfErr result IsWriteFault }
-    ensures failures { W.failures output.new ≡ W.failures output.old + failed_write result }
+    ensures fails { FailsAsWriting W.failures result output.old output.new }
 {
     let mut place = LinePosition::before(&scenario.numbers);
     for line in &scenario.lines {
@@ -156,8 +154,7 @@ impl RunDrawing {
             (W.taken output.new)) }
         ensures source { self.new.drawing.source ≡ self.old.drawing.source }
         ensures count { OnOk result (tally self.new ≡ counted reported.now (tally self.old)) }
-        ensures fault { IfErr result IsWriteFault }
-        ensures failures { W.failures output.new ≡ W.failures output.old + failed_write result }
+        ensures fails { FailsAsWriting W.failures result output.old output.new }
     {
         let _nested: NestedTypes = None;
         match reported {
@@ -199,8 +196,7 @@ impl RunDrawing {
         ensures summary { IfOk result
             (λ drawn. drawn.summary ≡ record (tally self.old) { taken = taken }) }
         ensures opening { IfOk result (λ drawn. HasOpening self.old.drawing drawn.opening.items) }
-        ensures fault { IfErr result IsWriteFault }
-        ensures failures { W.failures output.new ≡ W.failures output.old + failed_write result }
+        ensures fails { FailsAsWriting W.failures result output.old output.new }
     {
         let opening = self.drawing.opening()?;
         let events = self.drawing.entries;

@@ -1,9 +1,9 @@
 //! The commands `draw` and `draw-svg` for scenarios.
-ghost use Rattle.std.specs.Prelude.{◌≡◌, ◌+◌, ◌-◌, ◌^◌, ◌<◌, [], IfErr, IfOk, Ok, OnOk, Some};
+ghost use Rattle.std.specs.Prelude.{◌≡◌, ◌-◌, ◌^◌, ◌<◌, [], IfOk, Ok, OnOk, Some};
 ghost use Rattle.model.specs.plain_store.{checked, opening_store};
 ghost use Rattle.picture.specs.{page_back, page_names};
 ghost use Rattle.picture.specs.markup.{lines_in, opens_in};
-ghost use Rattle.scenario.specs.files.{IsWriteFault, ReadsFront, failed_write, streams};
+ghost use Rattle.scenario.specs.files.{FailsAsWriting, ReadsFront, streams};
 ghost use Rattle.scenario.specs.{script};
 ghost use Rattle.scenario_run.specs.{IsSummaryOf, ended, happenings, summary_of};
 ghost use Rattle.picture.specs.declared.page.Form.TheVariants as form_variants;
@@ -64,8 +64,7 @@ fn draw_page<W: Sink, L: ProgressObserver>(
         (W.taken output.new)) }
     ensures summary { IfOk result
         (λ summary. summary ≡ summary_of scenario.now.setup (happenings (script scenario.now))) }
-    ensures fault { IfErr result IsWriteFault }
-    ensures failures { W.failures output.new ≡ W.failures output.old + failed_write result }
+    ensures fails { FailsAsWriting W.failures result output.old output.new }
 {
     let head = page_head(alloc, Subject::Run, &scenario.setup, file, options.reads)?;
     draw_behind(alloc, options, &head, scenario, output, progress_observer)
@@ -86,8 +85,7 @@ fn draw_behind<W: Sink, L: ProgressObserver>(
         (W.taken output.old) (W.taken output.new)) }
     ensures summary { IfOk result
         (λ summary. summary ≡ summary_of scenario.now.setup (happenings (script scenario.now))) }
-    ensures fault { IfErr result IsWriteFault }
-    ensures failures { W.failures output.new ≡ W.failures output.old + failed_write result }
+    ensures fails { FailsAsWriting W.failures result output.old output.new }
 {
     write_markup(head, output)?;
     let drawn = draw_bands(
@@ -126,8 +124,7 @@ fn draw_framed<W: Sink, L: ProgressObserver>(
         (script scenario.now) (W.taken output.old) (W.taken output.new)) }
     ensures summary { IfOk result
         (λ summary. summary ≡ summary_of scenario.now.setup (happenings (script scenario.now))) }
-    ensures fault { IfErr result IsWriteFault }
-    ensures failures { W.failures output.new ≡ W.failures output.old + failed_write result }
+    ensures fails { FailsAsWriting W.failures result output.old output.new }
 {
     write_markup(&frame.head, output)?;
     let drawn = draw_bands(
@@ -213,8 +210,7 @@ fn draw_scenario<W: Sink, L: ProgressObserver>(
         (W.taken output.new)) }
     ensures summary { IfOk result
         (λ summary. summary ≡ summary_of scenario.now.setup (happenings (script scenario.now))) }
-    ensures fault { IfErr result IsWriteFault }
-    ensures failures { W.failures output.new ≡ W.failures output.old + failed_write result }
+    ensures fails { FailsAsWriting W.failures result output.old output.new }
 {
     match form {
         Form::Page => draw_page(alloc, options, file, scenario, output, progress_observer),
@@ -246,8 +242,7 @@ fn draw_picture<W: Sink, L: ProgressObserver>(
         (W.taken output.old) (W.taken output.new)) }
     ensures summary { IfOk result
         (λ summary. summary ≡ summary_of scenario.now.setup (happenings (script scenario.now))) }
-    ensures fault { IfErr result IsWriteFault }
-    ensures failures { W.failures output.new ≡ W.failures output.old + failed_write result }
+    ensures fails { FailsAsWriting W.failures result output.old output.new }
 {
     let form = Form::Picture(top);
     let first = draw_bands(

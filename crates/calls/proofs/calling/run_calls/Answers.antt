@@ -16,4 +16,4 @@ returns-in_err-scenario-clause-ran g c =
 pub returns-clause-ran : goal.returns-clause-ran
 returns-clause-ran g c =
     engine_ran tabled c.table_scenario.result c.in_ok-file.file.items (script c.in_ok-scenario.scenario) _ _
-    c.in_ok-file.ensures.input (rw c.as_slice.ensures.value at c.in_ok-scenario.ensures.said) c.table_scenario.ensures.written c.table_scenario.ensures.front c.table_scenario.ensures.fault c.table_scenario.ensures.failures
+    c.in_ok-file.ensures.input (rw c.as_slice.ensures.value at c.in_ok-scenario.ensures.said) c.table_scenario.ensures.written c.table_scenario.ensures.front c.table_scenario.ensures.fails.fault c.table_scenario.ensures.fails.counted

@@ -21,21 +21,21 @@ returns-in_err-play_all-clause-front g c =
     subst (λ w. WritesFront (g.W.Sink.taken c.args.output.now) (g.W.Sink.taken w) (tabled (script c.args.scenario.now))) (sym (c.output-1.given.1 (sym cut.0)))
     (subst (λ said. WritesFront (g.W.Sink.taken c.args.output.now) (g.W.Sink.taken c.play_all.new.observer.output.now) (tabled said)) same front)
 
-pub returns-in_err-play_all-clause-fault : goal.returns-in_err-play_all-clause-fault
-returns-in_err-play_all-clause-fault g c =
-    on_fault c.from_residual-in_err-play_all.result c.in_err-play_all.field-0.0 IsWriteFault c.from_residual-in_err-play_all.ensures.1 (c.in_err-play_all.ensures.cut run_at_start c.in_ok-scenario_run.ensures.follows).1.is
-
-pub returns-in_err-play_all-clause-failures : goal.returns-in_err-play_all-clause-failures
-returns-in_err-play_all-clause-failures g c =
+pub returns-in_err-play_all-clause-fails : goal.returns-in_err-play_all-clause-fails
+returns-in_err-play_all-clause-fails g c =
     let cut = c.in_err-play_all.ensures.cut run_at_start c.in_ok-scenario_run.ensures.follows in
     let is = ap g.W.Sink.failures (c.output-1.given.1 (sym cut.0)) ∙ cut.1.fails_are in
-    omega (arith, is, c.in_ok-write_header.ensures.failures, failed_same c.from_residual-in_err-play_all.result c.in_err-play_all.field-0.0 c.from_residual-in_err-play_all.ensures.1)
+    let same = failed_same c.from_residual-in_err-play_all.result c.in_err-play_all.field-0.0 c.from_residual-in_err-play_all.ensures.1 in
+    record {
+      fault = on_fault c.from_residual-in_err-play_all.result c.in_err-play_all.field-0.0 IsWriteFault c.from_residual-in_err-play_all.ensures.1 cut.1.is;
+      counted = omega (arith, is, c.in_ok-write_header.ensures.fails.counted, same);
+    }
 
 pub write_open-requires-clause-writes : goal.write_open-requires-clause-writes
 write_open-requires-clause-writes g c =
     let plays = c.in_ok-play_all.ensures.whole refl run_at_start c.in_ok-scenario_run.ensures.follows in
     let whole = ap g.W.Sink.failures (c.output-1.given.1 (sym plays.observes.0)) ∙ plays.observes.3.whole in
-    omega (arith, whole, c.in_ok-write_header.ensures.failures, c.requires)
+    omega (arith, whole, c.in_ok-write_header.ensures.fails.counted, c.requires)
 
 pub write_open-requires-clause-setup : goal.write_open-requires-clause-setup
 write_open-requires-clause-setup g c =
@@ -63,8 +63,8 @@ returns-clause-front g c =
     let all = all_tabled {was = was} {said = said} same (c.table-3-1.given.1 (sym plays.observes.1)) (ap g.W.Sink.taken (c.output-1.given.1 (sym plays.observes.0))) (plays.observes.2 had) (plays.observes.3.writes had) in
     open_cut said _ _ _ _ c.in_ok-write_header.ensures.written all.1 (c.write_open.ensures.front _ all.0.observed)
 
-pub returns-clause-failures : goal.returns-clause-failures
-returns-clause-failures g c =
+pub returns-clause-fails : goal.returns-clause-fails
+returns-clause-fails g c =
     let plays = c.in_ok-play_all.ensures.whole refl run_at_start c.in_ok-scenario_run.ensures.follows in
     let whole = ap g.W.Sink.failures (c.output-1.given.1 (sym plays.observes.0)) ∙ plays.observes.3.whole in
-    omega (arith, whole, c.in_ok-write_header.ensures.failures, c.write_open.ensures.failures)
+    record { fault = c.write_open.ensures.fails.fault; counted = omega (arith, whole, c.in_ok-write_header.ensures.fails.counted, c.write_open.ensures.fails.counted) }

@@ -4,7 +4,8 @@ use Rattle.std.specs.List.{range_with_len}
 use Rattle.plain_store.specs.{Setup}
 use Rattle.scenario.specs.files.{WritesFront}
 use Rattle.calls.specs.{line_of, open_call, open_lines}
-use Rattle.scenario_run.proofs.Written.{appends_both, appends_none, failed_same, front_after, front_all, front_longer}
+use Rattle.scenario.proofs.files.Failing.{fails_after}
+use Rattle.scenario_run.proofs.Written.{appends_both, appends_none, front_after, front_all, front_longer}
 use Rattle.calls.proofs.Ranges.{lines_front, lines_more}
 use Rattle.calls.proofs.calling.write_open.Goals as goal
 
@@ -19,9 +20,8 @@ write_open_call-requires-clause-process g c =
     let below : c.loop-process.process < c.args.setup.now.processes = omega (arith, c.loop-process-test.true) in
     subst (λ (s : Setup). c.loop-process.process < s.processes) (sym c.requires.setup) below
 
-pub returns-in_err-write_open_call-clause-failures : goal.returns-in_err-write_open_call-clause-failures
-returns-in_err-write_open_call-clause-failures g c =
-    omega (arith, c.in_err-write_open_call.ensures.failures, c.loop-process.invariant.whole, failed_same c.from_residual.result c.in_err-write_open_call.field-0.0 c.from_residual.ensures.1)
+pub returns-in_err-write_open_call-clause-fails : goal.returns-in_err-write_open_call-clause-fails
+returns-in_err-write_open_call-clause-fails g c = fails_after g.W.Sink.failures c.from_residual.result c.in_err-write_open_call.field-0.0 _ _ _ c.from_residual.ensures.1 c.loop-process.invariant.whole c.in_err-write_open_call.ensures.fails
 
 pub loop-process-preserved : goal.loop-process-preserved
 loop-process-preserved g c =
@@ -34,7 +34,7 @@ loop-process-preserved g c =
           (c.in_ok-write_open_call.ensures.written past h) in
           subst (λ l. Appends (g.W.Sink.taken c.args.output.now) (g.W.Sink.taken c.write_open_call.new.output) l) (sym (lines_more f k))
           (appends_both _ _ _ (flat_map f (range_with_len 0 k)) (f k) (c.loop-process.invariant.written past h) here);
-      whole = omega (arith, c.in_ok-write_open_call.ensures.failures, c.loop-process.invariant.whole);
+      whole = omega (arith, c.in_ok-write_open_call.ensures.fails.counted, c.loop-process.invariant.whole);
     }
 
 pub returns-in_err-write_open_call-clause-front : goal.returns-in_err-write_open_call-clause-front

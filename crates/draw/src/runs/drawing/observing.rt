@@ -1,7 +1,7 @@
 //! An observer that draws the turns of a run.
-ghost use Rattle.std.specs.Prelude.{◌≡◌, ◌+◌, ◌-◌, ◌^◌, ◌<◌, ℕ, Err, IfErr, OnOk, refl};
+ghost use Rattle.std.specs.Prelude.{◌≡◌, ◌+◌, ◌-◌, ◌^◌, ◌<◌, ℕ, Err, OnOk, refl};
 ghost use Rattle.std.proofs.Common.{add-zero, ap, sym, ◌∙◌};
-ghost use Rattle.scenario.specs.files.{IsWriteFault, failed_write};
+ghost use Rattle.scenario.specs.files.{FailsAsWriting, IsWriteFault, failed_write};
 ghost use Rattle.scenario_run.specs.{CanCount, can_count_less};
 ghost use Rattle.draw.specs.Drawings.{observes};
 ghost use Rattle.draw.specs.RunDrawings.{DrawsLine, GoesOnDrawing, tally};
@@ -26,8 +26,7 @@ pub(super) fn draw_line<W: Sink>(
     ensures source { OnOk result (run.new.drawing.source ≡ run.old.drawing.source) }
     ensures room { OnOk result
         ((more : ℕ) → CanCount (tally run.old) (more + 2 ^ 32) → CanCount (tally run.new) more) }
-    ensures fault { IfErr result IsWriteFault }
-    ensures failures { W.failures output.new ≡ W.failures output.old + failed_write result }
+    ensures fails { FailsAsWriting W.failures result output.old output.new }
 {
     let mut observer = RunDrawer { run, output };
     scenario_run.play(line, &mut observer)

@@ -16,7 +16,7 @@ returns-in_err-scenario-clause-ran g c =
 pub returns-clause-ran : goal.returns-clause-ran
 returns-clause-ran g c =
     engine_ran audited c.audit_scenario.result c.in_ok-file.file.items (script c.in_ok-scenario.scenario) _ _
-    c.in_ok-file.ensures.input (rw c.as_slice.ensures.value at c.in_ok-scenario.ensures.said) c.audit_scenario.ensures.written c.audit_scenario.ensures.front c.audit_scenario.ensures.fault c.audit_scenario.ensures.failures
+    c.in_ok-file.ensures.input (rw c.as_slice.ensures.value at c.in_ok-scenario.ensures.said) c.audit_scenario.ensures.written c.audit_scenario.ensures.front c.audit_scenario.ensures.fails.fault c.audit_scenario.ensures.fails.counted
 
 pub returns-clause-verdict : goal.returns-clause-verdict
 returns-clause-verdict g c =

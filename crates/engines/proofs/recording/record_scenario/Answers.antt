@@ -24,17 +24,17 @@ returns-in_err-play_all-clause-front g c =
     subst (λ (said : Script). WritesPart [] (entries_text said.setup (happenings said)) (g.W.Sink.taken c.write_bytes.new.output) (g.W.Sink.taken c.play_all.new.observer.output.now)) same (cut.1.part tt) in
     subst (λ w. WritesFront (g.W.Sink.taken c.args.output.now) (g.W.Sink.taken w) (recorded said)) (sym (c.output-1.given.1 (sym cut.0))) (record_cut said _ _ _ head part)
 
-pub returns-in_err-play_all-clause-fault : goal.returns-in_err-play_all-clause-fault
-returns-in_err-play_all-clause-fault g c =
-    on_fault c.from_residual-in_err-play_all.result c.in_err-play_all.field-0.0 IsWriteFault c.from_residual-in_err-play_all.ensures.1 (c.in_err-play_all.ensures.cut run_at_start c.in_ok-scenario_run.ensures.follows).1.is
-
-pub returns-in_err-play_all-clause-failures : goal.returns-in_err-play_all-clause-failures
-returns-in_err-play_all-clause-failures g c =
+pub returns-in_err-play_all-clause-fails : goal.returns-in_err-play_all-clause-fails
+returns-in_err-play_all-clause-fails g c =
     let fault = c.in_err-play_all.field-0.0 in
-    let wrote : g.W.Sink.failures c.write_bytes.new.output ≡ g.W.Sink.failures c.args.output.now = omega (arith, c.in_ok-write_bytes.ensures.failures) in
+    let wrote : g.W.Sink.failures c.write_bytes.new.output ≡ g.W.Sink.failures c.args.output.now = omega (arith, c.in_ok-write_bytes.ensures.fails.counted) in
     let cut = c.in_err-play_all.ensures.cut run_at_start c.in_ok-scenario_run.ensures.follows in
-    ap g.W.Sink.failures (c.output-1.given.1 (sym cut.0)) ∙ cut.1.fails_are ∙ ap (λ k. k + failed_write {A = Unit {0}} (Err fault)) wrote
-    ∙ ap (λ k. g.W.Sink.failures c.args.output.now + k) (sym (failed_same c.from_residual-in_err-play_all.result fault c.from_residual-in_err-play_all.ensures.1))
+    record {
+      fault = on_fault c.from_residual-in_err-play_all.result fault IsWriteFault c.from_residual-in_err-play_all.ensures.1 cut.1.is;
+      counted =
+          ap g.W.Sink.failures (c.output-1.given.1 (sym cut.0)) ∙ cut.1.fails_are ∙ ap (λ k. k + failed_write {A = Unit {0}} (Err fault)) wrote
+          ∙ ap (λ k. g.W.Sink.failures c.args.output.now + k) (sym (failed_same c.from_residual-in_err-play_all.result fault c.from_residual-in_err-play_all.ensures.1));
+    }
 
 pub returns-clause-written : goal.returns-clause-written
 returns-clause-written g c =
@@ -50,8 +50,8 @@ returns-clause-written g c =
 pub returns-clause-front : goal.returns-clause-front
 returns-clause-front g c = front_all _ _ _ (returns-clause-written g c)
 
-pub returns-clause-failures : goal.returns-clause-failures
-returns-clause-failures g c =
-    let wrote : g.W.Sink.failures c.write_bytes.new.output ≡ g.W.Sink.failures c.args.output.now = omega (arith, c.in_ok-write_bytes.ensures.failures) in
+pub returns-clause-fails : goal.returns-clause-fails
+returns-clause-fails g c =
+    let wrote : g.W.Sink.failures c.write_bytes.new.output ≡ g.W.Sink.failures c.args.output.now = omega (arith, c.in_ok-write_bytes.ensures.fails.counted) in
     let played = c.in_ok-play_all.ensures.whole refl run_at_start c.in_ok-scenario_run.ensures.follows in
-    ap g.W.Sink.failures (c.output-1.given.1 (sym played.observes.0)) ∙ played.observes.1.whole ∙ wrote ∙ sym (add-zero (g.W.Sink.failures c.args.output.now))
+    record { fault = tt; counted = ap g.W.Sink.failures (c.output-1.given.1 (sym played.observes.0)) ∙ played.observes.1.whole ∙ wrote ∙ sym (add-zero (g.W.Sink.failures c.args.output.now)) }

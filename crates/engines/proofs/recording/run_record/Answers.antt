@@ -18,7 +18,7 @@ returns-in_err-scenario-clause-ran g c =
 pub returns-clause-ran : goal.returns-clause-ran
 returns-clause-ran g c =
     engine_ran recorded c.record_scenario.result c.in_ok-file.file.items (script c.in_ok-scenario.scenario) _ _
-    c.in_ok-file.ensures.input (rw c.as_slice.ensures.value at c.in_ok-scenario.ensures.said) c.record_scenario.ensures.written c.record_scenario.ensures.front c.record_scenario.ensures.fault c.record_scenario.ensures.failures
+    c.in_ok-file.ensures.input (rw c.as_slice.ensures.value at c.in_ok-scenario.ensures.said) c.record_scenario.ensures.written c.record_scenario.ensures.front c.record_scenario.ensures.fails.fault c.record_scenario.ensures.fails.counted
 
 pub returns-clause-read_again : goal.returns-clause-read_again
 returns-clause-read_again g c =

@@ -15,7 +15,7 @@ returns-in_err-scenario-clause-ran g c =
 pub returns-clause-ran : goal.returns-clause-ran
 returns-clause-ran g c =
     engine_ran replayed c.replay_scenario.result c.in_ok-file.file.items (script c.in_ok-scenario.scenario) _ _
-    c.in_ok-file.ensures.input (rw c.as_slice.ensures.value at c.in_ok-scenario.ensures.said) c.replay_scenario.ensures.written c.replay_scenario.ensures.front c.replay_scenario.ensures.fault c.replay_scenario.ensures.failures
+    c.in_ok-file.ensures.input (rw c.as_slice.ensures.value at c.in_ok-scenario.ensures.said) c.replay_scenario.ensures.written c.replay_scenario.ensures.front c.replay_scenario.ensures.fails.fault c.replay_scenario.ensures.fails.counted
 
 pub returns-clause-summary : goal.returns-clause-summary
 returns-clause-summary g c =

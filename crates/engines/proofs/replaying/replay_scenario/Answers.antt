@@ -5,6 +5,7 @@ use Rattle.std.specs.Io.KnownBytes.{Appends}
 use Rattle.scenario_run.specs.{IsWriteFault, RunKeepsMainTheorem, Summary, Writes, WritesPart, happenings, replayed, run_at_start, runs, summary_of, text_of}
 use Rattle.scenario_run.proofs.Onwards.{run_main_theorem, run_numbers}
 use Rattle.scenario_run.proofs.Played.{on_fault}
+use Rattle.scenario.proofs.files.Failing.{fails_after}
 use Rattle.scenario_run.proofs.Written.{failed_same, front_all}
 use Rattle.engines.proofs.Replayings.{counts_none, replay_cut, replay_end_cut, replay_written}
 use Rattle.engines.proofs.replaying.replay_scenario.Goals as goal
@@ -19,15 +20,15 @@ returns-in_err-play_all-clause-front g c =
     subst (λ w. WritesFront (g.W.Sink.taken c.args.output.now) (g.W.Sink.taken w) (replayed (script c.args.scenario.now))) (sym (c.in_err-play_all.output-1-own.given.1 (sym cut.0)))
     (subst (λ said. WritesFront (g.W.Sink.taken c.args.output.now) (g.W.Sink.taken c.play_all.new.observer.output.now) (replayed said)) same (replay_cut said _ _ part))
 
-pub returns-in_err-play_all-clause-fault : goal.returns-in_err-play_all-clause-fault
-returns-in_err-play_all-clause-fault g c =
-    on_fault c.from_residual-in_err-play_all.result c.in_err-play_all.field-0.0 IsWriteFault c.from_residual-in_err-play_all.ensures.1 (c.in_err-play_all.ensures.cut run_at_start c.in_ok-scenario_run.ensures.follows).1.is
-
-pub returns-in_err-play_all-clause-failures : goal.returns-in_err-play_all-clause-failures
-returns-in_err-play_all-clause-failures g c =
+pub returns-in_err-play_all-clause-fails : goal.returns-in_err-play_all-clause-fails
+returns-in_err-play_all-clause-fails g c =
     let cut = c.in_err-play_all.ensures.cut run_at_start c.in_ok-scenario_run.ensures.follows in
-    ap g.W.Sink.failures (c.in_err-play_all.output-1-own.given.1 (sym cut.0)) ∙ cut.1.fails_are
-    ∙ ap (λ k. g.W.Sink.failures c.args.output.now + k) (sym (failed_same c.from_residual-in_err-play_all.result c.in_err-play_all.field-0.0 c.from_residual-in_err-play_all.ensures.1))
+    record {
+      fault = on_fault c.from_residual-in_err-play_all.result c.in_err-play_all.field-0.0 IsWriteFault c.from_residual-in_err-play_all.ensures.1 cut.1.is;
+      counted =
+          ap g.W.Sink.failures (c.in_err-play_all.output-1-own.given.1 (sym cut.0)) ∙ cut.1.fails_are
+          ∙ ap (λ k. g.W.Sink.failures c.args.output.now + k) (sym (failed_same c.from_residual-in_err-play_all.result c.in_err-play_all.field-0.0 c.from_residual-in_err-play_all.ensures.1));
+    }
 
 pub write_end-requires : goal.write_end-requires
 write_end-requires g c =
@@ -48,11 +49,11 @@ returns-in_err-write_end-clause-front g c =
     subst (λ said. WritesFront (g.W.Sink.taken c.args.output.now) (g.W.Sink.taken c.write_end.new.output) (replayed said)) same
     (replay_end_cut said _ _ _ _ writes numbers c.in_err-write_end.ensures.front)
 
-pub returns-in_err-write_end-clause-failures : goal.returns-in_err-write_end-clause-failures
-returns-in_err-write_end-clause-failures g c =
+pub returns-in_err-write_end-clause-fails : goal.returns-in_err-write_end-clause-fails
+returns-in_err-write_end-clause-fails g c =
     let plays = c.in_ok-play_all.ensures.whole refl run_at_start c.in_ok-scenario_run.ensures.follows in
     let whole = ap g.W.Sink.failures (c.output-2-1.given.1 (sym plays.observes.0)) ∙ plays.observes.2.whole in
-    omega (arith, whole, c.in_err-write_end.ensures.failures, failed_same c.from_residual-in_err-write_end.result c.in_err-write_end.field-0.0 c.from_residual-in_err-write_end.ensures.1)
+    fails_after g.W.Sink.failures c.from_residual-in_err-write_end.result c.in_err-write_end.field-0.0 _ _ _ c.from_residual-in_err-write_end.ensures.1 whole c.in_err-write_end.ensures.fails
 
 pub returns : goal.returns
 returns g c =
@@ -74,6 +75,5 @@ returns g c =
       front = front_all _ _ _ ok;
       summary = subst (λ said. last ≡ summary_of said.setup (happenings said)) same numbers;
       main_theorem = subst RunKeepsMainTheorem same (run_main_theorem said plays);
-      fault = tt;
-      failures = omega (arith, whole, c.in_ok-write_end.ensures.failures);
+      fails = record { fault = tt; counted = omega (arith, whole, c.in_ok-write_end.ensures.fails.counted) };
     }

@@ -3,7 +3,8 @@ use Rattle.std.proofs.lemmas.List.{take_all}
 use Rattle.std.specs.Io.KnownBytes.{Appends}
 use Rattle.scenario.specs.files.{WritesFront}
 use Rattle.scenario_run.specs.{mark_line}
-use Rattle.scenario_run.proofs.Written.{appends_both, appends_none, failed_same, front_after, front_all, front_longer, items_more, items_split}
+use Rattle.scenario.proofs.files.Failing.{fails_after}
+use Rattle.scenario_run.proofs.Written.{appends_both, appends_none, front_after, front_all, front_longer, items_more, items_split}
 use Rattle.engines.proofs.writing.write_marks.Goals as goal
 
 pub loop-mark-init : goal.loop-mark-init
@@ -21,8 +22,8 @@ returns-in_err-write_run_line-clause-front g c =
     (front_after _ _ _ (flat_map f (take k marks)) (f c.mark-item.result ++ flat_map f (drop (k + 1) marks)) c.loop-mark.invariant.taken
     (front_longer _ _ (f c.mark-item.result) (flat_map f (drop (k + 1) marks)) c.in_err-write_run_line.ensures.front))
 
-pub returns-in_err-write_run_line-clause-failures : goal.returns-in_err-write_run_line-clause-failures
-returns-in_err-write_run_line-clause-failures g c = omega (arith, c.in_err-write_run_line.ensures.failures, c.loop-mark.invariant.whole, failed_same c.from_residual.result c.in_err-write_run_line.field-0.0 c.from_residual.ensures.1)
+pub returns-in_err-write_run_line-clause-fails : goal.returns-in_err-write_run_line-clause-fails
+returns-in_err-write_run_line-clause-fails g c = fails_after g.W.Sink.failures c.from_residual.result c.in_err-write_run_line.field-0.0 _ _ _ c.from_residual.ensures.1 c.loop-mark.invariant.whole c.in_err-write_run_line.ensures.fails
 
 pub loop-mark-preserved : goal.loop-mark-preserved
 loop-mark-preserved g c =
@@ -32,7 +33,7 @@ loop-mark-preserved g c =
     record {
       taken = subst (λ l. Appends (g.W.Sink.taken c.args.output.now) (g.W.Sink.taken c.write_run_line.new.output) l) (sym (items_more f marks k c.mark-item.result c.loop-mark-test.true c.mark-item.is))
           (appends_both _ _ _ (flat_map f (take k marks)) (f c.mark-item.result) c.loop-mark.invariant.taken c.in_ok-write_run_line.ensures.written);
-      whole = omega (arith, c.in_ok-write_run_line.ensures.failures, c.loop-mark.invariant.whole);
+      whole = omega (arith, c.in_ok-write_run_line.ensures.fails.counted, c.loop-mark.invariant.whole);
     }
 
 pub returns-clause-front : goal.returns-clause-front

@@ -5,7 +5,7 @@ use Rattle.files.specs.declared.faults.FaultKind.TheVariants.{NotFirst}
 use Rattle.trace_engine.specs.trace_file.TraceFiles.{TraceProgress, line_read}
 use Rattle.draw.specs.{failed_write}
 use Rattle.draw.proofs.RecordEnds.{drawing_read, next_wrote, no_value, reading_same}
-use Rattle.draw.proofs.Written.{failed_same}
+use Rattle.files.proofs.Failing.{failed_same}
 use Rattle.trace_engine.proofs.Ends.{if_err, next_fault, none_reported}
 use Rattle.trace_draw.specs.{DrawnTrace, DrawsLine, EndsSheet, HasShown, IsDrawFault, TraceView, with_output}
 use Rattle.trace_draw.proofs.Ends.{drawn_all, drawn_fault, drawn_few, drawn_none, drawn_on, drawn_start, input_fault, read_some, write_fault, write_read}
@@ -86,9 +86,9 @@ returns-in_err-end g c =
     record {
       drawn = no_value r e _ same;
       end = no_value r e _ same;
-      fault = if_err r e (λ (f : Fault). IsDrawFault f all) same (write_fault e all c.in_err-end.ensures.fault);
-      read_failures = omega (arith, reading_same r e same, write_read e c.in_err-end.ensures.fault, c.in_ok-next.ensures.failures, c.lines.invariant.whole);
-      write_failures = omega (arith, c.in_err-end.ensures.failures, c.lines.invariant.wrote, failed_same r e same);
+      fault = if_err r e (λ (f : Fault). IsDrawFault f all) same (write_fault e all c.in_err-end.ensures.fails.fault);
+      read_failures = omega (arith, reading_same r e same, write_read e c.in_err-end.ensures.fails.fault, c.in_ok-next.ensures.failures, c.lines.invariant.whole);
+      write_failures = omega (arith, c.in_err-end.ensures.fails.counted, c.lines.invariant.wrote, failed_same r e same);
     }
 
 pub returns-in-None : goal.returns-in-None
@@ -103,7 +103,7 @@ returns-in-None g c =
       fault = subst (λ (f : Fault). IsDrawFault f all) (sym (c.behind.ensures ∙ ap (λ (n : ℕ). Line (record { line = n + 1; kind = NotFirst })) ends.taken))
           (drawn_none c.args.sheet.now.view all mid c.lines.lines.taken c.lines.sheet.reader c.lines.sheet.picture (g.W.Sink.taken c.args.output.now) (g.W.Sink.taken c.lines.output) c.lines.invariant.drawn (c.in_ok-end.ensures.none c.in-None.is) ends.before);
       read_failures = subst (λ (f : Fault). g.R.Source.failures c.next.new.input ≡ g.R.Source.failures c.args.input.now + failed_reading {A = Unit {0}} (Err f)) (sym c.behind.ensures) (omega (arith, c.in_ok-next.ensures.failures, c.lines.invariant.whole));
-      write_failures = subst (λ (f : Fault). g.W.Sink.failures c.end.new.output ≡ g.W.Sink.failures c.args.output.now + failed_write {A = Unit {0}} (Err f)) (sym c.behind.ensures) (omega (arith, c.in_ok-end.ensures.failures, c.lines.invariant.wrote));
+      write_failures = subst (λ (f : Fault). g.W.Sink.failures c.end.new.output ≡ g.W.Sink.failures c.args.output.now + failed_write {A = Unit {0}} (Err f)) (sym c.behind.ensures) (omega (arith, c.in_ok-end.ensures.fails.counted, c.lines.invariant.wrote));
     }
 
 pub returns-in-Some : goal.returns-in-Some
@@ -126,7 +126,7 @@ returns-in-Some g c =
       end = c.in_ok-next.ensures.holds had.holds (c.in_ok-next.ensures.ended c.if-branch.false);
       fault = tt;
       read_failures = omega (arith, c.in_ok-next.ensures.failures, had.whole);
-      write_failures = omega (arith, c.in_ok-end.ensures.failures, had.wrote);
+      write_failures = omega (arith, c.in_ok-end.ensures.fails.counted, had.wrote);
     }
 
 pub read-requires-clause-bounded : goal.read-requires-clause-bounded

@@ -3,7 +3,7 @@ use Rattle.std.proofs.lemmas.List.{take_all, take_more}
 use Rattle.model.specs.{Mark}
 use Rattle.draw.specs.{DrawsMarks}
 use Rattle.draw.proofs.Drawn.{draws_marks_both, draws_no_marks}
-use Rattle.draw.proofs.Written.{failed_same}
+use Rattle.scenario.proofs.files.Failing.{fails_after}
 use Rattle.draw.proofs.canvas.Canvas.draw_marks.Goals as goal
 
 pub loop-mark-init : goal.loop-mark-init
@@ -15,8 +15,8 @@ loop-mark-init g c = record {
 pub draw_mark-requires : goal.draw_mark-requires
 draw_mark-requires g c = rw c.loop-mark.invariant.whole c.requires
 
-pub returns-in_err-draw_mark-clause-failures : goal.returns-in_err-draw_mark-clause-failures
-returns-in_err-draw_mark-clause-failures g c = omega (arith, c.in_err-draw_mark.ensures.failures, c.loop-mark.invariant.whole, failed_same c.from_residual.result c.in_err-draw_mark.field-0.0 c.from_residual.ensures.1)
+pub returns-in_err-draw_mark-clause-fails : goal.returns-in_err-draw_mark-clause-fails
+returns-in_err-draw_mark-clause-fails g c = fails_after g.W.Sink.failures c.from_residual.result c.in_err-draw_mark.field-0.0 _ _ _ c.from_residual.ensures.1 c.loop-mark.invariant.whole c.in_err-draw_mark.ensures.fails
 
 pub loop-mark-preserved : goal.loop-mark-preserved
 loop-mark-preserved g c =
@@ -28,7 +28,7 @@ loop-mark-preserved g c =
     record {
       drawn = subst (λ (l : List Mark). DrawsMarks c.args.self.now c.draw_mark.new.self c.args.store.now c.draw_mark.new.store a d c.args.source c.args.at c.args.process l) (sym next)
           (draws_marks_both c.args.self.now c.loop-mark.self c.draw_mark.new.self c.args.store.now c.loop-mark.store c.draw_mark.new.store a (g.W.Sink.taken c.loop-mark.output) d c.args.source c.args.at c.args.process marks (here ∷ []) c.loop-mark.invariant.drawn c.in_ok-draw_mark.ensures.drawn);
-      whole = omega (arith, c.in_ok-draw_mark.ensures.failures, c.loop-mark.invariant.whole);
+      whole = omega (arith, c.in_ok-draw_mark.ensures.fails.counted, c.loop-mark.invariant.whole);
     }
 
 pub returns-clause-drawn : goal.returns-clause-drawn

@@ -5,7 +5,7 @@ use Rattle.picture.specs.picture_layout.{OverlappedRead}
 use Rattle.draw.specs.{DrawsOn, GivesRead, ObservesAll, kept}
 use Rattle.draw.proofs.Drawn.{draws_on_both, draws_on_none}
 use Rattle.draw.proofs.Giving.{map_next}
-use Rattle.draw.proofs.Written.{failed_same}
+use Rattle.scenario.proofs.files.Failing.{fails_after}
 use Rattle.draw.proofs.canvas.Canvas.draw_reads.Goals as goal
 
 pub loop-read-init : goal.loop-read-init
@@ -14,8 +14,8 @@ loop-read-init g c = record { drawn = draws_on_none (kept c.args.self.now) (g.W.
 pub draw_read-requires : goal.draw_read-requires
 draw_read-requires g c = rw c.loop-read.invariant.whole c.requires
 
-pub returns-in_err-draw_read-clause-failures : goal.returns-in_err-draw_read-clause-failures
-returns-in_err-draw_read-clause-failures g c = omega (arith, c.in_err-draw_read.ensures.failures, c.loop-read.invariant.whole, failed_same c.from_residual.result c.in_err-draw_read.field-0.0 c.from_residual.ensures.1)
+pub returns-in_err-draw_read-clause-fails : goal.returns-in_err-draw_read-clause-fails
+returns-in_err-draw_read-clause-fails g c = fails_after g.W.Sink.failures c.from_residual.result c.in_err-draw_read.field-0.0 _ _ _ c.from_residual.ensures.1 c.loop-read.invariant.whole c.in_err-draw_read.ensures.fails
 
 pub loop-read-preserved : goal.loop-read-preserved
 loop-read-preserved g c =
@@ -26,7 +26,7 @@ loop-read-preserved g c =
       drawn = subst (λ l. DrawsOn (kept c.args.self.now) (kept c.draw_read.new.self) (g.W.Sink.taken c.args.output.now) (g.W.Sink.taken c.draw_read.new.output) l) (sym (map_next GivesRead reads k none c.loop-read-test.true))
           (draws_on_both _ _ _ _ _ _ (map GivesRead (take k reads)) (GivesRead (get_or reads k none) ∷ []) c.loop-read.invariant.drawn c.in_ok-draw_read.ensures.drawn);
       overlaps = c.in_ok-draw_read.ensures.overlaps ∙ c.loop-read.invariant.overlaps;
-      whole = omega (arith, c.in_ok-draw_read.ensures.failures, c.loop-read.invariant.whole);
+      whole = omega (arith, c.in_ok-draw_read.ensures.fails.counted, c.loop-read.invariant.whole);
     }
 
 pub returns-clause-drawn : goal.returns-clause-drawn

@@ -11,7 +11,7 @@ use Rattle.draw.specs.{failed_write}
 use Rattle.draw.specs.{DrawnEntry, DrawsAllBands, EndsAsked, IsDrawFault, Corresponds}
 use Rattle.judge.proofs.Ends.{if_err, none_reported}
 use Rattle.draw.proofs.RecordEnds.{drawing_read, next_wrote, no_value, onwards_drawn, onwards_fault, onwards_few, onwards_none, onwards_on, onwards_start, onwards_stop, reading_same, read_some}
-use Rattle.draw.proofs.Written.{failed_same}
+use Rattle.scenario.proofs.files.Failing.{failed_same}
 use Rattle.draw.proofs.records.engines.draw_lines.Goals as goal
 
 pub lines-preserved : goal.lines-preserved
@@ -89,7 +89,7 @@ returns-in-None g c =
       fault = subst (λ (f : Fault). IsDrawFault f all) (sym (c.behind.ensures ∙ ap (λ (n : ℕ). Line (record { line = n + 1; kind = NotFirst })) ends.taken))
           (onwards_none all mid c.lines.lines.taken c.lines.sheet _ _ c.lines.invariant.onwards (c.in_ok-end.ensures.none c.in-None.is) ends.before);
       read_failures = subst (λ (f : Fault). g.R.Source.failures c.next.new.input ≡ g.R.Source.failures c.args.input.now + failed_reading {A = Unit {0}} (Err f)) (sym c.behind.ensures) (omega (arith, c.in_ok-next.ensures.failures, c.lines.invariant.whole));
-      write_failures = subst (λ (f : Fault). g.W.Sink.failures c.end.new.output ≡ g.W.Sink.failures c.args.output.now + failed_write {A = Unit {0}} (Err f)) (sym c.behind.ensures) (omega (arith, c.in_ok-end.ensures.failures, c.lines.invariant.wrote));
+      write_failures = subst (λ (f : Fault). g.W.Sink.failures c.end.new.output ≡ g.W.Sink.failures c.args.output.now + failed_write {A = Unit {0}} (Err f)) (sym c.behind.ensures) (omega (arith, c.in_ok-end.ensures.fails.counted, c.lines.invariant.wrote));
     }
 
 pub returns-in-Some : goal.returns-in-Some
@@ -114,7 +114,7 @@ returns-in-Some g c =
       end = c.in_ok-next.ensures.holds c.lines.invariant.holds (c.in_ok-next.ensures.ended c.if-branch.false);
       fault = tt;
       read_failures = omega (arith, c.in_ok-next.ensures.failures, c.lines.invariant.whole);
-      write_failures = omega (arith, ended.failures, c.lines.invariant.wrote);
+      write_failures = omega (arith, ended.fails.counted, c.lines.invariant.wrote);
     }
 
 pub read-requires-clause-bounded : goal.read-requires-clause-bounded

@@ -11,4 +11,4 @@ returns g c =
     (λ ends. if_some (g.R.Source.to_come c.args.input.now) _ _
     (λ text. of_record_then _ _ text (λ s entries numbers bands. ends c.args.options (record { setup = s; entries = entries }) [] (g.W.Sink.taken c.args.output.now) bands)) c.in_ok-drawn.ensures.drawn)
     c.end_page.ensures.drawn)
-    c.in_ok-drawn.ensures.end c.end_page.ensures.fault (omega (arith, c.end_page.ensures.failures, c.in_ok-drawn.ensures.write_failures))
+    c.in_ok-drawn.ensures.end c.end_page.ensures.fails.fault (omega (arith, c.end_page.ensures.fails.counted, c.in_ok-drawn.ensures.write_failures))

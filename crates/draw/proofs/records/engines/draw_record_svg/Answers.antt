@@ -15,4 +15,4 @@ returns-in-Ok g c =
     (λ ends. if_some all _ _ (λ text. of_record_then _ _ text (λ s entries numbers bands. ends c.args.options (record { setup = s; entries = entries }) []
     (subst (λ (l : List ℕ). DrawsBandsOf c.args.options (form.Picture 34) c.in-Ok.drawn (Some []) (Some l) (record { setup = s; entries = entries }) []) (sym c.bytes.ensures) bands))) bands)
     c.write_picture.ensures.drawn)
-    c.in-Ok.ensures.end c.write_picture.ensures.fault (omega (arith, c.write_picture.ensures.failures))
+    c.in-Ok.ensures.end c.write_picture.ensures.fails.fault (omega (arith, c.write_picture.ensures.fails.counted))

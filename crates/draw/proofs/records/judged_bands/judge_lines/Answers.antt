@@ -6,7 +6,7 @@ use Rattle.draw.specs.{failed_write}
 use Rattle.draw.specs.{IsDrawFault}
 use Rattle.draw.proofs.RecordEnds.{drawing_read, next_wrote, not_ok, reading_same}
 use Rattle.draw.proofs.JudgedFile.{input_fault, judged_observed, judged_read, judged_shown, judged_start, read_fault, shown_few}
-use Rattle.draw.proofs.Written.{failed_same}
+use Rattle.scenario.proofs.files.Failing.{failed_same}
 use Rattle.draw.proofs.records.judged_bands.judge_lines.Goals as goal
 
 pub lines-init : goal.lines-init

@@ -6,7 +6,8 @@ use Rattle.judge.specs.{IsOfRecord}
 use Rattle.judge.proofs.Ends.{if_err}
 use Rattle.draw.specs.{DrawnEntry, DrawsBandsOf, IsDrawFault, IsJudged}
 use Rattle.draw.proofs.RecordEnds.{no_value, reading_same}
-use Rattle.draw.proofs.Written.{failed_same, if_err_then, if_ok_then}
+use Rattle.draw.proofs.Written.{if_err_then, if_ok_then}
+use Rattle.scenario.proofs.files.Failing.{failed_same}
 use Rattle.draw.proofs.records.judged_bands.judge_sheet.Goals as goal
 
 pub returns-in_err-judge_lines : goal.returns-in_err-judge_lines

@@ -4,13 +4,13 @@ use Rattle.model.specs.{Entry, Past}
 use Rattle.draw.specs.{IsDrawn}
 use Rattle.draw.proofs.Sheeted.{drawn_as_many, drawn_entry}
 use Rattle.draw.proofs.Stored.{one_more}
-use Rattle.draw.proofs.Written.{failed_same}
+use Rattle.scenario.proofs.files.Failing.{fails_after}
 use Rattle.draw.proofs.records.stored.draw_stored.Goals as goal
 
 pub loop-entry-init : goal.loop-entry-init
 loop-entry-init g c = record {
   drawn = c.in_ok-drawing.ensures.drawn;
-  whole = omega (arith, c.in_ok-drawing.ensures.failures);
+  whole = omega (arith, c.in_ok-drawing.ensures.fails.counted);
 }
 
 pub draw_entry-requires-clause-writes : goal.draw_entry-requires-clause-writes
@@ -25,8 +25,8 @@ draw_entry-requires-clause-room g c =
     let first = length-take-le l.entry-index c.args.stored.now (omega (arith, c.loop-entry-test.true)) in
     omega (arith, many, long, first, c.loop-entry-test.true)
 
-pub returns-in_err-draw_entry-clause-failures : goal.returns-in_err-draw_entry-clause-failures
-returns-in_err-draw_entry-clause-failures g c = omega (arith, c.in_err-draw_entry.ensures.failures, c.loop-entry.invariant.whole, failed_same c.from_residual-in_err-draw_entry.result c.in_err-draw_entry.field-0.0 c.from_residual-in_err-draw_entry.ensures.1)
+pub returns-in_err-draw_entry-clause-fails : goal.returns-in_err-draw_entry-clause-fails
+returns-in_err-draw_entry-clause-fails g c = fails_after g.W.Sink.failures c.from_residual-in_err-draw_entry.result c.in_err-draw_entry.field-0.0 _ _ _ c.from_residual-in_err-draw_entry.ensures.1 c.loop-entry.invariant.whole c.in_err-draw_entry.ensures.fails
 
 pub loop-entry-preserved : goal.loop-entry-preserved
 loop-entry-preserved g c =
@@ -43,7 +43,7 @@ loop-entry-preserved g c =
     record {
       drawn = subst (λ (past : Past). IsDrawn view form s past c.draw_entry.new.self first new) (sym more)
           (drawn_entry view form s past e l.drawing c.draw_entry.new.self first mid new l.invariant.drawn c.in_ok-draw_entry.ensures.drawn c.draw_entry.ensures.source);
-      whole = omega (arith, c.in_ok-draw_entry.ensures.failures, l.invariant.whole);
+      whole = omega (arith, c.in_ok-draw_entry.ensures.fails.counted, l.invariant.whole);
     }
 
 pub returns-clause-drawn : goal.returns-clause-drawn

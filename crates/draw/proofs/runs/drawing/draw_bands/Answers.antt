@@ -12,6 +12,5 @@ returns g c =
       drawn = IfOk-weaker c.draw_lines.result _ _ (λ answer is. is plan view begun.first begun.recalls) drawn.drawn;
       summary = IfOk-weaker c.draw_lines.result _ _ (λ answer is. is plan view begun.first begun.recalls) drawn.summary;
       opening = IfOk-weaker c.draw_lines.result _ _ (λ answer is. is plan view begun.first begun.recalls) drawn.opening;
-      fault = drawn.fault;
-      failures = drawn.failures;
+      fails = drawn.fails;
     }

@@ -1,13 +1,13 @@
 use Rattle.std.proofs.Common.{◌≡◌, ◌∙◌, ◌+◌, ◌-◌, ◌*◌, ◌^◌, ◌<◌, ◌≤◌, ℕ, List, [], ◌∷◌, None, ap, drop, length, arith, refl, subst}
 use Rattle.std.proofs.lemmas.List.{drop_all}
 use Rattle.model.specs.plain_store.{Setup}
-use Rattle.draw.specs.{IsWriteFault, RunDrawing, AccessView, tally}
+use Rattle.draw.specs.{RunDrawing, AccessView, tally}
 use Rattle.scenario.specs.{Line}
 use Rattle.scenario.proofs.Places.{drop_in}
 use Rattle.scenario_run.specs.{CanCount, Summary}
 use Rattle.scenario_run.proofs.Onwards.{onward_numbers}
-use Rattle.scenario_run.proofs.Played.{on_fault}
-use Rattle.draw.proofs.Written.{failed_same, if_ok_both, if_ok_then}
+use Rattle.draw.proofs.Written.{if_ok_both, if_ok_then}
+use Rattle.scenario.proofs.files.Failing.{fails_after}
 use Rattle.picture.specs.{WindowPlan}
 use Rattle.draw.proofs.RunGiving.{number_of_first}
 use Rattle.draw.proofs.LinesDrawn.{Drawn, drawn_end, drawn_on, drawn_opening, drawn_start}
@@ -53,7 +53,7 @@ loop-line-preserved g c =
           (subst (λ (rest : List Line). Drawn plan view s lines rest c.loop-line.scenario_run mid a b) next (c.loop-line.invariant.drawn plan view first recalls))
           c.in_ok-draw_line.ensures.drawn c.in_ok-draw_line.ensures.source;
       source = omega (arith, c.in_ok-draw_line.ensures.source, c.loop-line.invariant.source);
-      whole = omega (arith, c.in_ok-draw_line.ensures.failures, c.loop-line.invariant.whole);
+      whole = omega (arith, c.in_ok-draw_line.ensures.fails.counted, c.loop-line.invariant.whole);
       room = c.in_ok-draw_line.ensures.room ((4000 - (k + 1)) * 2 ^ 32) (goes_on (tally mid) k (length lines) within c.args.scenario.now.few c.loop-line.invariant.room);
     }
 
@@ -105,11 +105,8 @@ returns-clause-opening g c =
     drawn_opening plan view s lines c.loop-line.scenario_run mid answer.opening.items a b d opens)
     c.end.ensures.opening
 
-pub returns-clause-failures : goal.returns-clause-failures
-returns-clause-failures g c = omega (arith, c.end.ensures.failures, c.loop-line.invariant.whole)
+pub returns-clause-fails : goal.returns-clause-fails
+returns-clause-fails g c = record { fault = c.end.ensures.fails.fault; counted = omega (arith, c.end.ensures.fails.counted, c.loop-line.invariant.whole) }
 
-pub returns-in_err-draw_line-clause-failures : goal.returns-in_err-draw_line-clause-failures
-returns-in_err-draw_line-clause-failures g c = omega (arith, c.in_err-draw_line.ensures.failures, c.loop-line.invariant.whole, failed_same c.from_residual.result c.in_err-draw_line.field-0.0 c.from_residual.ensures.1)
-
-pub returns-in_err-draw_line-clause-fault : goal.returns-in_err-draw_line-clause-fault
-returns-in_err-draw_line-clause-fault g c = on_fault c.from_residual.result c.in_err-draw_line.field-0.0 IsWriteFault c.from_residual.ensures.1 c.in_err-draw_line.ensures.fault
+pub returns-in_err-draw_line-clause-fails : goal.returns-in_err-draw_line-clause-fails
+returns-in_err-draw_line-clause-fails g c = fails_after g.W.Sink.failures c.from_residual.result c.in_err-draw_line.field-0.0 _ _ _ c.from_residual.ensures.1 c.loop-line.invariant.whole c.in_err-draw_line.ensures.fails

@@ -18,7 +18,7 @@ returns-in_err-scenario-clause-drew g c =
 pub returns-clause-drew : goal.returns-clause-drew
 returns-clause-drew g c =
     drew_all c.args.options c.args.form c.draw_scenario.result c.in_ok-file.file.items (script c.in_ok-scenario.scenario) _ _
-    c.in_ok-file.ensures.input (rw c.as_slice.ensures.value at c.in_ok-scenario.ensures.said) (rw c.as_slice-2.ensures.value at c.draw_scenario.ensures.drawn) c.draw_scenario.ensures.fault c.draw_scenario.ensures.failures
+    c.in_ok-file.ensures.input (rw c.as_slice.ensures.value at c.in_ok-scenario.ensures.said) (rw c.as_slice-2.ensures.value at c.draw_scenario.ensures.drawn) c.draw_scenario.ensures.fails.fault c.draw_scenario.ensures.fails.counted
 
 pub returns-clause-summary : goal.returns-clause-summary
 returns-clause-summary g c =

@@ -12,6 +12,5 @@ returns g c =
           (draws_page c.args.options c.args.file.now (script c.args.scenario.now) (g.W.Sink.taken c.args.output.now) (g.W.Sink.taken c.draw_behind.new.output) c.in_ok-head.head head.draws head.lines head.elements)
           drew.drawn;
       summary = drew.summary;
-      fault = drew.fault;
-      failures = drew.failures;
+      fails = drew.fails;
     }

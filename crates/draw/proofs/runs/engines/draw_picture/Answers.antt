@@ -16,6 +16,5 @@ returns g c =
           (is_picture c.args.top c.args.options c.args.file.now said c.in_ok-head.head c.in_ok-head.end _ _ _ _ _ _ c.in_ok-first.ensures.drawn framed.bands around.front around.back))
           drew.drawn;
       summary = drew.summary;
-      fault = drew.fault;
-      failures = drew.failures;
+      fails = drew.fails;
     }

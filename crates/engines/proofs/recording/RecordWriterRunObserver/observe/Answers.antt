@@ -8,7 +8,7 @@ returns-clause-observed g c = λ s before this happens. (
   refl,
   record {
     writes = λ _. entry_copied s before this c.args.reported.now _ _ happens c.in_ok-write_entry.ensures.written;
-    whole = c.in_ok-write_entry.ensures.failures ∙ add-zero (g.W.Sink.failures c.args.self.now.output.now);
+    whole = c.in_ok-write_entry.ensures.fails.counted ∙ add-zero (g.W.Sink.failures c.args.self.now.output.now);
   },
 )
 
@@ -19,7 +19,7 @@ returns-in_err-write_entry-clause-cut g c =
       refl,
       record {
         part = λ _. entry_cut s before this c.args.reported.now _ _ happens c.in_err-write_entry.ensures.front;
-        is = c.in_err-write_entry.ensures.fault;
-        fails_are = c.in_err-write_entry.ensures.failures;
+        is = c.in_err-write_entry.ensures.fails.fault;
+        fails_are = c.in_err-write_entry.ensures.fails.counted;
       },
     ))

@@ -8,7 +8,7 @@ returns-clause-observed g c = λ s before on. (
   refl,
   record {
     writes = λ _. step_copied s before c.args.made _ _ on c.in_ok-write_step.ensures.written;
-    whole = c.in_ok-write_step.ensures.failures ∙ add-zero (g.W.Sink.failures c.args.self.now.output.now);
+    whole = c.in_ok-write_step.ensures.fails.counted ∙ add-zero (g.W.Sink.failures c.args.self.now.output.now);
   },
 )
 
@@ -19,7 +19,7 @@ returns-in_err-write_step-clause-cut g c =
       refl,
       record {
         part = λ _. step_cut s before c.args.made _ _ on c.in_err-write_step.ensures.front;
-        is = c.in_err-write_step.ensures.fault;
-        fails_are = c.in_err-write_step.ensures.failures;
+        is = c.in_err-write_step.ensures.fails.fault;
+        fails_are = c.in_err-write_step.ensures.fails.counted;
       },
     ))

@@ -11,7 +11,7 @@ returns-clause-observed g c =
       refl,
       counts_observed s before this c.args.reported.now old.summary c.write_turn.new.summary happens counted,
       record { writes = reported_written s before this c.args.reported.now old.summary _ _ happens wrote; whole = whole },
-    )) c.write_turn.ensures.written c.write_turn.ensures.count c.write_turn.ensures.failures
+    )) c.write_turn.ensures.written c.write_turn.ensures.count c.write_turn.ensures.fails.counted
 
 pub returns-clause-cut : goal.returns-clause-cut
 returns-clause-cut g c =
@@ -19,4 +19,4 @@ returns-clause-cut g c =
     err_both c.write_turn.result _ (g.W.Sink.failures old.output.now) (g.W.Sink.failures c.write_turn.new.output) (λ fault is fails s before this happens. (
       refl,
       record { part = reported_cut s before this c.args.reported.now old.summary _ _ happens c.write_turn.ensures.front; is = is; fails_are = fails },
-    )) c.write_turn.ensures.fault c.write_turn.ensures.failures
+    )) c.write_turn.ensures.fails.fault c.write_turn.ensures.fails.counted

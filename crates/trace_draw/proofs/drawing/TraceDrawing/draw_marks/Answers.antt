@@ -2,7 +2,7 @@ use Rattle.std.proofs.Common.{◌≡◌, ◌+◌, ℕ, List, [], ◌∷◌, ◌+
 use Rattle.std.proofs.lemmas.List.{map-append, take_all, take_more}
 use Rattle.draw.specs.{DrawsLines, Says, SaysLockMark}
 use Rattle.draw.proofs.Drawn.{draws_lines_both, draws_no_lines}
-use Rattle.draw.proofs.Written.{failed_same}
+use Rattle.files.proofs.Failing.{fails_after}
 use Rattle.trace.specs.{LockMark}
 use Rattle.trace.specs.declared.marks.LockMark.TheVariants.{Call}
 use Rattle.trace_draw.specs.{TraceDrawing}
@@ -19,8 +19,8 @@ loop-mark-init g c = record {
 pub draw_mark-requires : goal.draw_mark-requires
 draw_mark-requires g c = rw c.loop-mark.invariant.whole c.requires
 
-pub returns-in_err-draw_mark-clause-failures : goal.returns-in_err-draw_mark-clause-failures
-returns-in_err-draw_mark-clause-failures g c = omega (arith, c.in_err-draw_mark.ensures.failures, c.loop-mark.invariant.whole, failed_same c.from_residual.result c.in_err-draw_mark.field-0.0 c.from_residual.ensures.1)
+pub returns-in_err-draw_mark-clause-fails : goal.returns-in_err-draw_mark-clause-fails
+returns-in_err-draw_mark-clause-fails g c = fails_after g.W.Sink.failures c.from_residual.result c.in_err-draw_mark.field-0.0 _ _ _ c.from_residual.ensures.1 c.loop-mark.invariant.whole c.in_err-draw_mark.ensures.fails
 
 pub returns-in_err-draw_mark-clause-rest : goal.returns-in_err-draw_mark-clause-rest
 returns-in_err-draw_mark-clause-rest g c =
@@ -47,7 +47,7 @@ loop-mark-preserved g c =
       drawn = subst (λ (l : List Says). DrawsLines old.canvas now.canvas a d old.source old.entries l) (sym said)
           (draws_lines_both old.canvas mid.canvas now.canvas a b d old.source old.entries (map (SaysLockMark p) marks) (SaysLockMark p here ∷ []) had.drawn on);
       rest = rest_on old mid now had.rest c.in_ok-draw_mark.ensures.rest;
-      whole = omega (arith, c.in_ok-draw_mark.ensures.failures, had.whole);
+      whole = omega (arith, c.in_ok-draw_mark.ensures.fails.counted, had.whole);
     }
 
 pub returns-clause-drawn : goal.returns-clause-drawn

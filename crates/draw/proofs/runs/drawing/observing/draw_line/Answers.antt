@@ -32,14 +32,13 @@ returns-clause-room g c =
     let (run, follows) = c.play.ensures.runs in
     ok_then c.play.result (λ both more has. subst (λ (d : RunDrawing). CanCount (tally d) more) (sym (c.run-1.given.1 (sym (both.0 run follows).observes.1))) (both.1 more (has, c.requires.writes)).0) (ok_with c.play.result _ _ c.play.ensures.observed c.play.ensures.room)
 
-pub returns-clause-fault : goal.returns-clause-fault
-returns-clause-fault g c =
+pub returns-clause-fails : goal.returns-clause-fails
+returns-clause-fails g c =
     let (run, follows) = c.play.ensures.runs in
-    if_err c.play.result (λ fault cut. (cut run follows).1) c.play.ensures.cut
-
-pub returns-clause-failures : goal.returns-clause-failures
-returns-clause-failures g c =
-    let (run, follows) = c.play.ensures.runs in
-    failures_by c.play.result (g.W.Sink.failures c.args.output.now) (g.W.Sink.failures c.output-1.given.0)
-    (ok_then c.play.result (λ plays. ap g.W.Sink.failures (c.output-1.given.1 (sym (plays run follows).observes.0)) ∙ (plays run follows).observes.3) c.play.ensures.observed)
-    (if_err c.play.result (λ fault cut. ap g.W.Sink.failures (c.output-1.given.1 (sym (cut run follows).0)) ∙ (cut run follows).2) c.play.ensures.cut)
+    record {
+      fault = if_err c.play.result (λ fault cut. (cut run follows).1) c.play.ensures.cut;
+      counted =
+          failures_by c.play.result (g.W.Sink.failures c.args.output.now) (g.W.Sink.failures c.output-1.given.0)
+          (ok_then c.play.result (λ plays. ap g.W.Sink.failures (c.output-1.given.1 (sym (plays run follows).observes.0)) ∙ (plays run follows).observes.3) c.play.ensures.observed)
+          (if_err c.play.result (λ fault cut. ap g.W.Sink.failures (c.output-1.given.1 (sym (cut run follows).0)) ∙ (cut run follows).2) c.play.ensures.cut);
+    }

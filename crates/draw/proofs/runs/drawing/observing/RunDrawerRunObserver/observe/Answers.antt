@@ -14,9 +14,9 @@ returns-clause-observed g c =
       c.draw_reported.ensures.source,
       whole,
       λ view start had from d. reported_drawn view s start had from before this answer old.run.now c.draw_reported.new.self _ _ happens both.0 both.1 c.draw_reported.ensures.source d,
-    )) (ok_with c.draw_reported.result _ _ c.draw_reported.ensures.drawn c.draw_reported.ensures.count) c.draw_reported.ensures.failures
+    )) (ok_with c.draw_reported.result _ _ c.draw_reported.ensures.drawn c.draw_reported.ensures.count) c.draw_reported.ensures.fails.counted
 
 pub returns-clause-cut : goal.returns-clause-cut
 returns-clause-cut g c =
     let old = c.args.self.now in
-    err_whole c.draw_reported.result _ (g.W.Sink.failures old.output.now) (g.W.Sink.failures c.draw_reported.new.output) (λ fault is fails s before this happens. (refl, is, fails)) c.draw_reported.ensures.fault c.draw_reported.ensures.failures
+    err_whole c.draw_reported.result _ (g.W.Sink.failures old.output.now) (g.W.Sink.failures c.draw_reported.new.output) (λ fault is fails s before this happens. (refl, is, fails)) c.draw_reported.ensures.fails.fault c.draw_reported.ensures.fails.counted

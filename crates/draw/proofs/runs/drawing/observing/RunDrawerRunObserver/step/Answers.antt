@@ -13,9 +13,9 @@ returns-clause-observed g c =
       c.step.ensures.source,
       whole,
       λ view start had from d. step_drawn view s start had from before c.args.made old.run.now c.step.new.self _ _ on c.step.ensures.source both.1 both.0 d,
-    )) (ok_with c.step.result _ _ c.step.ensures.drawn c.step.ensures.entries) c.step.ensures.failures
+    )) (ok_with c.step.result _ _ c.step.ensures.drawn c.step.ensures.entries) c.step.ensures.fails.counted
 
 pub returns-clause-cut : goal.returns-clause-cut
 returns-clause-cut g c =
     let old = c.args.self.now in
-    err_whole c.step.result _ (g.W.Sink.failures old.output.now) (g.W.Sink.failures c.step.new.output) (λ fault is fails s before on. (refl, is, fails)) c.step.ensures.fault c.step.ensures.failures
+    err_whole c.step.result _ (g.W.Sink.failures old.output.now) (g.W.Sink.failures c.step.new.output) (λ fault is fails s before on. (refl, is, fails)) c.step.ensures.fails.fault c.step.ensures.fails.counted
