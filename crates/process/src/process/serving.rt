@@ -127,8 +127,9 @@ impl Process {
         self.cut();
     }
 
-    /// Drops its open read, if it has one.
-    fn drop_read(&self, memory: &mut BitMemory)
+    /// Drops its open read on the memory, if it has one: the copy no longer knows of the read. A process that withdraws or
+    /// fails does this before it gives up its call.
+    pub fn drop_read(&self, memory: &mut BitMemory)
         requires { AreOf self.now.setup memory.old }
         ensures { memory.new ≡ dropped self.now memory.old }
     {
