@@ -1,6 +1,6 @@
 """Failing streams: every command runs a file without a fault and a file with one, and each read and each write in turn fails, takes
-one byte, or takes no byte. In other runs a standard stream is closed or full, the reader of a pipe goes away, the input never
-ends, or the file cannot be read or has a name that is not UTF-8.
+one byte, or takes no byte. In other runs a standard stream is closed or full, a file has reached its limit, the reader of a pipe
+goes away, the input never ends, or the file cannot be read or has a name that is not UTF-8.
 
 After a failed read the program must print `read fault` and nothing else. A read that takes no byte is the end of the file. After a
 failed write, or one that takes no byte, the program must report `write fault` and write no further output, and what it wrote before
@@ -14,6 +14,8 @@ import contextlib
 import functools
 import os
 import pathlib
+import resource
+import signal
 import socket
 import subprocess
 import tempfile
@@ -177,7 +179,21 @@ def closed_streams(examples):
             ran = run([*command.split(), faulty], stderr=full)
             tries.compare(command, ran, (ran.status, ran.output) == (told.status, told.output))
         yield from tries.found
+        yield from limited_files(command, good)
         yield from gone_readers(command, good)
+
+
+def limited_files(command, good):
+    """A file that may have no byte: the limit ends the program by a signal, and where this is ignored, a write fails."""
+    tries = Tries("a file has reached its limit")
+    limit = functools.partial(resource.setrlimit, resource.RLIMIT_FSIZE, (0, 0))
+    for ignored in (False, True):
+        with tempfile.TemporaryFile() as file:
+            # Python ignores the signal, and a child does so unless its signals are restored
+            ran = run([*command.split(), good], stdout=file, preexec_fn=limit, restore_signals=not ignored)
+        wanted = WRITE_FAULT if ignored else (-signal.SIGXFSZ, b"")
+        tries.compare(command, ran, (ran.status, ran.errors) == wanted)
+    yield from tries.found
 
 
 def gone_readers(command, good):
