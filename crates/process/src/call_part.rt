@@ -134,6 +134,16 @@ impl CallPart {
         self.call.number
     }
 
+    /// Returns whether this call has the process, the command and the number of the other one, which has the same setup.
+    pub fn is_same_call(&self, other: &CallPart) -> bool
+        requires setup { self.now.call.setup ≡ other.now.call.setup }
+        ensures { result ≡ true → self.now.call ≡ other.now.call }
+    {
+        self.call.process == other.call.process
+            && self.call.number == other.call.number
+            && self.call.command == other.call.command
+    }
+
     /// Returns whether the call was answered.
     pub fn is_over(&self) -> bool
         ensures { result ≡ is_over self.now.part }

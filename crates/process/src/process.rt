@@ -1,5 +1,5 @@
 //! The state of one process.
-ghost use Rattle.std.specs.Prelude.{◌≡◌, ◌<◌, ℕ, [], IfSome, None, Ok, Some, cond};
+ghost use Rattle.std.specs.Prelude.{◌≡◌, ◌<◌, ℕ, [], IfSome, None, Ok, Some, cond, true};
 ghost use Rattle.model.specs.{Field, is_at_door, is_read, is_waiting_stage, read_at};
 ghost use Rattle.plain_store.specs.{checked};
 ghost use Rattle.laws.specs.{is_inside, reads_of};
@@ -173,6 +173,20 @@ impl Process {
         self.called.copy_from(&other.called);
         self.work = other.work;
         self.cursor.copy_from(&other.cursor);
+    }
+
+    /// Returns whether both processes are at rest, idle or down, and are equal: the process, its last command and its
+    /// number. It returns `false` if one of them has an access to make, because it compares no cursors.
+    pub fn is_same(&self, other: &Process) -> bool
+        requires setup { self.now.setup ≡ other.now.setup }
+        ensures { result ≡ true → self.now ≡ other.now }
+    {
+        let rests = match self.work {
+            Activity::Rests => matches!(other.work, Activity::Rests),
+            Activity::Lies => matches!(other.work, Activity::Lies),
+            _ => false,
+        };
+        rests && self.called.is_same_call(&other.called)
     }
 }
 

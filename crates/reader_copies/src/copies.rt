@@ -34,6 +34,17 @@ impl Flags {
             touched: 0,
         }
     }
+
+    /// Returns whether all flags are equal to those of `other`.
+    #[inline]
+    fn is_same(&self, other: &Flags) -> bool
+        ensures { result ≡ true → self.now ≡ other.now }
+    {
+        self.value == other.value
+            && self.writing == other.writing
+            && self.reading == other.reading
+            && self.touched == other.touched
+    }
 }
 
 /// One reader's copies of all bits of a row: four flags for each.
@@ -152,6 +163,23 @@ impl Copies {
         ensures { self.new ≡ other.now }
     {
         self.flags.copy_from_slice(&other.flags);
+    }
+
+    /// Returns whether these copies are equal to the other ones: the number of bits, and each flag of each bit. It compares
+    /// whole words, also the flags after the last bit, so it may return `false` for equal copies, but never `true` for
+    /// different ones.
+    pub fn is_same(&self, other: &Copies) -> bool
+        ensures { result ≡ true → self.now ≡ other.now }
+    {
+        if self.len != other.len {
+            return false;
+        }
+        for place in 0..self.flags.len() {
+            if !self.flags[place].is_same(&other.flags[place]) {
+                return false;
+            }
+        }
+        true
     }
 
     /// Returns the value with which the open read of bit `k` ends.

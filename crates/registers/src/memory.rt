@@ -1,5 +1,5 @@
 //! The memory, and the accesses on it.
-ghost use Rattle.std.specs.Prelude.{◌≡◌, ◌≢◌, ℕ, ◌<◌, ◌≤◌, ◌+◌, ◌*◌, ◌%◌, length, false, IfOk, Ok};
+ghost use Rattle.std.specs.Prelude.{◌≡◌, ◌≢◌, ℕ, ◌<◌, ◌≤◌, ◌+◌, ◌*◌, ◌%◌, length, true, false, IfOk, Ok};
 ghost use Rattle.plain_store.specs.{checked};
 ghost use Rattle.model.specs.{width};
 ghost use Rattle.choices.specs.{after_flick, flick_of};
@@ -172,6 +172,22 @@ impl BitMemory {
         for (at, lane) in other.lanes.iter().enumerate() {
             self.lanes[at].copy_from(lane);
         }
+    }
+
+    /// Returns whether this memory is equal to the other one: the number of lanes, and each flag of each copy in each lane.
+    /// It compares whole words, and a result `false` proves nothing.
+    pub fn is_same(&self, other: &BitMemory) -> bool
+        ensures { result ≡ true → self.now ≡ other.now }
+    {
+        if self.lanes.len() != other.lanes.len() {
+            return false;
+        }
+        for (at, lane) in other.lanes.iter().enumerate() {
+            if !self.lanes[at].is_same(lane) {
+                return false;
+            }
+        }
+        true
     }
 
     /// Drops the open reads of the cursor's register by its reader: the read is given up and ends without a value.

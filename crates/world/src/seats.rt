@@ -97,6 +97,17 @@ impl Seat {
         self.begun = self.begun || self.process.is_at_door();
         self.process.step(registers, flick, reported)
     }
+
+    /// Returns whether both processes are at rest, and the seats are equal. The processes have the same setup.
+    pub fn is_same(&self, other: &Seat) -> bool
+        requires setup { self.now.process.setup ≡ other.now.process.setup }
+        ensures { result ≡ true → self.now ≡ other.now }
+    {
+        if self.begun != other.begun || self.before != other.before {
+            return false;
+        }
+        self.process.is_same(&other.process)
+    }
 }
 
 /// Returns whether the process exists and waits.

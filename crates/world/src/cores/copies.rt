@@ -1,5 +1,5 @@
-//! Sets a core from another one.
-ghost use Rattle.std.specs.Prelude.{◌≡◌};
+//! Sets a core from another one, and compares two cores.
+ghost use Rattle.std.specs.Prelude.{◌≡◌, true};
 ghost use Rattle.world.specs.Seats.{setups_in};
 
 use super::Core;
@@ -15,6 +15,16 @@ impl Core {
         self.registers.copy_from(&other.registers);
         copy_seats(&mut self.seats, &other.seats);
     }
+
+    /// Returns whether all processes of both cores are at rest, idle or down, and the cores are equal: each flag of each
+    /// register, and each seat. Both cores have the same setup. It returns `false` if a process has an access to make, and
+    /// it does not allocate.
+    pub fn is_same(&self, other: &Core) -> bool
+        requires setup { self.now.setup ≡ other.now.setup }
+        ensures { result ≡ true → self.now ≡ other.now }
+    {
+        are_same_seats(&self.seats, &other.seats) && self.registers.is_same(&other.registers)
+    }
 }
 
 /// Makes each seat equal to the other seat of its process, which has the same setup.
@@ -28,4 +38,18 @@ fn copy_seats(seats: &mut [Seat], others: &[Seat])
         seat.begun = other.begun;
         seat.before = other.before;
     }
+}
+
+/// Returns whether each seat is equal to the other seat of its process, which has the same setup, and all processes are at
+/// rest.
+fn are_same_seats(seats: &[Seat], others: &[Seat]) -> bool
+    requires { setups_in seats.now ≡ setups_in others.now }
+    ensures { result ≡ true → seats.now ≡ others.now }
+{
+    for (process, other) in others.iter().enumerate() {
+        if !seats[process].is_same(other) {
+            return false;
+        }
+    }
+    true
 }
