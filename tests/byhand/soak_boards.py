@@ -132,4 +132,5 @@ def play(number, figures):
     return text, found
 
 
-soak(__doc__, "round", play, FIGURES)
+if __name__ == "__main__":
+    soak(__doc__, "round", play, FIGURES)

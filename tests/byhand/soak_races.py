@@ -151,4 +151,5 @@ def play(number, figures):
     return f"{race.text}{ran.stdout}{ran.stderr}", judge(race, ran, figures)
 
 
-soak(__doc__, "race", play, FIGURES)
+if __name__ == "__main__":
+    soak(__doc__, "race", play, FIGURES)

@@ -16,7 +16,6 @@ drawn_verdicts.py reads it; and the status is that of `judge`. A record with a f
 
 import pathlib
 import re
-import subprocess
 import sys
 import xml.etree.ElementTree as tree
 
@@ -25,7 +24,8 @@ sys.path.insert(0, str(pathlib.Path(__file__).resolve().parents[1]))
 from drawn_accesses import access_faults, seen_in
 from drawn_verdicts import verdict_faults
 from lib.counting import Counter
-from lib.places import OTHER_LOCKS, PROGRAM, TOP, WORKED
+from lib.places import OTHER_LOCKS, TOP, WORKED
+from lib.running import runner
 from pictures import SVG, Groups, overlapped_in, read_faults, title, words_of
 from second.drawn_accesses import MOST_WAVES
 from second.drawn_record_accesses import shown_accesses
@@ -50,8 +50,7 @@ SPOILS = [(0, b"bakery 3"), (1, b"slots 9999"), (-1, b"0 0.ticket.0"), (-1, b"x"
 
 def run(file, command, *options):
     """How a run ended: its status, what it wrote, and what it told."""
-    ran = subprocess.run([PROGRAM, command, *options, "-"], input=file, capture_output=True)
-    return ran.returncode, ran.stdout, ran.stderr
+    return tuple(runner().run([command, *options, "-"], file))
 
 
 def written(file, command, *options):

@@ -96,7 +96,7 @@ def is_as_it_must(ran, whole, cut, most, stream, call, how):
     return (ran.status, ran.output) == (whole.status, whole.output) and whole.errors.startswith(ran.errors)
 
 
-@functools.cache
+@functools.lru_cache(maxsize=256)
 def plainly(command, text):
     """A run without any of this."""
     return runner().run([*command.split(), "-"], text)

@@ -47,3 +47,27 @@ def scenario(number):
         process = draws.randint(0, 255) if draws.random() < 0.03 else draws.randrange(processes)
         lines.append(line(draws, version, process))
     return "\n".join(lines) + "\n"
+
+
+def short_line(draws, version, process):
+    """A line that makes few events."""
+    kind = draws.choices(["call", "go", "step", "wander", "flick", "fail", "withdraw", "restart"], [8, 1, 8, 4, 1, 2, 1, 2])[0]
+    rest = {
+        "call": f"{process} {command(draws, version)}",
+        "go": f"{process} wait",
+        "step": f"{process} {draws.randint(1, 12)}",
+        "wander": f"{draws.randint(1, 15)}",
+        "flick": draws.choice(FLICKS),
+    }.get(kind, str(process))
+    return f"{kind} {rest}"
+
+
+def short_scenario(number):
+    """The text of the short file of this number: few processes and bits, and lines that make few events."""
+    draws = random.Random(number)
+    version, processes = draws.randint(1, 2), draws.choice([1, 1, 2, 2, 3])
+    heads = [f"bakery {version}", f"processes {processes}", f"tickets {draws.randint(1, 2)}", f"stamps {draws.randint(1, 2)}"]
+    heads += [f"open {draws.choice(NAMES)} {draws.choice(VALUES)}"] if version == 2 and draws.random() < 0.5 else []
+    lines = [f"call {draws.randrange(processes)} {command(draws, version)}"]
+    lines += [short_line(draws, version, draws.randrange(processes + (draws.random() < 0.03))) for _ in range(draws.randint(1, 6))]
+    return "\n".join([*heads, *lines]) + "\n"

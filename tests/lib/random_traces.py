@@ -93,21 +93,24 @@ def any_entry(draws, trace, past):
 
 def drawn(draws):
     """Returns the lines of a trace that is drawn entry by entry; all entries but the last few keep the laws."""
-    lines, left = any_head(draws), draws.randint(1, MOST_ENTRIES)
+    head, left = any_head(draws), draws.randint(1, MOST_ENTRIES)
     spoiled = draws.choice([0, 1, 1, 2])
+    past, lines = Past(read_trace("\n".join(head).encode())), []
     for at in range(left):
-        past = Past(read_trace("\n".join(lines).encode()))
-        past.entries = past.trace.entries
         for _ in range(TRIES if at < left - spoiled else 1):
             line = any_entry(draws, past.trace, past)
-            if at >= left - spoiled or broken_law(past, entry_of(lines, line)) is None:
+            entry = entry_of(head, line, len(past.entries))
+            if at >= left - spoiled or broken_law(past, entry) is None:
                 lines.append(line)
+                past.entries.append(entry)
                 break
-    return lines
+    return [*head, *lines]
 
 
-def entry_of(lines, line):
-    return read_trace("\n".join([*lines, line]).encode()).entries[-1]
+def entry_of(head, line, number):
+    """Returns the entry of a line below some headings, as the entry of this number."""
+    entry = read_trace("\n".join([*head, line]).encode()).entries[0]
+    return entry._replace(number=number, line=entry.line + number)
 
 
 def changed(draws):
