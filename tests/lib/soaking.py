@@ -5,6 +5,7 @@ import multiprocessing
 import queue
 import signal
 import time
+import traceback
 from typing import NamedTuple
 
 from lib.checks import Difference
@@ -18,6 +19,8 @@ from lib.soak_state import Found, Total, keep, table, write_state
 PART_SECONDS, MOST_PARTS = 1.0, 2
 NUMBERS = 200
 SAVED_EACH, TOLD_EACH, WAITS = 5, 600, 0.5
+# for so long the soak waits at its end for parts that are still played
+MOST_WAITED = 900
 # so many files that differ are made shorter by one part
 MOST_SHRUNK = 3
 
@@ -60,13 +63,21 @@ class Plays:
                 found.append(Found(kind, number, check.label, text, shorter, difference, check.differs(shorter) or difference))
         return total, found
 
+    def number_or_error(self, kind, number, is_shrunk):
+        """The same; an error of a Python program counts as a difference, so that the others are still played."""
+        try:
+            return self.number(kind, number, is_shrunk)
+        except Exception:
+            told = Difference(traceback.format_exc(), "no error")
+            return Total(1, differ=1), [Found(kind, number, "a Python program fails", b"", b"", told, told)]
+
     def part(self, part):
         """Plays a part as far as the time suffices."""
         total, found, begun = Total(), [], time.monotonic()
         for number in range(part.first, part.first + part.count):
             if time.monotonic() > begun + PART_SECONDS:
                 break
-            more, others = self.number(part.kind, number, len(found) < MOST_SHRUNK)
+            more, others = self.number_or_error(part.kind, number, len(found) < MOST_SHRUNK)
             total.add(more)
             found += others
         total.seconds = time.monotonic() - begun
@@ -137,7 +148,7 @@ class Soak:
             signal.signal(signal.SIGTERM, self.stop)
             signal.signal(signal.SIGINT, self.stop)
             saved = told = time.monotonic()
-            while not self.is_stopped and (time.monotonic() < until or self.coming):
+            while not self.is_stopped and time.monotonic() < until + (MOST_WAITED if self.coming else 0):
                 if time.monotonic() < until:
                     self.begin_parts(pool)
                 self.take_next()
