@@ -1,0 +1,2 @@
+pub mod RowMoves
+pub mod RowSteps
