@@ -7,7 +7,7 @@ use Rattle.std.proofs.lemmas.List.FromFn.{get_or-map-range_with_len, length-map-
 use Rattle.safe_bit.specs.Cell.{Cell, cell_after, without_read}
 use Rattle.safe_bit.specs.{Move}
 use Rattle.reader_copies.specs.{cell_in}
-use Rattle.reader_copies.specs.Row as row
+use Rattle.reader_copies.specs.Row as rows
 use Rattle.reader_copies.proofs.Flags.{made-set}
 use Rattle.safe_number.proofs.Numbers.{range_same}
 use Rattle.model.specs.{Field}
@@ -24,7 +24,7 @@ pub row-lane : (n : ℕ) (memory : List (List Cell)) (r : RegisterName) (j : ℕ
 row-lane n memory r j inside = get_or-map-range_with_len (λ k. lane_of memory (lane_number n r k)) 0 n j j [] inside (omega arith)
 
 -- one copy
-pub row-cell : (n : ℕ) (memory : List (List Cell)) (r : RegisterName) (bit j : ℕ) → j < n → row.cell_at (row_of n memory r) bit j ≡ cell_at memory (lane_number n r j) bit
+pub row-cell : (n : ℕ) (memory : List (List Cell)) (r : RegisterName) (bit j : ℕ) → j < n → rows.cell_at (row_of n memory r) bit j ≡ cell_at memory (lane_number n r j) bit
 row-cell n memory r bit j inside = ap (λ x. cell_in x bit) (row-lane n memory r j inside)
 
 -- a lane of a register is replaced
@@ -37,7 +37,7 @@ row-set n memory r j new inside there =
 
 -- an access to a register changes its row
 pub row-moved : (n : ℕ) (memory : List (List Cell)) (r : RegisterName) (j bit : ℕ) (how : Move) → j < n → lane_number n r j < length memory →
-    row_of n (memory_moved memory (lane_number n r j) bit how) r ≡ row.row_after (row_of n memory r) bit (record { reader = j; how = how })
+    row_of n (memory_moved memory (lane_number n r j) bit how) r ≡ rows.row_after (row_of n memory r) bit (record { reader = j; how = how })
 row-moved n memory r j bit how inside there =
     let lane : ℕ = lane_number n r j in
     row-set n memory r j (set (lane_of memory lane) bit (cell_after (cell_at memory lane bit) how)) inside there
@@ -45,7 +45,7 @@ row-moved n memory r j bit how inside there =
 
 -- a reader's dropped read changes its row
 pub row-dropped : (n : ℕ) (memory : List (List Cell)) (r : RegisterName) (j : ℕ) → j < n → lane_number n r j < length memory →
-    row_of n (without_reads memory (lane_number n r j)) r ≡ row.without_reads (row_of n memory r) j
+    row_of n (without_reads memory (lane_number n r j)) r ≡ rows.without_reads (row_of n memory r) j
 row-dropped n memory r j inside there =
     row-set n memory r j (map without_read (lane_of memory (lane_number n r j))) inside there
     ∙ ap (λ x. set (row_of n memory r) j (map without_read x)) (sym (row-lane n memory r j inside))

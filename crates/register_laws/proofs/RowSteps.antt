@@ -6,7 +6,7 @@ use Rattle.safe_bit.specs.Cell.{Cell, read_answer}
 use Rattle.safe_bit.specs.{Move}
 use Rattle.safe_bit.specs.declared.moves.Move.TheVariants.{BeginWrite, EndWrite, BeginRead, EndRead, Settle}
 use Rattle.reader_copies.specs.{Made, Settling, Writing, next_settle, next_write, row_after, settle_after, settled_at}
-use Rattle.reader_copies.specs.Row as row
+use Rattle.reader_copies.specs.Row as rows
 use Rattle.reader_copies.specs.Runs as copies
 use Rattle.safe_number.specs.{NumberRead, NumberWrite, bit_in, bit_read, bit_write, bits_in, loaded, number_read_after, number_write_after, write_on}
 use Rattle.safe_number.specs.Runs as number
@@ -109,7 +109,7 @@ reads memory c r flick h at =
     let here : length r.bits ≡ c.bit = ap length at.bits ∙ at.bit in
     let v : Bool = loaded (row_at c memory) c.reader r flick in
     let value : answer c memory flick ≡ v =
-        sym (ap (λ k. read_answer (row.cell_at (row_at c memory) k c.reader) flick) here
+        sym (ap (λ k. read_answer (rows.cell_at (row_at c memory) k c.reader) flick) here
         ∙ ap (λ x. read_answer x flick) (row-cell c.copies memory c.register c.bit c.reader (omega (arith, h.fits.copy)))
         ∙ ap (λ k. read_answer (cell_at memory (lane_number c.copies c.register k) c.bit) flick) (sym reader)) in
     let a : Access = next_answered c memory flick in

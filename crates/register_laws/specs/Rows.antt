@@ -3,7 +3,7 @@ use Rattle.std.specs.Prelude.{◌≡◌, ◌≢◌, ℕ, ◌<◌, ◌==◌, List
 use Rattle.plain_store.specs.{Setup}
 use Rattle.safe_bit.specs.Cell.{Cell}
 use Rattle.reader_copies.specs.{HasItsValue, Made, Settling, next_settle, next_write, row_after, settle_after, settled_at}
-use Rattle.reader_copies.specs.Row as row
+use Rattle.reader_copies.specs.Row as rows
 use Rattle.safe_number.specs.{NumberRead, NumberWrite, bit_write, bits_in, loaded, new_read, new_write, number_read_after, number_write_after}
 use Rattle.safe_number.specs.Runs.{register_written}
 use Rattle.safe_number.specs.Runs as number
@@ -96,7 +96,7 @@ StepKeepsOtherRows = (memory : List (List Cell)) (c : CursorState) (flick : Bool
 -- If a reader drops its read of a register, the row drops the read.
 abbrev pub DropIsOnItsRow : Type 0
 DropIsOnItsRow = (memory : List (List Cell)) (copies wide : ℕ) (register : RegisterName) (reader : ℕ) → HasLanes memory (lane_number copies register 0) copies wide → reader < copies
-    → row_of copies (without_reads memory (lane_number copies register reader)) register ≡ row.without_reads (row_of copies memory register) reader
+    → row_of copies (without_reads memory (lane_number copies register reader)) register ≡ rows.without_reads (row_of copies memory register) reader
 
 -- A dropped read changes no row of another register.
 abbrev pub DropKeepsOtherRows : Type 0

@@ -3,5 +3,7 @@
 #![tactic(auto)]
 
 mod rows;
+mod worlds;
 
 pub use rows::registers_are_rows;
+pub use worlds::registers_of_a_world;
