@@ -1,6 +1,9 @@
 pub mod NumberSteps
 pub mod NumbersAlways
 pub mod NumbersKept
+pub mod ReadFronts
+pub mod ReadsKept
+pub mod ReadsReturn
 pub mod RowMoves
 pub mod RowSteps
 pub mod WorldChanges

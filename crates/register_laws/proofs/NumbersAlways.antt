@@ -314,7 +314,7 @@ others-write r e (makes x acc by) apart = an-access r e x acc ∙ go (is_of_writ
     go true i false j = refl
     go true i true j = absurd (apart (sym (by.writes i) ∙ (on-register r x j).0))
 
-abbrev Each : Setup → Past → Type 0
+abbrev pub Each : Setup → Past → Type 0
 Each s past = IsGood s → (r : RegisterName) → r.owner < s.processes → HoldsNumber (register_row s past r) (number_after s r past) (progress_at s past r)
 
 opens : (s : Setup) → Each s []

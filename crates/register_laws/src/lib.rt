@@ -6,4 +6,4 @@ mod rows;
 mod worlds;
 
 pub use rows::registers_are_rows;
-pub use worlds::registers_of_a_world;
+pub use worlds::{registers_of_worlds, worlds_have_registers};

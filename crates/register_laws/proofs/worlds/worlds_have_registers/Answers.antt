@@ -1,4 +1,4 @@
--- The registers of a world.
+-- The rows of a world.
 use Rattle.std.proofs.Common.{◌∷◌, ap, refl}
 use Rattle.model.proofs.Width.{is_good}
 use Rattle.model.specs.{past_of}
@@ -8,9 +8,8 @@ use Rattle.registers.specs.Rows.{row_of}
 use Rattle.registers.proofs.Openings.{setup-fits}
 use Rattle.process.proofs.Memories.{with-are}
 use Rattle.world.specs.Shows.{WorldState}
-use Rattle.register_laws.proofs.NumbersAlways.{numbers-held}
 use Rattle.register_laws.proofs.WorldChanges.{row-entry, row-shape}
-use Rattle.register_laws.proofs.worlds.registers_of_a_world.Goals as goal
+use Rattle.register_laws.proofs.worlds.worlds_have_registers.Goals as goal
 
 pub returns : goal.returns
 returns x = record {
@@ -18,5 +17,4 @@ returns x = record {
   rows = λ s ok events r owner. row-shape s (is_good s ok) (past_of s events) r owner;
   entries = λ s ok events event e is r owner. row-entry s (is_good s ok) events event e is r owner;
   cursors = λ s ok events c of. setup-fits s (memory_at s (past_of s events)) c (with-are (cell_held s (past_of s events)) s) of.owner of.copies of.wide of.copy of.at;
-  numbers = λ s ok events r owner. numbers-held s events (is_good s ok) r owner;
 }

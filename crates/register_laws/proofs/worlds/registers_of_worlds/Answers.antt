@@ -1,0 +1,15 @@
+-- The laws of registers, of a world.
+use Rattle.model.proofs.Width.{is_good}
+use Rattle.register_laws.proofs.NumbersAlways.{numbers-held}
+use Rattle.model.specs.{past_of}
+use Rattle.register_laws.proofs.ReadsReturn.{returned-fits, returned-length, returns-number, so-far}
+use Rattle.register_laws.proofs.worlds.registers_of_worlds.Goals as goal
+
+pub returns : goal.returns
+returns x = record {
+  numbers = λ s ok events r owner. numbers-held s events (is_good s ok) r owner;
+  unoverlapped = λ s ok events event e is read a ends u. returns-number s ok events event e is read a ends u;
+  so_far = λ s ok events p read h u. so-far s ok events p read h u;
+  overlapped = λ s ok events event e is read a ends. (returned-length s (past_of s events) e read a ends, returned-fits s (past_of s events) e read a ends);
+  interrupted = ?;
+}
