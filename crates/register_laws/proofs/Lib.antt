@@ -1,3 +1,4 @@
+pub mod InterruptedWrites
 pub mod NumberSteps
 pub mod NumbersAlways
 pub mod NumbersKept
@@ -6,4 +7,5 @@ pub mod ReadsKept
 pub mod ReadsReturn
 pub mod RowMoves
 pub mod RowSteps
+pub mod SettledWrites
 pub mod WorldChanges

@@ -42,7 +42,7 @@ use Rattle.register_laws.proofs.WorldChanges.{entry-keeps, on-itself, on-registe
 use Rattle.register_laws.proofs.NumbersKept as kept
 use Rattle.register_laws.proofs.NumbersKept.{an-access, new-fresh, no-access, runs-fresh}
 
-access-is : {x y : Next} → Some x ≡ Some y → x.access ≡ y.access
+pub access-is : {x y : Next} → Some x ≡ Some y → x.access ≡ y.access
 access-is {x} {y} h = let same : x ≡ y = cc in ap (λ (n : Next). n.access) same
 
 -- an entry with this mark is a failure, and the process may fail
@@ -61,7 +61,7 @@ fail-only s past (event.Fail p) e is may marks none = subst (λ q. refused_at (e
 fail-only s past (event.Withdraw p) e is may marks none = absurd (let f : mark.Withdrew ∷ [] ≡ Failed ∷ [] = ap (λ (x : Entry). x.marks) (some-entry is) ∙ marks in cc)
 fail-only s past (event.Restart p) e is may marks none = absurd (let f : mark.Restarted ∷ [] ≡ Failed ∷ [] = ap (λ (x : Entry). x.marks) (some-entry is) ∙ marks in cc)
 
-may-fail : (s : Setup) (events : List Event) (what : Event) (e : Entry) → entry_of s (past_of s events) what ≡ Some e → e.marks ≡ Failed ∷ [] → e.access ≡ None → refused_at (event.Fail e.process) (stage e.process (past_of s events)) ≡ None
+pub may-fail : (s : Setup) (events : List Event) (what : Event) (e : Entry) → entry_of s (past_of s events) what ≡ Some e → e.marks ≡ Failed ∷ [] → e.access ≡ None → refused_at (event.Fail e.process) (stage e.process (past_of s events)) ≡ None
 may-fail s events what e accepts marks none = let acc = entry-accepted s (past_of s events) what e accepts in fail-only s (past_of s events) what e acc.2 acc.1 marks none
 
 module _ (s : Setup) (g : IsGood s) (events : List Event) (what : Event) (e : Entry) (accepts : entry_of s (past_of s events) what ≡ Some e) (f : Field) where
@@ -89,13 +89,13 @@ module _ (s : Setup) (g : IsGood s) (events : List Event) (what : Event) (e : En
   write-wide w h wide = (written_so_far s g events e.process w h).width_is ∙ wide
 
   -- its present bit, once it has begun
-  write-facts : (field : Field) (bits : List Bool) (w : NumberWrite) → register_write s e.process (doing s e.process past) ≡ Some (record { field = field; bits = bits; run = w }) → ((run : copies.Writing) → w.run ≡ Some run → 0 < run.made) →
+  pub write-facts : (field : Field) (bits : List Bool) (w : NumberWrite) → register_write s e.process (doing s e.process past) ≡ Some (record { field = field; bits = bits; run = w }) → ((run : copies.Writing) → w.run ≡ Some run → 0 < run.made) →
       (run : copies.Writing) → w.run ≡ Some run → (0 < run.made) × (run.ended ≡ false)
   write-facts field bits w h begun run is =
       let so = written_so_far s g events e.process (record { field = field; bits = bits; run = w }) h in
       (begun run is, sym (ap (λ (o : Option copies.Writing). let y : copies.Writing = bit_written bits (record w { run = o }) in y.ended) is) ∙ so.going)
 
-  left : LeftIn s e.process (remaining s (own e.process past)) (doing s e.process past)
+  pub left : LeftIn s e.process (remaining s (own e.process past)) (doing s e.process past)
   left = remaining-is s g events e.process
 
   -- a step at a part that reads

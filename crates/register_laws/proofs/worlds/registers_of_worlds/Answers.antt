@@ -3,6 +3,7 @@ use Rattle.model.proofs.Width.{is_good}
 use Rattle.register_laws.proofs.NumbersAlways.{numbers-held}
 use Rattle.model.specs.{past_of}
 use Rattle.register_laws.proofs.ReadsReturn.{returned-fits, returned-length, returns-number, so-far}
+use Rattle.register_laws.proofs.SettledWrites.{interrupted-settled}
 use Rattle.register_laws.proofs.worlds.registers_of_worlds.Goals as goal
 
 pub returns : goal.returns
@@ -11,5 +12,5 @@ returns x = record {
   unoverlapped = λ s ok events event e is read a ends u. returns-number s ok events event e is read a ends u;
   so_far = λ s ok events p read h u. so-far s ok events p read h u;
   overlapped = λ s ok events event e is read a ends. (returned-length s (past_of s events) e read a ends, returned-fits s (past_of s events) e read a ends);
-  interrupted = ?;
+  interrupted = λ s ok events event e is r bit v ends. interrupted-settled s (is_good s ok) events event e is r bit v ends;
 }
