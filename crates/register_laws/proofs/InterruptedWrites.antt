@@ -1,32 +1,28 @@
 -- An interrupted write that is settled: the write before the last failure, the torn bit, and the row at the end.
-use Rattle.std.proofs.Common.{◌≡◌, ◌≢◌, ℕ, ◌+◌, ◌<◌, ◌==◌, ◌&&◌, Bool, true, false, cond, List, [], ◌∷◌, length, map, Option, None, Some, refl, sym, ap, ◌∙◌, subst, arith, inl, inr, eq-eqb, ne_eqb}
+use Rattle.std.proofs.Common.{◌≡◌, ℕ, ◌<◌, ◌==◌, ◌&&◌, Bool, true, false, cond, List, [], ◌∷◌, length, map, Option, None, Some, refl, sym, ap, ◌∙◌, subst, inl, inr, eq-eqb, ne_eqb}
 use Rattle.std.proofs.lemmas.Bool.{cases_eq}
 use Rattle.std.specs.Prelude.{option_map}
 use Rattle.std.specs.List.{list_any}
-use Rattle.safe_bit.specs.Cell.{Cell}
-use Rattle.reader_copies.specs.{IsWritten, Settling, cut_values, settle_after, settled_at, with_value}
+use Rattle.reader_copies.specs.{Settling, cut_values, settle_after, settled_at, with_value}
 use Rattle.reader_copies.specs.Runs as copies
 use Rattle.safe_number.specs.{NumberWrite, new_write}
-use Rattle.safe_number.specs.Runs as numbers
 use Rattle.plain_store.specs.{Command, Reply, Setup}
-use Rattle.model.specs.{Access, Call, Change, Closing, Ended, Entry, Event, Field, Frees, Mark, Next, Part, Past, Place, Quit, Reading, Run, Settles, TornBit, Withdraws, Writing, call_number, closing_after, closing_next, cut, enter, entry_of, freeing, has, history, is_failed, is_last_settled, is_last_written, is_over, last_command, named, no_ticket, own, past-induction, past_of, place_after, placed, start_in, torn_in, value_of, value_written, write_moved, written_at}
+use Rattle.model.specs.{Access, Call, Change, Closing, Ended, Entry, Event, Field, Frees, Next, Past, Place, Quit, Reading, Run, Settles, TornBit, Withdraws, Writing, call_number, closing_after, closing_next, cut, enter, entry_of, freeing, has, history, is_failed, is_last_settled, is_last_written, is_over, last_command, named, no_ticket, own, past-induction, past_of, place_after, placed, start_in, torn_in, value_of, value_written, write_moved, written_at}
 use Rattle.model.specs.Closings.{Lowers, settled_marks}
 use Rattle.model.specs.Parts.{Raises}
 use Rattle.model.specs.declared.access.Field.TheVariants.{Choosing, Ticket}
-use Rattle.model.specs.declared.marks.Mark.TheVariants.{Failed}
-use Rattle.model.proofs.Width.{IsGood, is_good}
-use Rattle.laws.specs.{Closes, Doing, Lies, RegisterWrite, Rests, Runs, call, closes, cut_of, does_after, doing, register_write, runs}
+use Rattle.model.proofs.Width.{IsGood}
+use Rattle.laws.specs.{Closes, Doing, Lies, RegisterWrite, Rests, Runs, call, closes, cut_of, does_after, doing, register_write}
 use Rattle.laws.proofs.Cuts.{cut_is}
 use Rattle.laws.proofs.Frame.{Happens, a_call, a_closing, a_failure, a_restart, a_step, a_withdrawal, doing-goes, doing-other, may_fail}
 use Rattle.laws.proofs.FrameCuts.{LeftIn, remaining}
 use Rattle.laws.proofs.FrameEvents.{accepted}
 use Rattle.registers.specs.{RegisterName}
-use Rattle.world.proofs.WorldShows.{past-after}
-use Rattle.register_laws.specs.NumbersHeld.{HoldsNumber, InSettling, InWrite, Progress, Quiet, bit_of, is_field, number_after, number_by, number_settled, number_written, progress_at, progress_in, write_progress}
-use Rattle.register_laws.specs.RegisterLaws.{EndsSettling, WasInterrupted, before_failure}
+use Rattle.register_laws.specs.NumbersHeld.{HoldsNumber, InSettling, InWrite, Progress, Quiet, bit_of, is_field, number_after, number_by, number_written, progress_at, progress_in, write_progress}
+use Rattle.register_laws.specs.RegisterLaws.{WasInterrupted, before_failure}
 use Rattle.register_laws.specs.WorldRows.{register_row}
-use Rattle.register_laws.proofs.NumberSteps.{Fresh, torn-none, torn-some, torn_after, value-same, write-fresh}
-use Rattle.register_laws.proofs.NumbersAlways.{Each, access-is, left, may-fail, numbers-held, write-facts}
+use Rattle.register_laws.proofs.NumberSteps.{torn-none, torn-some, torn_after, value-same}
+use Rattle.register_laws.proofs.NumbersAlways.{access-is, left, may-fail, numbers-held, write-facts}
 
 -- NO SETTLING
 
@@ -118,9 +114,9 @@ module _ (s : Setup) (g : IsGood s) (events : List Event) (what : Event) (e : En
       let interrupted : WasInterrupted s past its bit bits = record { write = w; progress = progress; torn = torn } in
       let now : before_failure p (e ∷ past) ≡ past = fails-now failed in
       let number : number_after s its (e ∷ past) ≡ cut_values old (bit_of bits) bit =
-          own-number (InWrite bits w) progress
-          ∙ ap (λ y. number_written s.processes (record e { access = y }) bits w old) none
-          ∙ ap (cut_values old (bit_of bits)) torn in
+      own-number (InWrite bits w) progress
+      ∙ ap (λ y. number_written s.processes (record e { access = y }) bits w old) none
+      ∙ ap (cut_values old (bit_of bits)) torn in
       (bits, subst (λ x. WasInterrupted s x its bit bits) (sym now) interrupted, number ∙ ap (λ x. cut_values (number_after s its x) (bit_of bits) bit) (sym now))
 
   fails : (d : Doing) (command : Command) (number bit : ℕ) (t : Settling) → doing s p past ≡ d → may_fail d ≡ true → e.access ≡ None → has is_failed e ≡ true → progress_in s p f (Closes command number (cut_of s p d)) ≡ InSettling bit t → WasTorn s (e ∷ past) its bit
@@ -160,7 +156,7 @@ module _ (s : Setup) (g : IsGood s) (events : List Event) (what : Event) (e : En
   pub chosen : (field : Field) (bit : ℕ) (t : Settling) (flick : Bool) (a : Access) → progress_at s past its ≡ InSettling bit t → e.access ≡ Some a → a.how ≡ (copies.next_settle t (settled_at t flick)).how → settled_at t (value_written e) ≡ settled_at t flick
   chosen field bit t flick a was acc how =
       let holds : HoldsNumber (register_row s past its) (number_after s its past) (InSettling bit t) =
-          subst (HoldsNumber (register_row s past its) (number_after s its past)) was (numbers-held s events g its below) in
+      subst (HoldsNumber (register_row s past its) (number_after s its past)) was (numbers-held s events g its below) in
       ap (λ y. settled_at t (value_written (record e { access = y }))) acc
       ∙ ap (λ m. settled_at t (value_written (record e { access = Some (record a { how = m }) }))) how
       ∙ value-same t.value t.begun (copies.is_open_at t.made t.reader) flick holds.1
@@ -176,9 +172,9 @@ module _ (s : Setup) (g : IsGood s) (events : List Event) (what : Event) (e : En
       let was : progress_at s past its ≡ InSettling at u = ap (progress_in s p f) does ∙ ap (λ b. cond b (InSettling at u) Quiet) same.0 in
       let v-is : settled_at u (value_written e) ≡ settled_at u flick = chosen field at u flick n.access was acc (ap (λ (y : Access). y.how) (sym (access-is next))) in
       let number : number_after s its (e ∷ past) ≡ number_after s its past =
-          own-number (InSettling at u) was
-          ∙ ap (λ v. cond ((settle_after u v).reader == s.processes) (with_value (number_after s its past) at v) (number_after s its past)) v-is
-          ∙ ap (λ b. cond b (with_value (number_after s its past) at (settled_at u flick)) (number_after s its past)) last in
+      own-number (InSettling at u) was
+      ∙ ap (λ v. cond ((settle_after u v).reader == s.processes) (with_value (number_after s its past) at v) (number_after s its past)) v-is
+      ∙ ap (λ b. cond b (with_value (number_after s its past) at (settled_at u flick)) (number_after s its past)) last in
       let none : n.marks ≡ [] = sym (marks-are next) ∙ ap (λ b. cond b (settled_marks begun taken (settled_at u flick)) []) last in
       let unfailed : has is_failed e ≡ false = ap (list_any is_failed) marks ∙ ap (λ ms. list_any is_failed (map (placed (length (history s past))) ms)) none in
       subst (WasTorn s (e ∷ past) its) same.1 (torn-stays s past (e ∷ past) its at (failed-before unfailed) number (was-torn g its below at u was))
@@ -196,9 +192,9 @@ module _ (s : Setup) (g : IsGood s) (events : List Event) (what : Event) (e : En
       let lc : Command = last_command (own p past) in
       let ln : ℕ = call_number s (own p past) in
       let to : doing s p (e ∷ past) ≡ Closes lc ln (cut_of s p d) =
-          doing-goes s p e past refl
-          ∙ ap (λ ms. does_after s p (own p past) e (start_in ms) (doing s p past)) marks
-          ∙ ap (Closes lc ln) (cut_is s g events p (may-fail s events what e accepts marks none) ∙ ap (cut_of s p) does) in
+      doing-goes s p e past refl
+      ∙ ap (λ ms. does_after s p (own p past) e (start_in ms) (doing s p past)) marks
+      ∙ ap (Closes lc ln) (cut_is s g events p (may-fail s events what e accepts marks none) ∙ ap (cut_of s p) does) in
       fails d lc ln bit t does may none (ap (list_any is_failed) marks) (sym (ap (progress_in s p f) to) ∙ h)
   entry-tears was-torn bit t d then (a_restart was none marks goes) does after h = absurd (let x : Quiet ≡ InSettling bit t = sym (ap (progress_in s p f) (after ∙ goes)) ∙ h in cc)
   entry-tears was-torn bit t d then (a_step command number at a flick was over acc is marks goes) does after h =

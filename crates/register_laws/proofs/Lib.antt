@@ -6,6 +6,7 @@ pub mod ReadFronts
 pub mod ReadsKept
 pub mod ReadsReturn
 pub mod RowMoves
+pub mod RowRuns
 pub mod RowSteps
 pub mod SettledWrites
 pub mod WorldChanges

@@ -1,18 +1,15 @@
 -- In every state of a world each register holds its number: by what its owner does.
-use Rattle.std.proofs.Common.{◌≡◌, ◌≢◌, ℕ, ◌+◌, ◌*◌, ◌/◌, ◌<◌, ◌==◌, ◌&&◌, Bool, true, false, cond, List, [], ◌∷◌, ◌++◌, length, Option, None, Some, refl, sym, ap, ◌∙◌, subst, arith, inl, inr, eq-eqb, ne_eqb}
+use Rattle.std.proofs.Common.{◌≡◌, ◌≢◌, ℕ, ◌<◌, ◌==◌, ◌&&◌, Bool, true, false, cond, List, [], ◌∷◌, ◌++◌, length, Option, None, Some, refl, sym, ap, ◌∙◌, subst, inl, inr, eq-eqb, ne_eqb}
 use Rattle.std.proofs.lemmas.Bool.{cases_eq}
 use Rattle.std.specs.Prelude.{option_map}
-use Rattle.safe_bit.specs.Cell.{Cell}
-use Rattle.safe_bit.specs.{Move, is_of_write}
-use Rattle.safe_bit.specs.declared.moves.Move.TheVariants.{BeginWrite, EndWrite, BeginRead, EndRead, Settle}
-use Rattle.reader_copies.specs.{HasCell, IsAt, IsPartlyWritten, IsWritten, KeepsWrites, Settling, cut_values, next_settle, next_write, row_after, settle_after, settled_at, with_value}
+use Rattle.safe_bit.specs.{is_of_write}
+use Rattle.safe_bit.specs.declared.moves.Move.TheVariants.{BeginRead, EndRead}
+use Rattle.reader_copies.specs.{IsAt, Settling, next_settle, settle_after, settled_at}
 use Rattle.reader_copies.specs.Runs as copies
-use Rattle.reader_copies.proofs.Writing.{partly_written-kept, written-kept}
 use Rattle.safe_number.specs.{NumberWrite, new_write}
-use Rattle.safe_number.specs.Runs as numbers
 use Rattle.safe_number.proofs.Bits.{length-bits_of_number}
 use Rattle.plain_store.specs.{Command, Reply, Setup}
-use Rattle.model.specs.{Access, Call, Change, Closing, Ended, Entry, Event, Field, Frees, Next, Part, Past, Place, Quit, Reading, Run, Settles, TornBit, Withdraws, Writing, access_at, access_of, bit_written, added, call_number, closing_after, closing_next, copy, cut, ended, enter, entry_made, entry_of, failing, freeing, is_last, is_last_settled, is_last_written, is_over, is_read, last_call, last_command, named, next_written, no_ticket, own, part_after, refused_at, stage, stepped, marked, past-induction, past_of, place_after, process_of, run_after, start_in, torn_in, valued, value_of, value_written, width, write_moved, written_at}
+use Rattle.model.specs.{Access, Call, Closing, Ended, Entry, Event, Field, Frees, Next, Part, Past, Place, Quit, Reading, Run, Settles, Withdraws, Writing, access_at, access_of, bit_written, added, call_number, closing_after, closing_next, ended, enter, entry_made, entry_of, freeing, is_last, is_last_settled, is_over, is_read, last_command, next_written, no_ticket, own, part_after, refused_at, stage, past-induction, past_of, place_after, process_of, run_after, start_in, valued, value_of, width, write_moved, written_at}
 use Rattle.model.specs.Closings.{Lowers}
 use Rattle.model.specs.Parts.{Raises, Waits}
 use Rattle.model.specs.declared.access.Field.TheVariants.{Choosing, Ticket}
@@ -21,24 +18,20 @@ use Rattle.model.specs.declared.marks.Mark.TheVariants as mark
 use Rattle.model.specs.declared.marks.Mark.TheVariants.{Failed}
 use Rattle.model.proofs.World.{entry-accepted}
 use Rattle.model.proofs.Ties.{written-width}
-use Rattle.model.proofs.Width.{IsGood, is_good}
-use Rattle.laws.specs.{Closes, Doing, IsThere, Lies, RegisterWrite, Rests, Runs, call, cell_held, closes, cut_of, does_after, doing, register_write, runs}
+use Rattle.model.proofs.Width.{IsGood}
+use Rattle.laws.specs.{Closes, Doing, Lies, RegisterWrite, Rests, Runs, call, closes, cut_of, does_after, doing, register_write, runs}
 use Rattle.laws.proofs.ClosingWrites.{written_so_far}
 use Rattle.laws.proofs.Cuts.{cut_is}
 use Rattle.laws.proofs.Frame.{Happens, a_call, a_closing, a_failure, a_restart, a_step, a_withdrawal, doing-goes, doing-other, may_fail}
-use Rattle.laws.proofs.FrameCells.{EntryBy, field-same, makes, marks_only}
+use Rattle.laws.proofs.FrameCells.{EntryBy, makes, marks_only}
 use Rattle.laws.proofs.FrameCuts.{LeftIn, remaining, written-writes}
 use Rattle.laws.proofs.FrameEvents.{accepted}
 use Rattle.laws.proofs.FrameSteps.{entry-by, remaining-is, valued-write}
-use Rattle.laws.proofs.HeldThere.{access_there}
 use Rattle.registers.specs.{RegisterName}
-use Rattle.register_laws.specs.NumbersHeld.{HoldsNumber, InSettling, InWrite, Progress, Quiet, bit_of, is_field, number_after, number_by, progress_at, progress_in, write_progress}
-use Rattle.register_laws.specs.Rows.{made_of}
-use Rattle.register_laws.specs.WorldRows.{is_on, memory_at, register_row, row_after_entry, writes_on}
-use Rattle.register_laws.proofs.NumberSteps.{Fresh, Goes, cut-between, cut-inside, fresh-holds, holds-kept, settle-then, torn-none, torn-some, torn_after, value-same, write-fresh, write-step, write-then}
-use Rattle.register_laws.proofs.RowMoves.{row-length}
-use Rattle.register_laws.proofs.WorldChanges.{entry-keeps, on-itself, on-register, row-entry, row-has, row-held, row-inside}
-
+use Rattle.register_laws.specs.NumbersHeld.{HoldsNumber, InSettling, Progress, Quiet, is_field, number_after, number_by, progress_at, progress_in, write_progress}
+use Rattle.register_laws.specs.WorldRows.{is_on, register_row, writes_on}
+use Rattle.register_laws.proofs.NumberSteps.{Fresh, Goes, holds-kept, write-fresh}
+use Rattle.register_laws.proofs.WorldChanges.{entry-keeps, on-register, row-held, row-inside}
 use Rattle.register_laws.proofs.NumbersKept as kept
 use Rattle.register_laws.proofs.NumbersKept.{an-access, new-fresh, no-access, runs-fresh}
 

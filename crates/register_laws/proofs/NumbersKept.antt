@@ -1,41 +1,28 @@
 -- In every state of a world each register holds its number.
-use Rattle.std.proofs.Common.{◌≡◌, ◌≢◌, ℕ, ◌+◌, ◌*◌, ◌/◌, ◌<◌, ◌==◌, ◌&&◌, Bool, true, false, cond, List, [], ◌∷◌, ◌++◌, length, Option, None, Some, refl, sym, ap, ◌∙◌, subst, arith, inl, inr, eq-eqb, ne_eqb}
-use Rattle.std.proofs.lemmas.Bool.{cases_eq}
+use Rattle.std.proofs.Common.{◌≡◌, ℕ, ◌/◌, ◌<◌, ◌==◌, ◌&&◌, Bool, true, false, cond, List, [], ◌∷◌, length, Option, None, Some, refl, sym, ap, ◌∙◌, subst, arith}
 use Rattle.std.specs.Prelude.{option_map}
 use Rattle.safe_bit.specs.Cell.{Cell}
-use Rattle.safe_bit.specs.{Move, is_of_write}
-use Rattle.safe_bit.specs.declared.moves.Move.TheVariants.{BeginWrite, EndWrite, BeginRead, EndRead, Settle}
-use Rattle.reader_copies.specs.{HasCell, IsAt, IsPartlyWritten, IsWritten, KeepsWrites, Settling, cut_values, next_settle, next_write, row_after, settle_after, settled_at, with_value}
+use Rattle.safe_bit.specs.{is_of_write}
+use Rattle.reader_copies.specs.{HasCell, IsPartlyWritten, KeepsWrites, Settling, cut_values, next_settle, next_write, row_after, settle_after, settled_at, with_value}
 use Rattle.reader_copies.specs.Runs as copies
 use Rattle.reader_copies.proofs.Writing.{partly_written-kept, written-kept}
 use Rattle.safe_number.specs.{NumberWrite, new_write}
 use Rattle.safe_number.specs.Runs as numbers
-use Rattle.safe_number.proofs.Bits.{length-bits_of_number}
-use Rattle.plain_store.specs.{Command, Reply, Setup}
-use Rattle.model.specs.{Access, Call, Change, Closing, Ended, Entry, Event, Field, Frees, Next, Part, Past, Place, Quit, Reading, Run, Settles, TornBit, Withdraws, Writing, access_at, access_of, bit_written, call_number, closing_after, closing_next, copy, cut, ended, enter, entry_of, failing, freeing, is_last, is_last_settled, is_last_written, is_over, is_read, last_call, last_command, named, next_written, no_ticket, own, part_after, past-induction, past_of, place_after, run_after, start_in, torn_in, valued, value_of, value_written, width, write_moved, written_at}
-use Rattle.model.specs.Closings.{Lowers}
-use Rattle.model.specs.Parts.{Raises, Waits}
-use Rattle.model.specs.declared.access.Field.TheVariants.{Choosing, Ticket}
-use Rattle.model.specs.declared.events.Event.TheVariants as event
-use Rattle.model.specs.declared.marks.Mark.TheVariants.{Failed}
-use Rattle.model.proofs.Ties.{written-width}
-use Rattle.model.proofs.Width.{IsGood, is_good}
-use Rattle.laws.specs.{Closes, Doing, IsThere, Lies, RegisterWrite, Rests, Runs, call, cell_held, closes, cut_of, doing, register_write, runs}
-use Rattle.laws.proofs.ClosingWrites.{written_so_far}
-use Rattle.laws.proofs.Cuts.{cut_is}
-use Rattle.laws.proofs.Frame.{Happens, a_call, a_closing, a_failure, a_restart, a_step, a_withdrawal, doing-goes, doing-other, may_fail}
-use Rattle.laws.proofs.FrameCells.{EntryBy, field-same, makes, marks_only}
-use Rattle.laws.proofs.FrameCuts.{LeftIn, remaining, written-writes}
+use Rattle.plain_store.specs.{Command, Setup}
+use Rattle.model.specs.{Access, Call, Change, Entry, Event, Field, Part, Past, Reading, TornBit, Writing, access_of, bit_written, cut, enter, entry_of, is_over, is_read, named, next_written, no_ticket, past_of, torn_in, value_written, width, write_moved, written_at}
+use Rattle.model.specs.declared.access.Field.TheVariants.{Ticket}
+use Rattle.model.proofs.Width.{IsGood}
+use Rattle.laws.specs.{Closes, IsThere, Rests, Runs, call, runs}
+use Rattle.laws.proofs.FrameCells.{field-same}
 use Rattle.laws.proofs.FrameEvents.{accepted}
-use Rattle.laws.proofs.FrameSteps.{entry-by, remaining-is, valued-write}
 use Rattle.laws.proofs.HeldThere.{access_there}
 use Rattle.registers.specs.{RegisterName}
-use Rattle.register_laws.specs.NumbersHeld.{HoldsNumber, InSettling, InWrite, Progress, Quiet, bit_of, is_field, number_after, number_by, progress_at, progress_in, write_progress}
+use Rattle.register_laws.specs.NumbersHeld.{HoldsNumber, InSettling, InWrite, Progress, Quiet, bit_of, is_field, number_after, number_by, progress_in, write_progress}
 use Rattle.register_laws.specs.Rows.{made_of}
 use Rattle.register_laws.specs.WorldRows.{is_on, memory_at, register_row, row_after_entry, writes_on}
-use Rattle.register_laws.proofs.NumberSteps.{Fresh, Goes, cut-between, cut-inside, fresh-holds, holds-kept, settle-then, torn-none, torn-some, torn_after, value-same, write-fresh, write-step, write-then}
+use Rattle.register_laws.proofs.NumberSteps.{Fresh, Goes, cut-between, cut-inside, fresh-holds, settle-then, torn-none, torn-some, torn_after, value-same, write-fresh, write-step, write-then}
 use Rattle.register_laws.proofs.RowMoves.{row-length}
-use Rattle.register_laws.proofs.WorldChanges.{entry-keeps, on-itself, on-register, row-entry, row-has, row-held, row-inside}
+use Rattle.register_laws.proofs.WorldChanges.{entry-keeps, on-itself, row-entry, row-has, row-inside}
 
 -- A PROCESS THAT BEGINS SOMETHING
 
@@ -146,7 +133,7 @@ module _ (s : Setup) (g : IsGood s) (events : List Event) (what : Event) (e : En
           let there : HasCell row w.bit ((bit_written bits w).made / 2) = row-has s g past its w.bit ((bit_written bits w).made / 2) below in-row (omega (arith, goes.made)) in
           let step = write-step row old n bits w long there goes h in
           let number : number_by n e (InWrite bits w) old ≡ cond (moved.bit == w.width) (bit_of bits) old =
-              ap (λ y. elim y as (λ _. ℕ → Bool) [ Some a ↦ cond (moved.bit == w.width) (bit_of bits) old | None ↦ cut_values old (bit_of bits) w.bit ]) acc in
+          ap (λ y. elim y as (λ _. ℕ → Bool) [ Some a ↦ cond (moved.bit == w.width) (bit_of bits) old | None ↦ cut_values old (bit_of bits) w.bit ]) acc in
           subst (λ v. HoldsNumber now v x) (sym number)
           (write-then now old n bits w x (λ bit reader has. omega (arith, broad, (row-inside s g (e ∷ past) its bit reader below has).0))
           (subst (λ m. IsPartlyWritten m old (bit_of bits) moved.bit (bit_written bits moved).made) (sym after) step)
@@ -186,9 +173,9 @@ module _ (s : Setup) (g : IsGood s) (events : List Event) (what : Event) (e : En
           let after : now ≡ row_after row bit (next_settle t v) = row-made a acc on-it ∙ ap (λ (y : Access). row_after row y.bit (made_of y)) same in
           let has : HasCell row bit t.reader = row-has s g past its bit t.reader below (subst (λ k. bit < width s k) here there.bit) there.reader in
           let chosen : settled_at t (value_written e) ≡ v =
-              ap (λ y. settled_at t (value_written (record e { access = y }))) acc
-              ∙ ap (λ (y : Access). settled_at t (value_written (record e { access = Some y }))) same
-              ∙ value-same t.value t.begun (copies.is_open_at t.made t.reader) flick h.1 in
+          ap (λ y. settled_at t (value_written (record e { access = y }))) acc
+          ∙ ap (λ (y : Access). settled_at t (value_written (record e { access = Some y }))) same
+          ∙ value-same t.value t.begun (copies.is_open_at t.made t.reader) flick h.1 in
           subst (λ u. HoldsNumber now (cond ((settle_after t u).reader == n) (with_value old bit u) old) x) (sym chosen)
           (subst (λ m. HoldsNumber m (cond last (with_value old bit v) old) x) (sym after)
           (settle-then row old n bit t flick x long has h.0 over (next true is)))
@@ -221,7 +208,7 @@ module _ (s : Setup) (g : IsGood s) (events : List Event) (what : Event) (e : En
           let fact = facts run is in
           let torn : numbers.torn_bit w ≡ Some (w.bit, torn_after run.made) = torn-some w run is fact.0 fact.1 in
           let after : to (torn_in field w) ≡ cond b (InSettling w.bit (torn_after run.made)) Quiet =
-              ap (λ t. to (option_map (named field) t)) torn ∙ ap (λ k. cond k (InSettling w.bit (torn_after run.made)) Quiet) on in
+          ap (λ t. to (option_map (named field) t)) torn ∙ ap (λ k. cond k (InSettling w.bit (torn_after run.made)) Quiet) on in
           subst (HoldsNumber now (number_by n e (cond b (InWrite bits w) Quiet) old)) (sym after) (settles b run is h)
         where
           settles : (b : Bool) (run : copies.Writing) → w.run ≡ Some run → HoldsNumber row old (cond b (InWrite bits w) Quiet) → HoldsNumber now (number_by n e (cond b (InWrite bits w) Quiet) old) (cond b (InSettling w.bit (torn_after run.made)) Quiet)

@@ -1,12 +1,11 @@
 -- The interval of a read: its last entries, and the past in which it began.
-use Rattle.std.proofs.Common.{◌≡◌, ◌≢◌, ℕ, zero, suc, ◌+◌, ◌*◌, ◌<◌, ◌==◌, ◌||◌, ◌⊎◌, Bool, true, false, not, cond, List, [], ◌∷◌, ◌++◌, length, Option, None, Some, is_none, refl, sym, ap, ◌∙◌, subst, arith, inl, inr, eq-eqb, ne_eqb, eqb-true, length-append}
+use Rattle.std.proofs.Common.{◌≡◌, ◌≢◌, ℕ, suc, ◌+◌, ◌*◌, ◌==◌, ◌||◌, ◌⊎◌, Bool, true, false, not, cond, List, [], ◌∷◌, ◌++◌, length, Option, None, Some, is_none, refl, sym, ap, ◌∙◌, subst, arith, inl, inr, eq-eqb, ne_eqb, eqb-true, length-append}
 use Rattle.std.specs.Prelude.{nat_lt}
 use Rattle.std.specs.List.{list_any}
 use Rattle.safe_bit.specs.Cell.{Cell}
 use Rattle.reader_copies.specs.{IsAt, IsWritten, cut_values}
 use Rattle.reader_copies.specs.Row as rows
 use Rattle.reader_copies.specs.Runs as copies
-use Rattle.safe_number.specs.{NumberWrite}
 use Rattle.plain_store.specs.{Setup}
 use Rattle.model.specs.{Entry, Past, is_unwritten}
 use Rattle.laws.proofs.Theorems.{less}
@@ -78,8 +77,8 @@ own-earlier s past p read later e same register one u =
     let k : ℕ = accesses_of_read read in
     let before : before_read p later (e ∷ past) ≡ before_read p read past = ap (λ n. before_own p n (e ∷ past)) one ∙ before-step p k e past same in
     let during : list_any (writes_on read.register) (e ∷ since_own p k past) ≡ false =
-        ap (list_any (writes_on read.register)) (sym (since-step p k e past same)) ∙ ap (λ n. list_any (writes_on read.register) (since_own p n (e ∷ past))) (sym one)
-        ∙ ap (λ q. list_any (writes_on q) (since_own p (accesses_of_read later) (e ∷ past))) (sym register) ∙ u.during in
+    ap (list_any (writes_on read.register)) (sym (since-step p k e past same)) ∙ ap (λ n. list_any (writes_on read.register) (since_own p n (e ∷ past))) (sym one)
+    ∙ ap (λ q. list_any (writes_on q) (since_own p (accesses_of_read later) (e ∷ past))) (sym register) ∙ u.during in
     let two = either-false (writes_on read.register e) (list_any (writes_on read.register) (since_own p k past)) during in
     record {
       before = before;
@@ -91,9 +90,9 @@ own-earlier s past p read later e same register one u =
 pub other-earlier : (s : Setup) (past : Past) (p m : ℕ) (read : RegisterRead) (e : Entry) → e.process ≢ p → accesses_of_read read ≡ suc m → IsUnoverlapped s (e ∷ past) p read → Earlier s past p read read e
 other-earlier s past p m read e apart some u =
     let before : before_read p read (e ∷ past) ≡ before_read p read past =
-        ap (λ n. before_own p n (e ∷ past)) some ∙ before-other p m e past apart ∙ ap (λ n. before_own p n past) (sym some) in
+    ap (λ n. before_own p n (e ∷ past)) some ∙ before-other p m e past apart ∙ ap (λ n. before_own p n past) (sym some) in
     let since : since_own p (accesses_of_read read) (e ∷ past) ≡ e ∷ since_own p (accesses_of_read read) past =
-        ap (λ n. since_own p n (e ∷ past)) some ∙ since-other p m e past apart ∙ ap (λ n. e ∷ since_own p n past) (sym some) in
+    ap (λ n. since_own p n (e ∷ past)) some ∙ since-other p m e past apart ∙ ap (λ n. e ∷ since_own p n past) (sym some) in
     let two = either-false (writes_on read.register e) (list_any (writes_on read.register) (since_own p (accesses_of_read read) past)) (ap (list_any (writes_on read.register)) (sym since) ∙ u.during) in
     record {
       before = before;
@@ -113,8 +112,10 @@ new-or read = go read.bits refl read.begun refl
     go [] none false fresh = inl (λ i. record { register = read.register; bits = none i; begun = fresh i })
     go bits some true begun = inr (2 * length read.bits, ap (λ b. 2 * length read.bits + cond b 1 0) begun ∙ (let e : 2 * length read.bits + 1 ≡ suc (2 * length read.bits) = omega arith in e))
     go (b ∷ bits) some false fresh =
-        inr (2 * length bits + 1,
-        (λ i. 2 * length (some i) + cond (fresh i) 1 0) ∙ (let e : 2 * suc (length bits) + 0 ≡ suc (2 * length bits + 1) = omega arith in e))
+        inr (
+          2 * length bits + 1,
+          (λ i. 2 * length (some i) + cond (fresh i) 1 0) ∙ (let e : 2 * suc (length bits) + 0 ≡ suc (2 * length bits + 1) = omega arith in e),
+        )
 
 -- one more access of a read
 pub one-more : (bits : List Bool) (begun v : Bool) → 2 * length (cond begun (bits ++ v ∷ []) bits) + cond (cond begun false true) 1 0 ≡ suc (2 * length bits + cond begun 1 0)

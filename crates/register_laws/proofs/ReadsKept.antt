@@ -1,43 +1,30 @@
 -- A read of a register that no write overlaps reads its number.
-use Rattle.std.proofs.Common.{◌≡◌, ◌≢◌, ℕ, zero, suc, ◌+◌, ◌*◌, ◌<◌, ◌==◌, ◌&&◌, ◌⊎◌, Bool, true, false, not, cond, List, [], ◌∷◌, ◌++◌, get_or, length, map, Option, None, Some, Ok, refl, sym, ap, ◌∙◌, subst, arith, inl, inr, length-append, eqb-true}
-use Rattle.std.proofs.lemmas.Bool.{cases_eq}
+use Rattle.std.proofs.Common.{◌≡◌, ◌≢◌, ℕ, ◌<◌, ◌&&◌, Bool, true, false, cond, List, [], ◌∷◌, ◌++◌, get_or, length, map, Some, Ok, refl, sym, ap, ◌∙◌, subst}
 use Rattle.std.proofs.lemmas.List.{get_or-set_other}
 use Rattle.safe_bit.specs.Cell.{Cell, read_answer, without_read}
-use Rattle.safe_bit.specs.{Move, is_of_write}
+use Rattle.safe_bit.specs.{is_of_write}
 use Rattle.safe_bit.specs.declared.moves.Move.TheVariants.{BeginRead, EndRead}
-use Rattle.reader_copies.specs.{HasCell, IsWritten, Made, cell_in, next_read, row_after}
+use Rattle.reader_copies.specs.{IsWritten, cell_in, next_read, row_after}
 use Rattle.reader_copies.specs.Row as rows
 use Rattle.reader_copies.proofs.Writing.{with_cell-other, written-kept}
-use Rattle.safe_number.specs.{IsUndisturbed, NumberRead, bit_read, first_bits, loaded, number_of_bits, number_read_after}
-use Rattle.safe_number.proofs.Bits.{number-fits}
+use Rattle.safe_number.specs.{IsUndisturbed, NumberRead, bit_read, loaded, number_read_after}
 use Rattle.safe_number.proofs.WrittenSteps.{undisturbed-on, undisturbed-start}
 use Rattle.plain_store.specs.{Command, Setup, checked}
-use Rattle.model.specs.{Access, Call, Closing, Entry, Event, Field, Part, Past, Place, Reading, Run, Writing, access_at, ended, enter, entry_of, is_last, is_over, is_read, new_run, part_after, past-induction, past_of, place_after, read_at, run_after, valued, value_of, width}
-use Rattle.model.specs.Parts.{Raises}
+use Rattle.model.specs.{Access, Call, Entry, Event, Part, Past, Reading, access_at, ended, entry_of, past_of, read_at, valued, value_of, width}
 use Rattle.model.proofs.Width.{IsGood, is_good}
-use Rattle.laws.specs.{Closes, Doing, IsThere, Lies, Rests, Runs, call, closes, doing, runs}
-use Rattle.laws.proofs.Always.{inv_of}
-use Rattle.laws.proofs.Frame.{Happens, a_call, a_closing, a_failure, a_restart, a_step, a_withdrawal, doing-other}
+use Rattle.laws.specs.{IsThere, call}
 use Rattle.laws.proofs.FrameCells.{EntryBy, makes, marks_only}
-use Rattle.laws.proofs.FrameCuts.{LeftIn, remaining}
-use Rattle.laws.proofs.FrameEvents.{accepted}
-use Rattle.laws.proofs.FrameSteps.{entry-by, remaining-is}
-use Rattle.laws.proofs.HeldOwners.{OwnersAt, owner-there, owners_there}
-use Rattle.laws.proofs.AtPlaces.{AtPlace}
+use Rattle.laws.proofs.FrameSteps.{entry-by}
 use Rattle.laws.proofs.HeldThere.{access_there}
-use Rattle.laws.proofs.Theorems.{is_process}
-use Rattle.model.specs.{own}
-use Rattle.registers.specs.{RegisterName, answered, cell_at, lane_number}
+use Rattle.registers.specs.{RegisterName, cell_at, lane_number}
 use Rattle.world.proofs.WorldRegisters.{answers}
-use Rattle.world.proofs.WorldShows.{past-after}
 use Rattle.register_laws.specs.NumbersHeld.{HoldsNumber, number_after, progress_at}
-use Rattle.register_laws.specs.RegisterLaws.{EndsRead, IsUnoverlapped, RegisterRead, accesses_of_read, before_own, before_read, bits_returned, current_read, ends_read, has_begun, read_in}
+use Rattle.register_laws.specs.RegisterLaws.{IsUnoverlapped, RegisterRead, before_read}
 use Rattle.register_laws.specs.Rows.{made_of}
 use Rattle.register_laws.specs.WorldRows.{is_on, memory_at, register_row, row_after_entry, writes_on}
-use Rattle.register_laws.proofs.NumbersAlways.{Each, numbers-held}
-use Rattle.register_laws.proofs.ReadFronts.{Earlier, new-or, new_at, one-more, other-earlier, own-earlier, quiet-written}
+use Rattle.register_laws.proofs.ReadFronts.{new_at, quiet-written}
 use Rattle.register_laws.proofs.RowMoves.{row-cell}
-use Rattle.register_laws.proofs.WorldChanges.{both, entry-keeps, on-itself, on-register, row-entry, row-has}
+use Rattle.register_laws.proofs.WorldChanges.{entry-keeps, on-itself, row-entry, row-has}
 
 -- the read as one of a register
 abbrev pub number_read : RegisterRead → NumberRead
@@ -89,12 +76,13 @@ pub other-read : (s : Setup) → IsGood s → (events : List Event) (what : Even
 other-read s g events what e accepts p read v owner apart quiet h =
     let past : Past = past_of s events in
     let r : RegisterName = read.register in
-    let kept = entry-keeps s g events what e accepts r owner quiet in
-    (written-kept (register_row s past r) (register_row s (e ∷ past) r) v kept h.0,
-    record {
-      so_far = h.1.so_far;
-      untouched = λ has begun. ap (λ (c : Cell). c.touched) (cell-apart s g events what e accepts r (length read.bits) p owner apart quiet) ∙ h.1.untouched (kept.shape (length read.bits) p has) begun;
-    })
+    let kept = entry-keeps s g events what e accepts r owner quiet in (
+      written-kept (register_row s past r) (register_row s (e ∷ past) r) v kept h.0,
+      record {
+        so_far = h.1.so_far;
+        untouched = λ has begun. ap (λ (c : Cell). c.touched) (cell-apart s g events what e accepts r (length read.bits) p owner apart quiet) ∙ h.1.untouched (kept.shape (length read.bits) p has) begun;
+      },
+    )
 
 -- AN ACCESS OF THE READ
 
@@ -127,11 +115,12 @@ reads-only false v = refl
 
 pub read-step : (s : Setup) → checked s ≡ Ok tt → (events : List Event) (what : Event) (e : Entry) → entry_of s (past_of s events) what ≡ Some e → (a : Access) (read : RegisterRead) (v : ℕ → Bool) → ReadStep s (past_of s events) e a read →
     HasRead s (past_of s events) e.process read v → HasRead s (e ∷ past_of s events) e.process (read_on read (value_of a.how)) v
-read-step s ok events what e accepts a read v st h =
-    (written-kept row now v (entry-keeps s g events what e accepts r owner quiet) h.0,
-    subst (λ (x : NumberRead). IsUndisturbed now v p x) (value-is read.bits read.begun u ∙ ap (λ m. record { width = 0; bits = cond read.begun (read.bits ++ value_of m ∷ []) read.bits; begun = cond read.begun false true; room = 0 }) (sym how))
-    (subst (λ m. IsUndisturbed m v p (number_read_after (number_read read) u)) (sym after)
-    (undisturbed-on row v p (number_read read) st.flick (row-has s g past r (length read.bits) p owner wide there.reader) h.0 h.1)))
+read-step s ok events what e accepts a read v st h = (
+  written-kept row now v (entry-keeps s g events what e accepts r owner quiet) h.0,
+  subst (λ (x : NumberRead). IsUndisturbed now v p x) (value-is read.bits read.begun u ∙ ap (λ m. record { width = 0; bits = cond read.begun (read.bits ++ value_of m ∷ []) read.bits; begun = cond read.begun false true; room = 0 }) (sym how))
+      (subst (λ m. IsUndisturbed m v p (number_read_after (number_read read) u)) (sym after)
+      (undisturbed-on row v p (number_read read) st.flick (row-has s g past r (length read.bits) p owner wide there.reader) h.0 h.1)),
+)
   where
     g : IsGood s
     g = is_good s ok

@@ -1,12 +1,11 @@
 -- In every state of a world, and for each read that ends: what a read of a register has read.
-use Rattle.std.proofs.Common.{◌≡◌, ◌≢◌, ℕ, suc, ◌+◌, ◌*◌, ◌^◌, ◌<◌, ◌==◌, ◌&&◌, ◌⊎◌, Bool, true, false, cond, List, [], ◌∷◌, ◌++◌, length, Option, None, Some, Ok, refl, sym, ap, ◌∙◌, subst, arith, inl, inr, length-append, eqb-true}
+use Rattle.std.proofs.Common.{◌≡◌, ◌≢◌, ℕ, suc, ◌+◌, ◌^◌, ◌<◌, ◌⊎◌, Bool, true, false, cond, List, [], ◌∷◌, length, None, Some, Ok, refl, sym, ap, ◌∙◌, subst, arith, inl, inr, length-append, eqb-true}
 use Rattle.std.proofs.lemmas.Bool.{cases_eq}
 use Rattle.safe_number.specs.{first_bits, number_of_bits}
 use Rattle.safe_number.proofs.Bits.{number-fits}
 use Rattle.plain_store.specs.{Command, Setup, checked}
-use Rattle.model.specs.{Access, Call, Closing, Ended, Entry, Event, Frees, Part, Past, Place, Quit, Reading, Run, Settles, Withdraws, Writing, access_at, bits_with, closing_after, enter, entry_of, is_last, is_over, is_read, own, part_after, past-induction, past_of, place_after, read_at, run_after, valued, value_of, width, written_at}
+use Rattle.model.specs.{Access, Call, Closing, Ended, Entry, Event, Frees, Part, Past, Place, Quit, Reading, Run, Settles, Withdraws, Writing, access_at, bits_with, closing_after, enter, entry_of, is_last, is_over, is_read, own, part_after, past-induction, past_of, read_at, run_after, valued, value_of, width, written_at}
 use Rattle.model.specs.Closings.{Lowers}
-use Rattle.model.specs.Parts.{Raises}
 use Rattle.model.specs.safe_number.{new_write}
 use Rattle.model.proofs.Width.{IsGood, is_good}
 use Rattle.laws.specs.{Closes, Doing, Lies, Rests, Runs, call, closes, doing, runs}
@@ -18,9 +17,8 @@ use Rattle.laws.proofs.FrameSteps.{remaining-is}
 use Rattle.laws.proofs.HeldOwners.{OwnersAt, owner-there, owners_there}
 use Rattle.registers.specs.{RegisterName}
 use Rattle.world.proofs.WorldShows.{past-after}
-use Rattle.register_laws.specs.NumbersHeld.{HoldsNumber, number_after, progress_at}
-use Rattle.register_laws.specs.RegisterLaws.{EndsRead, IsUnoverlapped, RegisterRead, accesses_of_read, before_read, bits_returned, current_read, ends_read, read_in}
-use Rattle.register_laws.specs.WorldRows.{register_row}
+use Rattle.register_laws.specs.NumbersHeld.{number_after}
+use Rattle.register_laws.specs.RegisterLaws.{EndsRead, IsUnoverlapped, RegisterRead, accesses_of_read, before_read, bits_returned, current_read, read_in}
 use Rattle.register_laws.proofs.NumbersAlways.{Each, numbers-held}
 use Rattle.register_laws.proofs.ReadFronts.{Earlier, new-or, new_at, one-more, other-earlier, own-earlier}
 use Rattle.register_laws.proofs.ReadsKept.{HasRead, ReadStep, new-read, other-read, read-step, read_number, read_on}
@@ -105,7 +103,7 @@ after-place s past e later command number part (Reading bits begun) a false goin
     let c : Call = call s e.process command number in
     let read : RegisterRead = record { register = read_register c part; bits = bits; begun = begun } in
     let is : Some (read_on read (value_of a.how)) ≡ Some later =
-        sym (ap (λ b. current_read s e.process (cond b Rests (Runs command number (record { part = part; run = run_after c part (Reading bits begun) (value_of a.how) })))) going) ∙ h in
+    sym (ap (λ b. current_read s e.process (cond b Rests (Runs command number (record { part = part; run = run_after c part (Reading bits begun) (value_of a.how) })))) going) ∙ h in
     inr (a, read, ap (current_read s e.process) was, acc, sym (some-read is))
 
 closing-none : (s : Setup) (p : ℕ) (command : Command) (number : ℕ) (at : Closing) → current_read s p (closes command number at) ≡ None
@@ -174,7 +172,7 @@ module _ (s : Setup) (ok : checked s ≡ Ok tt) (events : List Event) (what : Ev
           let before : HasRead s past e.process read (read_number s past e.process read) = was ok e.process read reads earlier.unoverlapped in
           let step : StepOf s past e a read = step-of s past e a read (doing s e.process past) (doing s e.process (e ∷ past)) (accepted s g events what e accepts).happens reads acc in
           let same : read_number s past e.process read ≡ read_number s (e ∷ past) e.process later =
-              ap (number_after s read.register) (sym earlier.before) ∙ ap (λ q. number_after s q (before_read e.process later (e ∷ past))) (sym (ap (λ (x : RegisterRead). x.register) is)) in
+          ap (number_after s read.register) (sym earlier.before) ∙ ap (λ q. number_after s q (before_read e.process later (e ∷ past))) (sym (ap (λ (x : RegisterRead). x.register) is)) in
           subst (HasRead s (e ∷ past) e.process later) same
           (subst (λ x. HasRead s (e ∷ past) e.process x (read_number s past e.process read)) (sym is) (read-step s ok events what e accepts a read (read_number s past e.process read) step before))
 

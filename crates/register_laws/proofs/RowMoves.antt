@@ -10,7 +10,6 @@ use Rattle.reader_copies.specs.{cell_in}
 use Rattle.reader_copies.specs.Row as rows
 use Rattle.reader_copies.proofs.Flags.{made-set}
 use Rattle.safe_number.proofs.Numbers.{range_same}
-use Rattle.model.specs.{Field}
 use Rattle.registers.specs.{RegisterName, cell_at, field_numbered, lane_number, lane_of, memory_moved, register_number, without_reads}
 use Rattle.registers.specs.Rows.{row_of}
 use Rattle.registers.proofs.Openings.{lane-field, number-small}

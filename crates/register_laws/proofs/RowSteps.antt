@@ -1,20 +1,18 @@
 -- A step of a cursor is a step on the row of its register.
-use Rattle.std.proofs.Common.{◌≡◌, ◌≢◌, ℕ, ◌+◌, ◌*◌, ◌<◌, ◌==◌, ◌&&◌, ◌||◌, Bool, true, false, not, cond, List, [], ◌∷◌, ◌++◌, get_or, length, Option, None, Some, unwrap_or, is_some, refl, sym, ap, ◌∙◌, subst, arith, length-append}
+use Rattle.std.proofs.Common.{◌≡◌, ℕ, ◌+◌, ◌<◌, ◌==◌, ◌&&◌, ◌||◌, Bool, true, false, not, cond, List, [], ◌∷◌, ◌++◌, get_or, length, Option, None, Some, unwrap_or, is_some, refl, sym, ap, ◌∙◌, subst, arith, length-append}
 use Rattle.std.proofs.lemmas.Bool.{eq-eqb, ne_eqb}
 use Rattle.std.proofs.lemmas.List.FromFn.{get_or-map-range_with_len}
 use Rattle.safe_bit.specs.Cell.{Cell, read_answer}
-use Rattle.safe_bit.specs.{Move}
 use Rattle.safe_bit.specs.declared.moves.Move.TheVariants.{BeginWrite, EndWrite, BeginRead, EndRead, Settle}
 use Rattle.reader_copies.specs.{Made, Settling, Writing, next_settle, next_write, row_after, settle_after, settled_at}
 use Rattle.reader_copies.specs.Row as rows
 use Rattle.reader_copies.specs.Runs as copies
 use Rattle.safe_number.specs.{NumberRead, NumberWrite, bit_in, bit_read, bit_write, bits_in, loaded, number_read_after, number_write_after, write_on}
 use Rattle.safe_number.specs.Runs as number
-use Rattle.model.specs.{Access, bit_written, ended, next_written, value_of}
-use Rattle.registers.specs.{CursorState, Fits, IsAtCopy, RegisterAccessKind, RegisterName, after_by, bit_begun, cell_at, cursor_after, ends_copy, ends_settling, is_over, lane_number, made_of_bit, move_by, next_answered, read_after, read_move, settling, settling_kept, value_written, write_after, write_kept, write_move}
-use Rattle.registers.specs.Rows.{row_of}
-use Rattle.registers.specs.declared.cursor.RegisterAccessKind.TheVariants.{Reads, Writes, Settles}
-use Rattle.registers.proofs.Kept.{bit-kept, next-kept, write-kept}
+use Rattle.model.specs.{Access, bit_written, ended, value_of}
+use Rattle.registers.specs.{CursorState, Fits, IsAtCopy, after_by, bit_begun, cell_at, cursor_after, ends_copy, ends_settling, is_over, lane_number, made_of_bit, move_by, next_answered, read_after, read_move, settling, settling_kept, value_written, write_after, write_kept, write_move}
+use Rattle.registers.specs.declared.cursor.RegisterAccessKind.TheVariants.{Writes, Settles}
+use Rattle.registers.proofs.Kept.{next-kept, write-kept}
 use Rattle.register_laws.specs.Rows.{HasNext, IsAtRead, IsAtSettling, IsAtWrite, StepIsOnItsRow, StepKeepsOtherRows, StepsAsRead, StepsAsSettling, StepsAsWrite, made_of, memory_after, row_at}
 use Rattle.register_laws.proofs.RowMoves.{row-cell, row-length, row-moved, row-stays}
 
@@ -50,14 +48,14 @@ write-access : (memory : List (List Cell)) (c : CursorState) (flick : Bool) → 
 write-access memory c flick run first =
     let copy : c.reader + c.copy ≡ c.copy = omega (arith, first) in
     let how : ended (answer c memory flick) (move_by c.run c flick) ≡ write_move c =
-        ap (λ r. ended (answer c memory flick) (move_by r c flick)) run ∙ ended-write (answer c memory flick) (get_or c.bits c.bit false) c.begun in
+    ap (λ r. ended (answer c memory flick) (move_by r c flick)) run ∙ ended-write (answer c memory flick) (get_or c.bits c.bit false) c.begun in
     λ i. record { reader = copy i; how = how i }
 
 -- the write of the present bit
 bit-write : (c : CursorState) (value : List ℕ) → bits_in value c.width ≡ c.bits → c.bit < c.width → bit_write value (write_kept c) ≡ bit_written c.bits (write_kept c)
 bit-write c value bits inside =
     let same : bit_in value c.bit ≡ get_or c.bits c.bit false =
-        sym (get_or-map-range_with_len (bit_in value) 0 c.width c.bit c.bit false inside (omega arith)) ∙ ap (λ l. get_or l c.bit false) bits in
+    sym (get_or-map-range_with_len (bit_in value) 0 c.width c.bit c.bit false inside (omega arith)) ∙ ap (λ l. get_or l c.bit false) bits in
     let fresh : Bool → Writing = λ v. record { value = v; made = 0; ended = false } in
     ap (λ v. unwrap_or (write_kept c).run (fresh v)) same
 
@@ -76,7 +74,7 @@ write-steps memory c value flick h run bits =
     let made : made_of (next_answered c memory flick) ≡ next_write (bit_write value (write_kept c)) = write-access memory c flick run first ∙ write-made c value bits h.going in
     let after : cursor_after c (next_answered c memory flick).how ≡ write_after c = λ i. after_by (run i) c (next_answered c memory flick).how in
     let kept : number_write_after (length (row_at c memory)) value (write_kept c) ≡ write_kept (write_after c) =
-        ap (λ n. number_write_after n value (write_kept c)) (row-length c.copies memory c.register) ∙ write-after c value bits h.going (omega (arith, h.fits.copy, first)) in
+    ap (λ n. number_write_after n value (write_kept c)) (row-length c.copies memory c.register) ∙ write-after c value bits h.going (omega (arith, h.fits.copy, first)) in
     record {
       bit = refl;
       made = made;
@@ -109,12 +107,12 @@ reads memory c r flick h at =
     let here : length r.bits ≡ c.bit = ap length at.bits ∙ at.bit in
     let v : Bool = loaded (row_at c memory) c.reader r flick in
     let value : answer c memory flick ≡ v =
-        sym (ap (λ k. read_answer (rows.cell_at (row_at c memory) k c.reader) flick) here
-        ∙ ap (λ x. read_answer x flick) (row-cell c.copies memory c.register c.bit c.reader (omega (arith, h.fits.copy)))
-        ∙ ap (λ k. read_answer (cell_at memory (lane_number c.copies c.register k) c.bit) flick) (sym reader)) in
+    sym (ap (λ k. read_answer (rows.cell_at (row_at c memory) k c.reader) flick) here
+    ∙ ap (λ x. read_answer x flick) (row-cell c.copies memory c.register c.bit c.reader (omega (arith, h.fits.copy)))
+    ∙ ap (λ k. read_answer (cell_at memory (lane_number c.copies c.register k) c.bit) flick) (sym reader)) in
     let a : Access = next_answered c memory flick in
     let how : a.how ≡ cond c.begun (EndRead v) BeginRead =
-        ap (λ k. ended (answer c memory flick) (move_by k c flick)) at.run ∙ ended-read (answer c memory flick) flick c.begun ∙ ap (λ x. cond c.begun (EndRead x) BeginRead) value in
+    ap (λ k. ended (answer c memory flick) (move_by k c flick)) at.run ∙ ended-read (answer c memory flick) flick c.begun ∙ ap (λ x. cond c.begun (EndRead x) BeginRead) value in
     let made : made_of a ≡ copies.next_read c.reader (bit_read r) v = λ i. record { reader = reader i; how = (how ∙ ap (λ b. cond b (EndRead v) BeginRead) (sym at.begun)) i } in
     let after : cursor_after c a.how ≡ read_after c (value_of (cond c.begun (EndRead v) BeginRead)) = (λ i. after_by (at.run i) c a.how) ∙ ap (λ m. read_after c (value_of m)) how in
     record {
@@ -187,13 +185,13 @@ settling-steps memory c cut value flick h run chosen =
     let opened : Bool = copies.is_open_at cut c.copy in
     let a : Access = next_answered c memory flick in
     let how : a.how ≡ cond c.begun EndWrite (cond opened (Settle v) (BeginWrite v)) =
-        ap (λ r. ended (answer c memory flick) (move_by r c flick)) run ∙ ended-settle (answer c memory flick) v c.begun opened in
+    ap (λ r. ended (answer c memory flick) (move_by r c flick)) run ∙ ended-settle (answer c memory flick) v c.begun opened in
     let made : made_of a ≡ next_settle (settling_kept cut value c) v = λ i. record { reader = copy i; how = how i } in
     let after : cursor_after c a.how ≡ settled cut v c =
-        (λ i. after_by (run i) c (how i)) ∙ ap (λ (x : Option Bool). let next : CursorState = record (settled cut v c) { run = Settles cut x } in next) (value-chosen value flick c.begun opened chosen) in
+    (λ i. after_by (run i) c (how i)) ∙ ap (λ (x : Option Bool). let next : CursorState = record (settled cut v c) { run = Settles cut x } in next) (value-chosen value flick c.begun opened chosen) in
     let ends : ends_settling cut c ≡ ((settle_after (settling_kept cut value c) v).reader == length (row_at c memory)) =
-        last-copy (ends_copy cut c) c.copies c.copy cut v (omega (arith, h.fits.copy, first))
-        ∙ ap (λ n. (settle_after (settling_kept cut value c) v).reader == n) (sym (row-length c.copies memory c.register)) in
+    last-copy (ends_copy cut c) c.copies c.copy cut v (omega (arith, h.fits.copy, first))
+    ∙ ap (λ n. (settle_after (settling_kept cut value c) v).reader == n) (sym (row-length c.copies memory c.register)) in
     record {
       bit = refl;
       made = made;

@@ -1,20 +1,18 @@
 -- The last access of a settling: the register holds the new lower bits, the settled bit, and the old upper bits.
-use Rattle.std.proofs.Common.{◌≡◌, ◌≢◌, ℕ, ◌<◌, ◌==◌, ◌&&◌, Bool, true, false, not, cond, List, [], ◌∷◌, Option, None, Some, refl, sym, ap, ◌∙◌, subst, eq-eqb}
-use Rattle.safe_bit.specs.Cell.{Cell}
+use Rattle.std.proofs.Common.{◌≡◌, ℕ, ◌==◌, Bool, true, false, not, cond, List, ◌∷◌, Option, Some, refl, sym, ap, ◌∙◌, subst, eq-eqb}
 use Rattle.reader_copies.specs.{IsWritten, Settling, cut_values, settle_after, settled_at, with_value}
-use Rattle.reader_copies.specs.Runs as copies
 use Rattle.safe_number.specs.{NumberWrite}
 use Rattle.plain_store.specs.{Command, Reply, Setup}
-use Rattle.model.specs.{Access, Call, Closing, Ended, Entry, Event, Field, Frees, Next, Past, Quit, Settles, Withdraws, closing_after, closing_next, entry_of, freeing, is_unwritten, no_ticket, past_of, value_written}
+use Rattle.model.specs.{Access, Call, Closing, Ended, Entry, Event, Field, Frees, Past, Quit, Settles, Withdraws, closing_after, closing_next, entry_of, freeing, is_unwritten, no_ticket, past_of, value_written}
 use Rattle.model.specs.Closings.{Lowers}
 use Rattle.model.specs.declared.access.Field.TheVariants.{Ticket}
-use Rattle.model.proofs.Width.{IsGood, is_good}
+use Rattle.model.proofs.Width.{IsGood}
 use Rattle.laws.specs.{Closes, Doing, Lies, Rests, Runs, call, closes, doing, register_write}
 use Rattle.laws.proofs.Frame.{Happens, a_call, a_closing, a_failure, a_restart, a_step, a_withdrawal, may_fail}
 use Rattle.laws.proofs.FrameEvents.{accepted}
 use Rattle.registers.specs.{RegisterName}
 use Rattle.world.proofs.WorldShows.{past-after}
-use Rattle.register_laws.specs.NumbersHeld.{HoldsNumber, InSettling, InWrite, Progress, Quiet, bit_of, is_field, number_after, number_by, progress_at, progress_in, write_progress}
+use Rattle.register_laws.specs.NumbersHeld.{InSettling, InWrite, Progress, Quiet, bit_of, is_field, number_after, progress_at, progress_in}
 use Rattle.register_laws.specs.RegisterLaws.{EndsSettling, WasInterrupted, before_failure, has_begun}
 use Rattle.register_laws.specs.WorldRows.{register_row}
 use Rattle.register_laws.proofs.InterruptedWrites.{WasTorn, chosen, own-number, some-bit, torn-all, write-not}
@@ -45,7 +43,12 @@ settling-at s p f bit t (Closes command number Ended) h = absurd (let x : Quiet 
 settling-at s p f bit t (Closes command number (Settles field k begun taken inside u)) h =
     let same = some-bit (is_field field f) k bit u t h in
     record {
-      command = command; number = number; field = field; begun = begun; taken = taken; inside = inside;
+      command = command;
+      number = number;
+      field = field;
+      begun = begun;
+      taken = taken;
+      inside = inside;
       does = λ i. Closes command number (Settles field (same.1 i) begun taken inside (same.2 i));
       on = same.0;
     }
@@ -78,10 +81,10 @@ ends-fresh s g events what e accepts f bit t d then (a_closing command number at
     let next-is : closing_next c its flick ≡ Some n = ap (λ x. closing_next c x flick) (sym here) ∙ next in
     let v-is : settled_at t (value_written e) ≡ settled_at t flick = chosen s g events what e accepts f st.field bit t flick n.access progress acc (ap (λ (y : Access). y.how) (sym (access-is next-is))) in
     let done : ((settle_after t (settled_at t flick)).reader == s.processes) ≡ true =
-        ap (λ v. (settle_after t v).reader == s.processes) (sym v-is) ∙ eq-eqb (settle_after t (settled_at t (value_written e))).reader s.processes last in
+    ap (λ v. (settle_after t v).reader == s.processes) (sym v-is) ∙ eq-eqb (settle_after t (settled_at t (value_written e))).reader s.processes last in
     let to : then ≡ closes command number (freeing c st.inside) =
-        goes ∙ ap (λ x. closes command number (closing_after c x flick)) here
-        ∙ ap (λ b. closes command number (cond b (freeing c st.inside) (Settles st.field bit st.begun st.taken st.inside (settle_after t (settled_at t flick))))) done in
+    goes ∙ ap (λ x. closes command number (closing_after c x flick)) here
+    ∙ ap (λ b. closes command number (cond b (freeing c st.inside) (Settles st.field bit st.begun st.taken st.inside (settle_after t (settled_at t flick))))) done in
     subst (λ x. Fresh (progress_in s e.process f x)) (sym to) (write-fresh f Ticket (no_ticket c) s.ticket_bits)
 
 -- the register then holds its number with the settled bit
@@ -97,8 +100,8 @@ holds-settled s g events what e accepts f bit t progress last =
     let happens = (accepted s g events what e accepts).happens in
     let held : Each s (e ∷ past) = subst (Each s) (past-after s events what e accepts) (numbers-held s (what ∷ events)) in
     let number : number_after s its (e ∷ past) ≡ with_value (number_after s its past) bit v =
-        own-number s g events what e accepts f (InSettling bit t) progress
-        ∙ ap (λ b. cond b (with_value (number_after s its past) bit v) (number_after s its past)) (eq-eqb (settle_after t v).reader s.processes last) in
+    own-number s g events what e accepts f (InSettling bit t) progress
+    ∙ ap (λ b. cond b (with_value (number_after s its past) bit v) (number_after s its past)) (eq-eqb (settle_after t v).reader s.processes last) in
     let fresh : Fresh (progress_at s (e ∷ past) its) = ends-fresh s g events what e accepts f bit t (doing s e.process past) (doing s e.process (e ∷ past)) happens progress (settling-at s e.process f bit t (doing s e.process past) progress) last in
     subst (IsWritten (register_row s (e ∷ past) its)) number
     (quiet-written (register_row s (e ∷ past) its) (number_after s its (e ∷ past)) (progress_at s (e ∷ past) its) (fresh-quiet (progress_at s (e ∷ past) its) fresh) (held g its (accepted s g events what e accepts).below))
@@ -114,10 +117,12 @@ settled-own s g events what e accepts f bit v ends =
     let past : Past = past_of s events in
     let its : RegisterName = record { owner = e.process; field = f } in
     let torn : WasTorn s past its bit = torn-all s events g its (accepted s g events what e accepts).below bit ends.settling ends.progress in
-    let last : (settle_after ends.settling (settled_at ends.settling (value_written e))).reader ≡ s.processes = ap (λ u. (settle_after ends.settling u).reader) (sym ends.value) ∙ ends.last in
-    (torn.0, torn.1,
-    subst (IsWritten (register_row s (e ∷ past) its)) (λ i. with_value (torn.2 i) bit (sym ends.value i))
-    (holds-settled s g events what e accepts f bit ends.settling ends.progress last))
+    let last : (settle_after ends.settling (settled_at ends.settling (value_written e))).reader ≡ s.processes = ap (λ u. (settle_after ends.settling u).reader) (sym ends.value) ∙ ends.last in (
+      torn.0,
+      torn.1,
+      subst (IsWritten (register_row s (e ∷ past) its)) (λ i. with_value (torn.2 i) bit (sym ends.value i))
+          (holds-settled s g events what e accepts f bit ends.settling ends.progress last),
+    )
 
 pub interrupted-settled : (s : Setup) → IsGood s → (events : List Event) (what : Event) (e : Entry) → entry_of s (past_of s events) what ≡ Some e → (r : RegisterName) (bit : ℕ) (v : Bool) → EndsSettling s (past_of s events) e r bit v
     → let failed : Past = before_failure r.owner (past_of s events) in

@@ -1,7 +1,6 @@
 -- The rows of a world: their shape, their cells, and their change by an entry.
-use Rattle.std.proofs.Common.{◌≡◌, ◌≢◌, ℕ, ◌+◌, ◌*◌, ◌<◌, ◌==◌, ◌&&◌, Bool, true, false, cond, List, [], ◌∷◌, get_or, length, map, Option, None, Some, refl, sym, ap, ◌∙◌, subst, arith, eqb-true}
+use Rattle.std.proofs.Common.{◌≡◌, ℕ, ◌<◌, ◌==◌, ◌&&◌, Bool, true, false, cond, List, [], ◌∷◌, get_or, length, Option, None, Some, refl, sym, ap, ◌∙◌, subst, arith, eqb-true}
 use Rattle.std.proofs.lemmas.Bool.{eqb-false, eq-eqb, ne_eqb}
-use Rattle.std.specs.List.{range_with_len}
 use Rattle.safe_bit.specs.Cell.{Cell, new_cell, without_read}
 use Rattle.safe_bit.specs.{Move, is_of_write}
 use Rattle.safe_bit.specs.declared.moves.Move.TheVariants.{BeginWrite, EndWrite, BeginRead, EndRead, Settle}
@@ -10,18 +9,17 @@ use Rattle.reader_copies.specs.Row as rows
 use Rattle.reader_copies.proofs.Writing.{drops-keep, read-keeps}
 use Rattle.safe_number.proofs.Numbers.{range_same}
 use Rattle.safe_number.proofs.WrittenSteps.{has_cell}
-use Rattle.plain_store.specs.{Setup, checked}
+use Rattle.plain_store.specs.{Setup}
 use Rattle.model.specs.{Access, Entry, Event, Past, copy, entry_of, field_number, past_of, width}
-use Rattle.model.proofs.Width.{IsGood, is_good}
+use Rattle.model.proofs.Width.{IsGood}
 use Rattle.laws.specs.{IsThere, cell_held, drops}
-use Rattle.laws.proofs.FrameCells.{EntryBy, field-same, makes, marks_only}
+use Rattle.laws.proofs.FrameCells.{field-same}
 use Rattle.laws.proofs.FrameEvents.{accepted}
-use Rattle.laws.proofs.FrameSteps.{entry-by}
 use Rattle.laws.proofs.HeldCells.{held-marks}
 use Rattle.laws.proofs.HeldThere.{access_there}
-use Rattle.registers.specs.{AreOf, Fits, RegisterName, applied, cell_at, lane_number, lane_of, lane_of_access, without_reads}
+use Rattle.registers.specs.{AreOf, RegisterName, applied, lane_number, lane_of}
 use Rattle.registers.specs.Rows.{row_of}
-use Rattle.registers.proofs.Openings.{lane-in, reader-lane, setup-fits}
+use Rattle.registers.proofs.Openings.{reader-lane}
 use Rattle.process.specs.{cells_dropped, is_of_reader, memory_with}
 use Rattle.process.proofs.Memories.{with-are, with-copies, with-copy}
 use Rattle.process.proofs.MemoriesMoved.{with-dropped}

@@ -1,10 +1,10 @@
 -- The number that a register holds after a past: the number of the last write that ended, or that a settled write left.
-use Rattle.std.specs.Prelude.{◌≡◌, ◌<◌, ◌==◌, ℕ, Bool, true, false, List, [], ◌∷◌, Option, None, Some, cond, length, slice_index_or}
+use Rattle.std.specs.Prelude.{◌<◌, ◌==◌, ℕ, Bool, false, List, [], ◌∷◌, Option, None, Some, cond, slice_index_or}
 use Rattle.plain_store.specs.{Setup}
 use Rattle.safe_bit.specs.Cell.{Cell}
 use Rattle.reader_copies.specs.{HasItsValue, IsPartlyWritten, IsWritten, Settling, cut_values, settle_after, settled_at, with_value}
 use Rattle.safe_number.specs.{IsSettling, NumberWrite}
-use Rattle.model.specs.{EachEntry, EachPast, Entry, Field, Past, bit_written, field_number, opening_bits, write_moved}
+use Rattle.model.specs.{EachPast, Entry, Field, Past, bit_written, field_number, opening_bits, write_moved}
 use Rattle.model.specs.Closings as closing
 use Rattle.model.specs.Unit.{value_written}
 use Rattle.laws.specs.{Closes, Doing, RegisterWrite, doing, register_write}

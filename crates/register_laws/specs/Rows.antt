@@ -1,15 +1,16 @@
 -- Theorem R: a step of a cursor on the memory is a step of `Register` on the row of the cursor's register.
-use Rattle.std.specs.Prelude.{◌≡◌, ◌≢◌, ℕ, ◌<◌, ◌==◌, List, Bool, false, Some, length}
+use Rattle.std.specs.Prelude.{◌≡◌, ◌≢◌, ℕ, zero, suc, ◌<◌, ◌==◌, List, [], ◌∷◌, Bool, false, Some, length}
 use Rattle.plain_store.specs.{Setup}
 use Rattle.safe_bit.specs.Cell.{Cell}
 use Rattle.reader_copies.specs.{HasItsValue, Made, Settling, next_settle, next_write, row_after, settle_after, settled_at}
 use Rattle.reader_copies.specs.Row as rows
-use Rattle.safe_number.specs.{NumberRead, NumberWrite, bit_write, bits_in, loaded, new_read, new_write, number_read_after, number_write_after}
+use Rattle.choices.specs.{FlickState, flick_of, flicks_after}
+use Rattle.safe_number.specs.{Moment, NumberRead, NumberWrite, bit_write, bits_in, loaded, new_read, new_write, number_read_after, number_write_after, Own, ReadState, WriteState, read_interval, write_interval}
 use Rattle.safe_number.specs.Runs.{register_written}
 use Rattle.safe_number.specs.Runs as number
 use Rattle.safe_number.specs.Written.{read_made, register_read}
 use Rattle.model.specs.{Access, width}
-use Rattle.registers.specs.{CursorState, Fits, HasLanes, RegisterName, applied, cursor_after, first_lane, is_over, lane_number, next_answered, reading, settling, without_reads, write_kept, writing}
+use Rattle.registers.specs.{CursorState, Fits, HasLanes, RegisterName, applied, cursor_after, is_over, lane_number, next_answered, reading, run_of, settling, without_reads, write_kept, writing}
 use Rattle.registers.specs.Rows.{row_of}
 use Rattle.registers.specs.declared.cursor.RegisterAccessKind.TheVariants.{Reads, Writes, Settles}
 
@@ -132,3 +133,28 @@ ReadsBeginAlike = (s : Setup) (register : RegisterName) (reader room : ℕ) → 
 abbrev pub SettlingsBeginAlike : Type 0
 SettlingsBeginAlike = (value : List ℕ) (w : NumberWrite) (c : CursorState) (bit : ℕ) (t : Settling) → IsAtWrite value w c → number.torn_bit w ≡ Some (bit, t)
     → IsAtSettling bit t (settling c)
+
+-- SEVERAL STEPS
+
+-- The moments of the next k accesses, the newest first: each access takes its flick.
+abbrev pub own_moments : ℕ → FlickState → List Moment
+own_moments zero flicks = []
+own_moments (suc k) flicks = Own (flick_of (flicks_after k flicks)) ∷ own_moments k flicks
+
+-- A cursor has a bit left before each of its next k accesses.
+abbrev pub HasBitsLeft : ℕ → CursorState → List (List Cell) → FlickState → Type 0
+HasBitsLeft k c memory flicks = (j : ℕ) → j < k → let now : CursorState = (run_of j (c, memory, flicks)).0 in now.bit < now.width
+
+-- Several accesses of a cursor that writes are as many steps of `WriteRun` on the row.
+abbrev pub WriteRunsAgree : Type 0
+WriteRunsAgree = (k : ℕ) (memory : List (List Cell)) (c : CursorState) (value : List ℕ) (w : NumberWrite) (flicks : FlickState) → Fits memory c → IsAtWrite value w c → HasBitsLeft k c memory flicks
+    → let now : CursorState × List (List Cell) × FlickState = run_of k (c, memory, flicks) in
+    let then : WriteState = write_interval value (record { row = row_at c memory; run = w }) (own_moments k flicks) in
+    (row_at c now.1 ≡ then.row) × IsAtWrite value then.run now.0
+
+-- Several accesses of a cursor that reads are as many steps of `ReadRun` on the row, and read the same bits.
+abbrev pub ReadRunsAgree : Type 0
+ReadRunsAgree = (k : ℕ) (memory : List (List Cell)) (c : CursorState) (r : NumberRead) (flicks : FlickState) → Fits memory c → IsAtRead r c → HasBitsLeft k c memory flicks
+    → let now : CursorState × List (List Cell) × FlickState = run_of k (c, memory, flicks) in
+    let then : ReadState = read_interval c.reader (record { row = row_at c memory; run = r }) (own_moments k flicks) in
+    (row_at c now.1 ≡ then.row) × IsAtRead then.run now.0

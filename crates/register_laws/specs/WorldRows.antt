@@ -1,5 +1,5 @@
 -- The row of a register in the state of a world, and its change by an entry.
-use Rattle.std.specs.Prelude.{◌≡◌, ◌+◌, ◌<◌, ◌==◌, ◌&&◌, ℕ, Bool, false, List, ◌∷◌, cond, None, Some}
+use Rattle.std.specs.Prelude.{◌≡◌, ◌+◌, ◌<◌, ◌==◌, ◌&&◌, Bool, false, List, ◌∷◌, cond, None, Some}
 use Rattle.plain_store.specs.{Setup}
 use Rattle.safe_bit.specs.Cell.{Cell}
 use Rattle.safe_bit.specs.{is_of_write}

@@ -1,5 +1,5 @@
 //! Theorem R: the memory and its cursors behave as registers and their runs do.
-ghost use Rattle.register_laws.specs.Rows.{DropIsOnItsRow, DropKeepsOtherRows, ReadStepsAgree, ReadsBeginAlike, SettlingStepsAgree, SettlingsBeginAlike, StepIsOnItsRow, StepKeepsOtherRows, WriteStepsAgree, WritesBeginAlike};
+ghost use Rattle.register_laws.specs.Rows.{DropIsOnItsRow, DropKeepsOtherRows, ReadRunsAgree, ReadStepsAgree, ReadsBeginAlike, SettlingStepsAgree, SettlingsBeginAlike, StepIsOnItsRow, StepKeepsOtherRows, WriteRunsAgree, WriteStepsAgree, WritesBeginAlike};
 
 /// Each register of the memory is a row of bits. A step of a `Cursor` on the memory and a step of `WriteRun`, of `ReadRun` or
 /// of a settling on the register's row make the same access with the same value. They leave the same row and the same
@@ -12,6 +12,8 @@ pub fn registers_are_rows()
     ensures writes { WriteStepsAgree }
     ensures reads { ReadStepsAgree }
     ensures settles { SettlingStepsAgree }
+    ensures write_runs { WriteRunsAgree }
+    ensures read_runs { ReadRunsAgree }
     ensures writes_begin { WritesBeginAlike }
     ensures reads_begin { ReadsBeginAlike }
     ensures settlings_begin { SettlingsBeginAlike }

@@ -1,6 +1,7 @@
 -- Theorem R.
-use Rattle.std.proofs.Common.{refl, ap, arith, ◌+◌, ◌≡◌, ℕ}
+use Rattle.std.proofs.Common.{refl, arith}
 use Rattle.register_laws.proofs.RowMoves.{row-dropped, row-stays}
+use Rattle.register_laws.proofs.RowRuns.{read-runs, write-runs}
 use Rattle.register_laws.proofs.RowSteps.{reads, settles, settlings-begin, step-others, step-row, writes}
 use Rattle.register_laws.proofs.rows.registers_are_rows.Goals as goal
 
@@ -13,6 +14,8 @@ returns x = record {
   writes = writes;
   reads = reads;
   settles = settles;
+  write_runs = write-runs;
+  read_runs = read-runs;
   writes_begin = λ s register value. record { run = refl; bits = refl; progress = refl };
   reads_begin = λ s register reader room. record { run = refl; width = refl; bits = refl; begun = refl; bit = refl };
   settlings_begin = settlings-begin;

@@ -1,5 +1,5 @@
 -- The rows of a world.
-use Rattle.std.proofs.Common.{◌∷◌, ap, refl}
+use Rattle.std.proofs.Common.{ap}
 use Rattle.model.proofs.Width.{is_good}
 use Rattle.model.specs.{past_of}
 use Rattle.register_laws.specs.WorldRows.{memory_at}
