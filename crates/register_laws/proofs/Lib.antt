@@ -10,3 +10,4 @@ pub mod RowRuns
 pub mod RowSteps
 pub mod SettledWrites
 pub mod WorldChanges
+pub mod WritesEnd

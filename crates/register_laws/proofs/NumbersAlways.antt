@@ -74,11 +74,11 @@ module _ (s : Setup) (g : IsGood s) (events : List Event) (what : Event) (e : En
   OfDoings d then = Holds (progress_in s e.process f d) (progress_in s e.process f then)
 
   -- the facts of a write of the owner
-  write-goes : (w : RegisterWrite) → register_write s e.process (doing s e.process past) ≡ Some w → Goes s.processes w.bits w.run
+  pub write-goes : (w : RegisterWrite) → register_write s e.process (doing s e.process past) ≡ Some w → Goes s.processes w.bits w.run
   write-goes w h = let so = written_so_far s g events e.process w h in record { below = so.below; made = so.made; value = so.value }
 
   -- its length
-  write-wide : (w : RegisterWrite) → register_write s e.process (doing s e.process past) ≡ Some w → length w.bits ≡ width s w.field → w.run.width ≡ width s w.field
+  pub write-wide : (w : RegisterWrite) → register_write s e.process (doing s e.process past) ≡ Some w → length w.bits ≡ width s w.field → w.run.width ≡ width s w.field
   write-wide w h wide = (written_so_far s g events e.process w h).width_is ∙ wide
 
   -- its present bit, once it has begun

@@ -1,17 +1,17 @@
 -- Several accesses of a cursor are as many steps on the row of its register.
-use Rattle.std.proofs.Common.{◌≡◌, ℕ, zero, suc, ◌+◌, ◌<◌, Bool, List, length, refl, sym, ap, ◌∙◌, subst, arith}
+use Rattle.std.proofs.Common.{◌≡◌, ℕ, zero, suc, List, length, refl, sym, ap, ◌∙◌, subst, arith}
 use Rattle.safe_bit.specs.Cell.{Cell}
 use Rattle.safe_bit.specs.{Move}
 use Rattle.choices.specs.{FlickState, after_flick, flick_of, flicks_after}
-use Rattle.safe_number.specs.{NumberRead, NumberWrite, ReadState, WriteState, number_read_after, number_write_after, read_interval, write_interval}
+use Rattle.safe_number.specs.{ReadState, WriteState, number_read_after, number_write_after, read_interval, write_interval}
 use Rattle.safe_number.specs.Written.{loaded, register_read}
 use Rattle.safe_number.specs.Runs.{register_written}
 use Rattle.model.specs.{Access}
-use Rattle.registers.specs.{CursorState, Fits, RegisterAccessKind, RegisterName, access_next, after_by, cursor_after, run_of}
+use Rattle.registers.specs.{CursorState, RegisterAccessKind, access_next, after_by, cursor_after, run_of}
 use Rattle.registers.specs.Rows.{row_of}
 use Rattle.registers.specs.declared.cursor.RegisterAccessKind.TheVariants.{Reads, Writes, Settles}
 use Rattle.registers.proofs.Runs.{run-fits, same-by}
-use Rattle.register_laws.specs.Rows.{HasBitsLeft, HasNext, IsAtRead, IsAtWrite, ReadRunsAgree, StepsAsRead, StepsAsWrite, WriteRunsAgree, own_moments, row_at}
+use Rattle.register_laws.specs.Rows.{HasNext, IsAtRead, IsAtWrite, ReadRunsAgree, StepsAsRead, StepsAsWrite, WriteRunsAgree, own_moments, row_at}
 use Rattle.register_laws.proofs.RowSteps.{reads, writes}
 
 -- a cursor keeps its register, its reader, and the number of copies
@@ -52,9 +52,10 @@ write-runs (suc k) memory c value w flicks fits at left =
     let row : row_at now.0 now.1 ≡ then.row = row-same now.0 c now.1 same ∙ before.0 in
     let next : HasNext now.1 now.0 = record { fits = run-fits k (c, memory, flicks) fits; going = left k (omega arith) } in
     let a : Access = access_next now in
-    let step : StepsAsWrite now.1 now.0 value then.run a = writes now.1 now.0 value then.run (flick_of now.2) next before.1 in
-    (sym (row-same now.0 c (run_of (suc k) (c, memory, flicks)).1 same) ∙ step.row ∙ ap (λ x. register_written x value then.run) row,
-    subst (λ x. IsAtWrite value (number_write_after (length x) value then.run) (cursor_after now.0 a.how)) row step.progress)
+    let step : StepsAsWrite now.1 now.0 value then.run a = writes now.1 now.0 value then.run (flick_of now.2) next before.1 in (
+      sym (row-same now.0 c (run_of (suc k) (c, memory, flicks)).1 same) ∙ step.row ∙ ap (λ x. register_written x value then.run) row,
+      subst (λ x. IsAtWrite value (number_write_after (length x) value then.run) (cursor_after now.0 a.how)) row step.progress,
+    )
 
 pub read-runs : ReadRunsAgree
 read-runs zero memory c r flicks fits at left = (refl, at)
@@ -67,6 +68,7 @@ read-runs (suc k) memory c r flicks fits at left =
     let next : HasNext now.1 now.0 = record { fits = run-fits k (c, memory, flicks) fits; going = left k (omega arith) } in
     let flick : flick_of now.2 ≡ flick_of (flicks_after k flicks) = ap flick_of (run-flicks k (c, memory, flicks)) in
     let a : Access = access_next now in
-    let step : StepsAsRead now.1 now.0 then.run (flick_of now.2) a = reads now.1 now.0 then.run (flick_of now.2) next before.1 in
-    (sym (row-same now.0 c (run_of (suc k) (c, memory, flicks)).1 same) ∙ step.row ∙ (λ i. register_read (row i) (same.reader i) then.run (flick i)),
-    subst (λ x. IsAtRead x (cursor_after now.0 a.how)) (λ i. number_read_after then.run (loaded (row i) (same.reader i) then.run (flick i))) step.progress)
+    let step : StepsAsRead now.1 now.0 then.run (flick_of now.2) a = reads now.1 now.0 then.run (flick_of now.2) next before.1 in (
+      sym (row-same now.0 c (run_of (suc k) (c, memory, flicks)).1 same) ∙ step.row ∙ (λ i. register_read (row i) (same.reader i) then.run (flick i)),
+      subst (λ x. IsAtRead x (cursor_after now.0 a.how)) (λ i. number_read_after then.run (loaded (row i) (same.reader i) then.run (flick i))) step.progress,
+    )

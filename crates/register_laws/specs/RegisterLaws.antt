@@ -1,10 +1,10 @@
 -- The laws of registers (Lamport 1986a) in every state of a world.
-use Rattle.std.specs.Prelude.{◌≡◌, ◌+◌, ◌*◌, ◌^◌, ◌<◌, ◌==◌, ◌&&◌, ℕ, zero, suc, Bool, true, false, not, if◌then◌else◌, List, [], ◌∷◌, ◌++◌, Option, None, Some, cond, length}
+use Rattle.std.specs.Prelude.{◌≡◌, ◌+◌, ◌*◌, ◌^◌, ◌<◌, ◌==◌, ◌&&◌, ℕ, zero, suc, Bool, true, false, not, if◌then◌else◌, List, [], ◌∷◌, ◌++◌, Option, None, Some, cond, is_some, length}
 use Rattle.std.specs.List.{list_any}
 use Rattle.plain_store.specs.{Setup}
 use Rattle.reader_copies.specs.{IsWritten, Settling, cut_values, settle_after, settled_at, with_value}
 use Rattle.safe_number.specs.{NumberWrite, first_bits, number_of_bits}
-use Rattle.model.specs.{Access, Call, EachEntry, EachPast, Entry, Part, Past, Reading, Run, Writing, has, is_failed, is_unwritten, read_at, value_of, width}
+use Rattle.model.specs.{Access, Call, EachEntry, EachPast, Entry, Part, Past, Reading, Run, Writing, has, is_failed, is_unwritten, read_at, value_of, width, write_moved}
 use Rattle.model.specs.Unit.{value_written}
 use Rattle.laws.specs.{Doing, Runs, call, doing}
 use Rattle.registers.specs.{RegisterName}
@@ -90,6 +90,25 @@ UnoverlappedReadsReadTheNumber = EachPast λ s past. (p : ℕ) (read : RegisterR
 abbrev pub ReadsReturnANumber : Type 0
 ReadsReturnANumber = EachEntry λ s past e. (read : RegisterRead) (a : Access) → EndsRead s past e read a
     → (length (bits_returned read a) ≡ width s read.register.field) × (number_of_bits (bits_returned read a) < 2 ^ width s read.register.field)
+
+-- A WRITE OF A REGISTER
+
+-- An entry is the last access of a write of these bits.
+pub record EndsWrite (s : Setup) (past : Past) (e : Entry) (r : RegisterName) (new : List Bool) : Type 0 where
+  pub write : NumberWrite
+  pub owner : e.process ≡ r.owner
+  pub progress : progress_at s past r ≡ InWrite new write
+  pub access : is_some e.access ≡ true
+  pub last : (write_moved s.processes new write).bit ≡ write.width
+
+-- After a write has ended, each copy of each bit has its new bit.
+abbrev pub WritesGiveTheirBits : Type 0
+WritesGiveTheirBits = EachEntry λ s past e. (r : RegisterName) (new : List Bool) → EndsWrite s past e r new → IsWritten (register_row s (e ∷ past) r) (bit_of new)
+
+-- Between two bits of a write, and so if a failure interrupts it there, the lower bits are new and the upper bits are old.
+abbrev pub WritesGoBitByBit : Type 0
+WritesGoBitByBit = EachPast λ s past. (r : RegisterName) (new : List Bool) (w : NumberWrite) → r.owner < s.processes → progress_at s past r ≡ InWrite new w → w.run ≡ None
+    → IsWritten (register_row s past r) (cut_values (number_after s r past) (bit_of new) w.bit)
 
 -- AN INTERRUPTED WRITE
 

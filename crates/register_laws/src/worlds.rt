@@ -1,6 +1,6 @@
 //! The laws of registers in every state of a world.
 ghost use Rattle.register_laws.specs.NumbersHeld.{RegistersHoldTheirNumbers};
-ghost use Rattle.register_laws.specs.RegisterLaws.{InterruptedWritesAreSettled, ReadsReturnANumber, UnoverlappedReadsReadTheNumber, UnoverlappedReadsReturnTheNumber};
+ghost use Rattle.register_laws.specs.RegisterLaws.{InterruptedWritesAreSettled, ReadsReturnANumber, UnoverlappedReadsReadTheNumber, UnoverlappedReadsReturnTheNumber, WritesGiveTheirBits, WritesGoBitByBit};
 ghost use Rattle.register_laws.specs.WorldRows.{CursorsFitWorlds, EntriesChangeRows, RowsAreWhole, WorldsHaveTheseRows};
 
 /// The memory of a world consists of the rows of its registers. In every state of a world a row has a copy of each bit for each
@@ -21,6 +21,8 @@ pub fn worlds_have_registers()
 /// copy of each bit has its bit of that number, except for the bits that a write in progress has changed.
 pub fn registers_of_worlds()
     ensures numbers { RegistersHoldTheirNumbers }
+    ensures written { WritesGiveTheirBits }
+    ensures bit_by_bit { WritesGoBitByBit }
     ensures unoverlapped { UnoverlappedReadsReturnTheNumber }
     ensures so_far { UnoverlappedReadsReadTheNumber }
     ensures overlapped { ReadsReturnANumber }
