@@ -6,7 +6,7 @@ use Rattle.std.specs.List.{list_any}
 use Rattle.reader_copies.specs.{Settling, cut_values, settle_after, settled_at, with_value}
 use Rattle.reader_copies.specs.Runs as copies
 use Rattle.safe_number.specs.{NumberWrite, new_write}
-use Rattle.plain_store.specs.{Command, Reply, Setup}
+use Rattle.model.specs.plain_store.{Command, Reply, Setup}
 use Rattle.model.specs.{Access, Call, Change, Closing, Ended, Entry, Event, Field, Frees, Next, Past, Place, Quit, Reading, Run, Settles, TornBit, Withdraws, Writing, call_number, closing_after, closing_next, cut, enter, entry_of, freeing, has, history, is_failed, is_last_settled, is_last_written, is_over, last_command, named, no_ticket, own, past-induction, past_of, place_after, placed, start_in, torn_in, value_of, value_written, write_moved, written_at}
 use Rattle.model.specs.Closings.{Lowers, settled_marks}
 use Rattle.model.specs.Parts.{Raises}

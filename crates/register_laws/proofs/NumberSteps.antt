@@ -1,8 +1,8 @@
 -- What a row holds, through one access of a write, one access of a settling, and a failure.
 use Rattle.std.proofs.Common.{◌≡◌, ℕ, ◌+◌, ◌*◌, ◌/◌, ◌<◌, ◌==◌, ◌||◌, Bool, true, false, cond, List, length, Option, None, Some, is_some, unwrap_or, refl, sym, ap, ◌∙◌, subst, arith, eqb-true}
 use Rattle.std.proofs.lemmas.Bool.{ne_eqb}
-use Rattle.safe_bit.specs.Cell.{Cell}
-use Rattle.safe_bit.specs.declared.moves.Move.TheVariants.{BeginWrite, EndWrite, BeginRead, EndRead, Settle}
+use Rattle.model.specs.safe_bit.Cell.{Cell}
+use Rattle.model.specs.safe_bit.declared.moves.Move.TheVariants.{BeginWrite, EndWrite, BeginRead, EndRead, Settle}
 use Rattle.reader_copies.specs.{HasCell, IsPartlyWritten, IsWritten, KeepsWrites, Settling, Writing, cut_values, next_settle, next_write, row_after, settle_after, settled_at, with_value}
 use Rattle.reader_copies.proofs.Steps.{settle_starts, write_on}
 use Rattle.reader_copies.proofs.Writing.{partly_settled-kept, partly_written-carry, partly_written-cut, partly_written-end, partly_written-start, written-kept, partly_written-kept, length-row_with_cell}

@@ -2,13 +2,13 @@
 use Rattle.std.proofs.Common.{◌≡◌, ◌≢◌, ℕ, ◌<◌, ◌==◌, ◌&&◌, Bool, true, false, cond, List, [], ◌∷◌, ◌++◌, length, Option, None, Some, refl, sym, ap, ◌∙◌, subst, inl, inr, eq-eqb, ne_eqb}
 use Rattle.std.proofs.lemmas.Bool.{cases_eq}
 use Rattle.std.specs.Prelude.{option_map}
-use Rattle.safe_bit.specs.{is_of_write}
-use Rattle.safe_bit.specs.declared.moves.Move.TheVariants.{BeginRead, EndRead}
+use Rattle.model.specs.safe_bit.{is_of_write}
+use Rattle.model.specs.safe_bit.declared.moves.Move.TheVariants.{BeginRead, EndRead}
 use Rattle.reader_copies.specs.{IsAt, Settling, next_settle, settle_after, settled_at}
 use Rattle.reader_copies.specs.Runs as copies
 use Rattle.safe_number.specs.{NumberWrite, new_write}
 use Rattle.safe_number.proofs.Bits.{length-bits_of_number}
-use Rattle.plain_store.specs.{Command, Reply, Setup}
+use Rattle.model.specs.plain_store.{Command, Reply, Setup}
 use Rattle.model.specs.{Access, Call, Closing, Ended, Entry, Event, Field, Frees, Next, Part, Past, Place, Quit, Reading, Run, Settles, Withdraws, Writing, access_at, access_of, bit_written, added, call_number, closing_after, closing_next, ended, enter, entry_made, entry_of, freeing, is_last, is_last_settled, is_over, is_read, last_command, next_written, no_ticket, own, part_after, refused_at, stage, past-induction, past_of, place_after, process_of, run_after, start_in, valued, value_of, width, write_moved, written_at}
 use Rattle.model.specs.Closings.{Lowers}
 use Rattle.model.specs.Parts.{Raises, Waits}

@@ -1,14 +1,14 @@
 -- In every state of a world each register holds its number.
 use Rattle.std.proofs.Common.{◌≡◌, ℕ, ◌/◌, ◌<◌, ◌==◌, ◌&&◌, Bool, true, false, cond, List, [], ◌∷◌, length, Option, None, Some, refl, sym, ap, ◌∙◌, subst, arith}
 use Rattle.std.specs.Prelude.{option_map}
-use Rattle.safe_bit.specs.Cell.{Cell}
-use Rattle.safe_bit.specs.{is_of_write}
+use Rattle.model.specs.safe_bit.Cell.{Cell}
+use Rattle.model.specs.safe_bit.{is_of_write}
 use Rattle.reader_copies.specs.{HasCell, IsPartlyWritten, KeepsWrites, Settling, cut_values, next_settle, next_write, row_after, settle_after, settled_at, with_value}
 use Rattle.reader_copies.specs.Runs as copies
 use Rattle.reader_copies.proofs.Writing.{partly_written-kept, written-kept}
 use Rattle.safe_number.specs.{NumberWrite, new_write}
 use Rattle.safe_number.specs.Runs as numbers
-use Rattle.plain_store.specs.{Command, Setup}
+use Rattle.model.specs.plain_store.{Command, Setup}
 use Rattle.model.specs.{Access, Call, Change, Entry, Event, Field, Part, Past, Reading, TornBit, Writing, access_of, bit_written, cut, enter, entry_of, is_over, is_read, named, next_written, no_ticket, past_of, torn_in, value_written, width, write_moved, written_at}
 use Rattle.model.specs.declared.access.Field.TheVariants.{Ticket}
 use Rattle.model.proofs.Width.{IsGood}

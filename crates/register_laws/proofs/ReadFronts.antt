@@ -2,11 +2,11 @@
 use Rattle.std.proofs.Common.{◌≡◌, ◌≢◌, ℕ, suc, ◌+◌, ◌*◌, ◌==◌, ◌||◌, ◌⊎◌, Bool, true, false, not, cond, List, [], ◌∷◌, ◌++◌, length, Option, None, Some, is_none, refl, sym, ap, ◌∙◌, subst, arith, inl, inr, eq-eqb, ne_eqb, eqb-true, length-append}
 use Rattle.std.specs.Prelude.{nat_lt}
 use Rattle.std.specs.List.{list_any}
-use Rattle.safe_bit.specs.Cell.{Cell}
+use Rattle.model.specs.safe_bit.Cell.{Cell}
 use Rattle.reader_copies.specs.{IsAt, IsWritten, cut_values}
 use Rattle.reader_copies.specs.Row as rows
 use Rattle.reader_copies.specs.Runs as copies
-use Rattle.plain_store.specs.{Setup}
+use Rattle.model.specs.plain_store.{Setup}
 use Rattle.model.specs.{Entry, Past, is_unwritten}
 use Rattle.laws.proofs.Theorems.{less}
 use Rattle.registers.specs.{RegisterName}

@@ -1,15 +1,15 @@
 -- A read of a register that no write overlaps reads its number.
 use Rattle.std.proofs.Common.{◌≡◌, ◌≢◌, ℕ, ◌<◌, ◌&&◌, Bool, true, false, cond, List, [], ◌∷◌, ◌++◌, get_or, length, map, Some, Ok, refl, sym, ap, ◌∙◌, subst}
 use Rattle.std.proofs.lemmas.List.{get_or-set_other}
-use Rattle.safe_bit.specs.Cell.{Cell, read_answer, without_read}
-use Rattle.safe_bit.specs.{is_of_write}
-use Rattle.safe_bit.specs.declared.moves.Move.TheVariants.{BeginRead, EndRead}
+use Rattle.model.specs.safe_bit.Cell.{Cell, read_answer, without_read}
+use Rattle.model.specs.safe_bit.{is_of_write}
+use Rattle.model.specs.safe_bit.declared.moves.Move.TheVariants.{BeginRead, EndRead}
 use Rattle.reader_copies.specs.{IsWritten, cell_in, next_read, row_after}
 use Rattle.reader_copies.specs.Row as rows
 use Rattle.reader_copies.proofs.Writing.{with_cell-other, written-kept}
 use Rattle.safe_number.specs.{IsUndisturbed, NumberRead, bit_read, loaded, number_read_after}
 use Rattle.safe_number.proofs.WrittenSteps.{undisturbed-on, undisturbed-start}
-use Rattle.plain_store.specs.{Command, Setup, checked}
+use Rattle.model.specs.plain_store.{Command, Setup, checked}
 use Rattle.model.specs.{Access, Call, Entry, Event, Part, Past, Reading, access_at, ended, entry_of, past_of, read_at, valued, value_of, width}
 use Rattle.model.proofs.Width.{IsGood, is_good}
 use Rattle.laws.specs.{IsThere, call}

@@ -3,7 +3,7 @@ use Rattle.std.proofs.Common.{◌≡◌, ◌≢◌, ℕ, suc, ◌+◌, ◌^◌, 
 use Rattle.std.proofs.lemmas.Bool.{cases_eq}
 use Rattle.safe_number.specs.{first_bits, number_of_bits}
 use Rattle.safe_number.proofs.Bits.{number-fits}
-use Rattle.plain_store.specs.{Command, Setup, checked}
+use Rattle.model.specs.plain_store.{Command, Setup, checked}
 use Rattle.model.specs.{Access, Call, Closing, Ended, Entry, Event, Frees, Part, Past, Place, Quit, Reading, Run, Settles, Withdraws, Writing, access_at, bits_with, closing_after, enter, entry_of, is_last, is_over, is_read, own, part_after, past-induction, past_of, read_at, run_after, valued, value_of, width, written_at}
 use Rattle.model.specs.Closings.{Lowers}
 use Rattle.model.specs.safe_number.{new_write}

@@ -4,8 +4,8 @@ use Rattle.std.proofs.Math.Nat.{mul-le-mul_right}
 use Rattle.std.proofs.lemmas.Bool.{cases_lt}
 use Rattle.std.proofs.lemmas.List.{get_or-set_same, get_or-set_other}
 use Rattle.std.proofs.lemmas.List.FromFn.{get_or-map-range_with_len, length-map-range_with_len}
-use Rattle.safe_bit.specs.Cell.{Cell, cell_after, without_read}
-use Rattle.safe_bit.specs.{Move}
+use Rattle.model.specs.safe_bit.Cell.{Cell, cell_after, without_read}
+use Rattle.model.specs.safe_bit.{Move}
 use Rattle.reader_copies.specs.{cell_in}
 use Rattle.reader_copies.specs.Row as rows
 use Rattle.reader_copies.proofs.Flags.{made-set}

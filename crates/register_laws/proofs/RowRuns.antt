@@ -1,8 +1,8 @@
 -- Several accesses of a cursor are as many steps on the row of its register.
 use Rattle.std.proofs.Common.{◌≡◌, ℕ, zero, suc, List, length, refl, sym, ap, ◌∙◌, subst, arith}
-use Rattle.safe_bit.specs.Cell.{Cell}
-use Rattle.safe_bit.specs.{Move}
-use Rattle.choices.specs.{FlickState, after_flick, flick_of, flicks_after}
+use Rattle.model.specs.safe_bit.Cell.{Cell}
+use Rattle.model.specs.safe_bit.{Move}
+use Rattle.world.specs.choices.{FlickState, after_flick, flick_of, flicks_after}
 use Rattle.safe_number.specs.{ReadState, WriteState, number_read_after, number_write_after, read_interval, write_interval}
 use Rattle.safe_number.specs.Written.{loaded, register_read}
 use Rattle.safe_number.specs.Runs.{register_written}

@@ -2,7 +2,7 @@
 use Rattle.std.proofs.Common.{◌≡◌, ℕ, ◌==◌, Bool, true, false, not, cond, List, ◌∷◌, Option, Some, refl, sym, ap, ◌∙◌, subst, eq-eqb}
 use Rattle.reader_copies.specs.{IsWritten, Settling, cut_values, settle_after, settled_at, with_value}
 use Rattle.safe_number.specs.{NumberWrite}
-use Rattle.plain_store.specs.{Command, Reply, Setup}
+use Rattle.model.specs.plain_store.{Command, Reply, Setup}
 use Rattle.model.specs.{Access, Call, Closing, Ended, Entry, Event, Field, Frees, Past, Quit, Settles, Withdraws, closing_after, closing_next, entry_of, freeing, is_unwritten, no_ticket, past_of, value_written}
 use Rattle.model.specs.Closings.{Lowers}
 use Rattle.model.specs.declared.access.Field.TheVariants.{Ticket}

@@ -1,15 +1,15 @@
 -- The rows of a world: their shape, their cells, and their change by an entry.
 use Rattle.std.proofs.Common.{◌≡◌, ℕ, ◌<◌, ◌==◌, ◌&&◌, Bool, true, false, cond, List, [], ◌∷◌, get_or, length, Option, None, Some, refl, sym, ap, ◌∙◌, subst, arith, eqb-true}
 use Rattle.std.proofs.lemmas.Bool.{eqb-false, eq-eqb, ne_eqb}
-use Rattle.safe_bit.specs.Cell.{Cell, new_cell, without_read}
-use Rattle.safe_bit.specs.{Move, is_of_write}
-use Rattle.safe_bit.specs.declared.moves.Move.TheVariants.{BeginWrite, EndWrite, BeginRead, EndRead, Settle}
+use Rattle.model.specs.safe_bit.Cell.{Cell, new_cell, without_read}
+use Rattle.model.specs.safe_bit.{Move, is_of_write}
+use Rattle.model.specs.safe_bit.declared.moves.Move.TheVariants.{BeginWrite, EndWrite, BeginRead, EndRead, Settle}
 use Rattle.reader_copies.specs.{HasCell, IsRead, IsRow, KeepsWrites, row_after}
 use Rattle.reader_copies.specs.Row as rows
 use Rattle.reader_copies.proofs.Writing.{drops-keep, read-keeps}
 use Rattle.safe_number.proofs.Numbers.{range_same}
 use Rattle.safe_number.proofs.WrittenSteps.{has_cell}
-use Rattle.plain_store.specs.{Setup}
+use Rattle.model.specs.plain_store.{Setup}
 use Rattle.model.specs.{Access, Entry, Event, Past, copy, entry_of, field_number, past_of, width}
 use Rattle.model.proofs.Width.{IsGood}
 use Rattle.laws.specs.{IsThere, cell_held, drops}
@@ -20,9 +20,9 @@ use Rattle.laws.proofs.HeldThere.{access_there}
 use Rattle.registers.specs.{AreOf, RegisterName, applied, lane_number, lane_of}
 use Rattle.registers.specs.Rows.{row_of}
 use Rattle.registers.proofs.Openings.{reader-lane}
-use Rattle.process.specs.{cells_dropped, is_of_reader, memory_with}
-use Rattle.process.proofs.Memories.{with-are, with-copies, with-copy}
-use Rattle.process.proofs.MemoriesMoved.{with-dropped}
+use Rattle.world.specs.process.{cells_dropped, is_of_reader, memory_with}
+use Rattle.world.proofs.process_proofs.Memories.{with-are, with-copies, with-copy}
+use Rattle.world.proofs.process_proofs.MemoriesMoved.{with-dropped}
 use Rattle.world.proofs.WorldRegisters.{registers-made, registers-stay}
 use Rattle.register_laws.specs.Rows.{made_of}
 use Rattle.register_laws.specs.WorldRows.{is_on, memory_at, register_row, row_after_entry, writes_on}

@@ -3,7 +3,7 @@ use Rattle.std.proofs.Common.{◌≡◌, ℕ, ◌<◌, ◌==◌, Bool, true, fal
 use Rattle.reader_copies.specs.{IsWritten, Settling, cut_values}
 use Rattle.safe_number.specs.{NumberWrite}
 use Rattle.safe_number.proofs.Bits.{length-bits_of_number}
-use Rattle.plain_store.specs.{Command, Setup}
+use Rattle.model.specs.plain_store.{Command, Setup}
 use Rattle.model.specs.{Access, Call, Closing, Ended, Entry, Event, Field, Frees, Part, Past, Quit, Reading, Run, Settles, Withdraws, Writing, access_at, access_of, closing_next, entry_of, is_over, next_written, own, past_of, valued, width, write_moved, written_at}
 use Rattle.model.specs.Closings.{Lowers}
 use Rattle.model.proofs.Ties.{written-width}

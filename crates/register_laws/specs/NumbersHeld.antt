@@ -1,7 +1,7 @@
 -- The number that a register holds after a past: the number of the last write that ended, or that a settled write left.
 use Rattle.std.specs.Prelude.{◌<◌, ◌==◌, ℕ, Bool, false, List, [], ◌∷◌, Option, None, Some, cond, slice_index_or}
-use Rattle.plain_store.specs.{Setup}
-use Rattle.safe_bit.specs.Cell.{Cell}
+use Rattle.model.specs.plain_store.{Setup}
+use Rattle.model.specs.safe_bit.Cell.{Cell}
 use Rattle.reader_copies.specs.{HasItsValue, IsPartlyWritten, IsWritten, Settling, cut_values, settle_after, settled_at, with_value}
 use Rattle.safe_number.specs.{IsSettling, NumberWrite}
 use Rattle.model.specs.{EachPast, Entry, Field, Past, bit_written, field_number, opening_bits, write_moved}

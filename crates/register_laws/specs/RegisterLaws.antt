@@ -1,7 +1,7 @@
 -- The laws of registers (Lamport 1986a) in every state of a world.
 use Rattle.std.specs.Prelude.{◌≡◌, ◌+◌, ◌*◌, ◌^◌, ◌<◌, ◌==◌, ◌&&◌, ℕ, zero, suc, Bool, true, false, not, if◌then◌else◌, List, [], ◌∷◌, ◌++◌, Option, None, Some, cond, is_some, length}
 use Rattle.std.specs.List.{list_any}
-use Rattle.plain_store.specs.{Setup}
+use Rattle.model.specs.plain_store.{Setup}
 use Rattle.reader_copies.specs.{IsWritten, Settling, cut_values, settle_after, settled_at, with_value}
 use Rattle.safe_number.specs.{NumberWrite, first_bits, number_of_bits}
 use Rattle.model.specs.{Access, Call, EachEntry, EachPast, Entry, Part, Past, Reading, Run, Writing, has, is_failed, is_unwritten, read_at, value_of, width, write_moved}

@@ -1,10 +1,10 @@
 -- Theorem R: a step of a cursor on the memory is a step of `Register` on the row of the cursor's register.
 use Rattle.std.specs.Prelude.{◌≡◌, ◌≢◌, ℕ, zero, suc, ◌<◌, ◌==◌, List, [], ◌∷◌, Bool, false, Some, length}
-use Rattle.plain_store.specs.{Setup}
-use Rattle.safe_bit.specs.Cell.{Cell}
+use Rattle.model.specs.plain_store.{Setup}
+use Rattle.model.specs.safe_bit.Cell.{Cell}
 use Rattle.reader_copies.specs.{HasItsValue, Made, Settling, next_settle, next_write, row_after, settle_after, settled_at}
 use Rattle.reader_copies.specs.Row as rows
-use Rattle.choices.specs.{FlickState, flick_of, flicks_after}
+use Rattle.world.specs.choices.{FlickState, flick_of, flicks_after}
 use Rattle.safe_number.specs.{Moment, NumberRead, NumberWrite, bit_write, bits_in, loaded, new_read, new_write, number_read_after, number_write_after, Own, ReadState, WriteState, read_interval, write_interval}
 use Rattle.safe_number.specs.Runs.{register_written}
 use Rattle.safe_number.specs.Runs as number

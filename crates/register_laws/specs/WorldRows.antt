@@ -1,15 +1,15 @@
 -- The row of a register in the state of a world, and its change by an entry.
 use Rattle.std.specs.Prelude.{◌≡◌, ◌+◌, ◌<◌, ◌==◌, ◌&&◌, Bool, false, List, ◌∷◌, cond, None, Some}
-use Rattle.plain_store.specs.{Setup}
-use Rattle.safe_bit.specs.Cell.{Cell}
-use Rattle.safe_bit.specs.{is_of_write}
+use Rattle.model.specs.plain_store.{Setup}
+use Rattle.model.specs.safe_bit.Cell.{Cell}
+use Rattle.model.specs.safe_bit.{is_of_write}
 use Rattle.reader_copies.specs.{IsRow, row_after}
 use Rattle.reader_copies.specs.Row as rows
 use Rattle.model.specs.{Access, EachEntry, EachPast, Entry, Event, Past, field_number, past_of, width}
 use Rattle.laws.specs.{cell_held, drops}
 use Rattle.registers.specs.{CursorState, Fits, IsAtCopy, RegisterName}
 use Rattle.registers.specs.Rows.{row_of}
-use Rattle.process.specs.{memory_with}
+use Rattle.world.specs.process.{memory_with}
 use Rattle.world.specs.Shows.{Shows, WorldState}
 use Rattle.register_laws.specs.Rows.{made_of}
 

@@ -6,4 +6,4 @@ mod rows;
 mod worlds;
 
 pub use rows::registers_are_rows;
-pub use worlds::{registers_of_worlds, worlds_have_registers};
+pub use worlds::{worlds_consist_of_rows, worlds_keep_register_laws};

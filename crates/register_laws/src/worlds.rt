@@ -6,7 +6,7 @@ ghost use Rattle.register_laws.specs.WorldRows.{CursorsFitWorlds, EntriesChangeR
 /// The memory of a world consists of the rows of its registers. In every state of a world a row has a copy of each bit for each
 /// process. Each entry changes each row by its access, or by the read that it drops. Each cursor of the setup fits the memory,
 /// so [`registers_are_rows`](crate::registers_are_rows) applies to its steps.
-pub fn worlds_have_registers()
+pub fn worlds_consist_of_rows()
     ensures shown { WorldsHaveTheseRows }
     ensures rows { RowsAreWhole }
     ensures entries { EntriesChangeRows }
@@ -19,12 +19,12 @@ pub fn worlds_have_registers()
 ///
 /// The number of a register is the number of its last write that ended, or what an interrupted write left. In every state each
 /// copy of each bit has its bit of that number, except for the bits that a write in progress has changed.
-pub fn registers_of_worlds()
+pub fn worlds_keep_register_laws()
     ensures numbers { RegistersHoldTheirNumbers }
     ensures written { WritesGiveTheirBits }
     ensures bit_by_bit { WritesGoBitByBit }
     ensures unoverlapped { UnoverlappedReadsReturnTheNumber }
     ensures so_far { UnoverlappedReadsReadTheNumber }
-    ensures overlapped { ReadsReturnANumber }
+    ensures any_read { ReadsReturnANumber }
     ensures interrupted { InterruptedWritesAreSettled }
 {}

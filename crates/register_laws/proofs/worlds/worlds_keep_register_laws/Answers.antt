@@ -5,7 +5,7 @@ use Rattle.model.specs.{past_of}
 use Rattle.register_laws.proofs.ReadsReturn.{returned-fits, returned-length, returns-number, so-far}
 use Rattle.register_laws.proofs.SettledWrites.{interrupted-settled}
 use Rattle.register_laws.proofs.WritesEnd.{between-bits, write-ends}
-use Rattle.register_laws.proofs.worlds.registers_of_worlds.Goals as goal
+use Rattle.register_laws.proofs.worlds.worlds_keep_register_laws.Goals as goal
 
 pub returns : goal.returns
 returns x = record {
@@ -14,6 +14,6 @@ returns x = record {
   bit_by_bit = λ s ok events r new w owner progress none. between-bits s (is_good s ok) events r new w owner progress none;
   unoverlapped = λ s ok events event e is read a ends u. returns-number s ok events event e is read a ends u;
   so_far = λ s ok events p read h u. so-far s ok events p read h u;
-  overlapped = λ s ok events event e is read a ends. (returned-length s (past_of s events) e read a ends, returned-fits s (past_of s events) e read a ends);
+  any_read = λ s ok events event e is read a ends. (returned-length s (past_of s events) e read a ends, returned-fits s (past_of s events) e read a ends);
   interrupted = λ s ok events event e is r bit v ends. interrupted-settled s (is_good s ok) events event e is r bit v ends;
 }

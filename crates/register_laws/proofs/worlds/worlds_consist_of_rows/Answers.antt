@@ -6,10 +6,10 @@ use Rattle.register_laws.specs.WorldRows.{memory_at}
 use Rattle.laws.specs.{cell_held}
 use Rattle.registers.specs.Rows.{row_of}
 use Rattle.registers.proofs.Openings.{setup-fits}
-use Rattle.process.proofs.Memories.{with-are}
+use Rattle.world.proofs.process_proofs.Memories.{with-are}
 use Rattle.world.specs.Shows.{WorldState}
 use Rattle.register_laws.proofs.WorldChanges.{row-entry, row-shape}
-use Rattle.register_laws.proofs.worlds.worlds_have_registers.Goals as goal
+use Rattle.register_laws.proofs.worlds.worlds_consist_of_rows.Goals as goal
 
 pub returns : goal.returns
 returns x = record {
