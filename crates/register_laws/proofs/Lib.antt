@@ -8,6 +8,7 @@ pub mod ReadsReturn
 pub mod RowMoves
 pub mod RowRuns
 pub mod RowSteps
+pub mod SettledMarks
 pub mod SettledWrites
 pub mod WorldChanges
 pub mod WritesEnd

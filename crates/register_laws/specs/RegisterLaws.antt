@@ -1,11 +1,12 @@
 -- The laws of registers (Lamport 1986a) in every state of a world.
 use Rattle.std.specs.Prelude.{◌≡◌, ◌+◌, ◌*◌, ◌^◌, ◌<◌, ◌==◌, ◌&&◌, ℕ, zero, suc, Bool, true, false, not, if◌then◌else◌, List, [], ◌∷◌, ◌++◌, Option, None, Some, cond, is_some, length}
-use Rattle.std.specs.List.{list_any}
+use Rattle.std.specs.List.{Contains, list_any}
 use Rattle.model.specs.plain_store.{Setup}
 use Rattle.reader_copies.specs.{IsWritten, Settling, cut_values, settle_after, settled_at, with_value}
 use Rattle.safe_number.specs.{NumberWrite, first_bits, number_of_bits}
 use Rattle.model.specs.{Access, Call, EachEntry, EachPast, Entry, Part, Past, Reading, Run, Writing, has, is_failed, is_unwritten, read_at, value_of, width, write_moved}
 use Rattle.model.specs.Unit.{value_written}
+use Rattle.model.specs.declared.marks.Mark.TheVariants.{Settled}
 use Rattle.laws.specs.{Doing, Runs, call, doing}
 use Rattle.registers.specs.{RegisterName}
 use Rattle.register_laws.specs.NumbersHeld.{InSettling, InWrite, Progress, Quiet, bit_of, number_after, progress_at}
@@ -136,3 +137,7 @@ abbrev pub InterruptedWritesAreSettled : Type 0
 InterruptedWritesAreSettled = EachEntry λ s past e. (r : RegisterName) (bit : ℕ) (v : Bool) → EndsSettling s past e r bit v
     → let failed : Past = before_failure r.owner past in
     (new : List Bool) × WasInterrupted s failed r bit new × IsWritten (register_row s (e ∷ past) r) (with_value (cut_values (number_after s r failed) (bit_of new) bit) bit v)
+
+-- The mark `Settled v` is on the last access of the settling of a bit at v.
+abbrev pub SettledMarksEndSettlings : Type 0
+SettledMarksEndSettlings = EachEntry λ s past e. (v : Bool) → Contains e.marks (Settled v) → (r : RegisterName) × (bit : ℕ) × EndsSettling s past e r bit v

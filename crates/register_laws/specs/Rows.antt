@@ -1,4 +1,4 @@
--- Theorem R: a step of a cursor on the memory is a step of `Register` on the row of the cursor's register.
+-- A step of a cursor on the memory is a step of `Register` on the row of the cursor's register.
 use Rattle.std.specs.Prelude.{◌≡◌, ◌≢◌, ℕ, zero, suc, ◌<◌, ◌==◌, List, [], ◌∷◌, Bool, false, Some, length}
 use Rattle.model.specs.plain_store.{Setup}
 use Rattle.model.specs.safe_bit.Cell.{Cell}
@@ -81,7 +81,7 @@ pub record StepsAsSettling (memory : List (List Cell)) (c : CursorState) (torn_b
   pub over : is_over (cursor_after c a.how) ≡ ((settle_after t v).reader == length (row_at c memory))
   pub progress : is_over (cursor_after c a.how) ≡ false → IsAtSettling torn_bit (settle_after t v) (cursor_after c a.how)
 
--- THEOREM R
+-- THE LAWS OF ONE STEP
 
 -- A step of a cursor changes the row of its register by its access.
 abbrev pub StepIsOnItsRow : Type 0

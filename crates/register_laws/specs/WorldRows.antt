@@ -57,6 +57,6 @@ pub record IsCursorOf (s : Setup) (c : CursorState) : Type 0 where
   pub copy : c.reader + c.copy < c.copies
   pub at : IsAtCopy c.run c.reader c.copy
 
--- Theorem R applies to the memory of a world: each cursor of its setup fits it.
+-- Each cursor of the setup fits the memory of a world. So the laws of a cursor's steps apply to it.
 abbrev pub CursorsFitWorlds : Type 0
 CursorsFitWorlds = EachPast λ s past. (c : CursorState) → IsCursorOf s c → Fits (memory_at s past) c

@@ -1,4 +1,4 @@
-//! Theorem R: the memory and its cursors behave as registers and their runs do.
+//! The memory and its cursors behave as registers and their runs do.
 ghost use Rattle.register_laws.specs.Rows.{DropIsOnItsRow, DropKeepsOtherRows, ReadRunsAgree, ReadStepsAgree, ReadsBeginAlike, SettlingStepsAgree, SettlingsBeginAlike, StepIsOnItsRow, StepKeepsOtherRows, WriteRunsAgree, WriteStepsAgree, WritesBeginAlike};
 
 /// Each register of the memory is a row of bits. A step of a `Cursor` on the memory and a step of `WriteRun`, of `ReadRun` or

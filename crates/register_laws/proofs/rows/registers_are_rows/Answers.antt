@@ -1,4 +1,4 @@
--- Theorem R.
+-- A step of a cursor is a step on the row of its register.
 use Rattle.std.proofs.Common.{refl, arith}
 use Rattle.register_laws.proofs.RowMoves.{row-dropped, row-stays}
 use Rattle.register_laws.proofs.RowRuns.{read-runs, write-runs}

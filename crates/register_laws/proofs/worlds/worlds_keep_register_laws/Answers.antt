@@ -3,6 +3,7 @@ use Rattle.model.proofs.Width.{is_good}
 use Rattle.register_laws.proofs.NumbersAlways.{numbers-held}
 use Rattle.model.specs.{past_of}
 use Rattle.register_laws.proofs.ReadsReturn.{returned-fits, returned-length, returns-number, so-far}
+use Rattle.register_laws.proofs.SettledMarks.{settled-ends}
 use Rattle.register_laws.proofs.SettledWrites.{interrupted-settled}
 use Rattle.register_laws.proofs.WritesEnd.{between-bits, write-ends}
 use Rattle.register_laws.proofs.worlds.worlds_keep_register_laws.Goals as goal
@@ -16,4 +17,5 @@ returns x = record {
   so_far = λ s ok events p read h u. so-far s ok events p read h u;
   any_read = λ s ok events event e is read a ends. (returned-length s (past_of s events) e read a ends, returned-fits s (past_of s events) e read a ends);
   interrupted = λ s ok events event e is r bit v ends. interrupted-settled s (is_good s ok) events event e is r bit v ends;
+  settled = λ s ok events event e is v marked. settled-ends s (is_good s ok) events event e is v marked;
 }
