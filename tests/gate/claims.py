@@ -53,7 +53,7 @@ PROOFS = {"PROOF_OF_THE_LOCK.md": ["laws", "model"], "PROOF_OF_THE_HISTORY.md": 
 STRENGTHS = {"proved", "tested", "measured"}
 PATHS = {"program", "library", "reference"}
 # the crates of the reference calls, as far as the program does not run them
-REFERENCE = {"bakery", "reader_copies", "safe_number"}
+REFERENCE = {"reader_copies", "safe_number"}
 
 
 def clause_at(path, words):

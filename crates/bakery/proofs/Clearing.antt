@@ -4,7 +4,7 @@ use Rattle.plain_store.specs.{Answer}
 use Rattle.plain_store.specs.declared.Command.TheVariants.{Ask}
 use Rattle.model.specs.{Call, Place, Quit, Reading, Run, Withdraws, Writing, access_at, enter, is_last_written, no_ticket, place_after, torn_at, write_moved}
 use Rattle.model.specs.Parts.{Part, Raises, Asks, TakesTicket, Lowers, Refuses, Waits, AsksCommit, AsksStamp, AsksImage, WritesImage, WritesStamp, WritesCommit, Clears, Over}
-use Rattle.safe_number.specs.{NumberWrite}
+use Rattle.model.specs.safe_number.{NumberWrite}
 use Rattle.process.specs.laws.{closes}
 use Rattle.process.specs.{ProcessState, may_step, next_at, stepped, torn_of}
 use Rattle.bakery.specs.Leavings.{clearing_at, leaving_at}

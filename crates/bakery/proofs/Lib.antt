@@ -1,16 +1,12 @@
 -- The result of an access of the door is that of any call
 pub mod AnyCall
 pub mod AtDoor
-pub mod Cells
 pub mod Clearing
+-- A process that runs no call
+pub mod Closings
 pub mod DoorSteps
+-- The registers of a setup remain those of the setup
+pub mod Kept
 -- A step of a section
 pub mod SectionSteps
--- The values of the registers, and the newest version in them
-pub mod Committed
-pub mod Holdings
-pub mod Opening
-pub mod Widths
--- The effect of a memory unit on its registers
-mod UnitRegisters
 pub mod UnitSteps

@@ -1,15 +1,16 @@
 -- The doorway and the waiting of a process: the results of its accesses. They are those of any call.
-use Rattle.std.specs.Prelude.{◌≡◌, ◌<◌, ℕ, Bool, true, false, List, [], ◌∷◌, length, IfSome, Option, None, Some}
+use Rattle.std.specs.Prelude.{◌≡◌, ℕ, Bool, true, false, List, [], ◌∷◌, Option, Some}
 use Rattle.plain_store.specs.declared.Answer.TheVariants as answer
 use Rattle.plain_store.specs.declared.Command.TheVariants.{Ask}
-use Rattle.model.specs.{Access, Call, Field, Mark, Place, Raises, Stage, TornBit, access_at, enter, is_at_door, is_waiting_stage, marks_of, place_after, stage_at, torn_at}
+use Rattle.model.specs.{Access, Call, Mark, Place, Raises, Stage, TornBit, access_at, enter, is_at_door, is_waiting_stage, marks_of, place_after, stage_at, torn_at}
 use Rattle.model.specs.declared.marks.Mark.TheVariants as mark
 use Rattle.model.specs.declared.stages.Stage.TheVariants as stage
-use Rattle.process.specs.laws.{Runs, reads_of, runs}
-use Rattle.process.specs.{ProcessState, full_of, next_at, stage_doing, ticket_of}
+use Rattle.process.specs.laws.{Runs, runs}
+use Rattle.process.specs.{ProcessState, full_of, stage_doing, ticket_of}
 use Rattle.bakery.specs.declared.door_progress.DoorProgress.{DoorProgress}
 use Rattle.bakery.specs.declared.door_progress.DoorProgress.TheVariants as reported
-use Rattle.bakery.specs.Locks.{LockRows, CanAccess, answered, lock_of, locks_without_reads, row_in}
+use Rattle.bakery.specs.Memory.{SetupMemory}
+use Rattle.process.specs.registers.{answered}
 
 -- the process is in its doorway, or waits
 abbrev pub is_going : ProcessState → Bool
@@ -17,18 +18,6 @@ is_going d = is_at_door (stage_doing d.doing)
 
 abbrev pub is_waiting : ProcessState → Bool
 is_waiting d = is_waiting_stage (stage_doing d.doing)
-
--- the next access is in its turn on the locks; the end of a read has the value from the locks
-abbrev pub IsInTurn : ProcessState → List LockRows → Bool → Type 0
-IsInTurn d locks flick = let next = answered locks flick (next_at d flick) in CanAccess (lock_of locks next.owner) next
-
--- the reader of the register that is read exists, so that its open read can be dropped
-abbrev pub MayDrop : ProcessState → List LockRows → Type 0
-MayDrop d locks = IfSome (reads_of d.setup d.process d.doing) (λ (register : ℕ × Field). d.process < length (row_in (lock_of locks register.0) register.1))
-
--- the locks without the door's open read
-abbrev pub dropped : ProcessState → List LockRows → List LockRows
-dropped d locks = elim (reads_of d.setup d.process d.doing) [ None ↦ locks | Some register ↦ locks_without_reads locks register.0 register.1 d.process ]
 
 -- THE RESULTS OF ACCESSES
 
@@ -72,8 +61,8 @@ abbrev pub BeginsCalls : ProcessState → ProcessState → Type 0
 BeginsCalls d then = (c : Call) → d.setup ≡ c.setup → d.process ≡ c.process → then ≡ door_at c (enter c Raises)
 
 -- the next access of the call; the end of a read has the value from the locks
-abbrev pub IsNextOfCall : ProcessState → List LockRows → Bool → Access → Type 0
-IsNextOfCall d locks flick access = (c : Call) (at : Place) → d ≡ door_at c at → access ≡ answered locks flick (access_at c at.part at.run)
+abbrev pub IsNextOfCall : ProcessState → SetupMemory → Bool → Access → Type 0
+IsNextOfCall d locks flick access = (c : Call) (at : Place) → d ≡ door_at c at → access ≡ answered c.setup.processes locks.registers flick (access_at c at.part at.run)
 
 -- each next access, with value v, moves the call to its next place
 abbrev pub CallGoesOn : ProcessState → Bool → ProcessState → Type 0

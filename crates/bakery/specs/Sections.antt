@@ -1,14 +1,14 @@
 -- A process inside the critical section: parts E to G of its call, and the result of each access.
-use Rattle.std.specs.Prelude.{◌≡◌, ◌<◌, ℕ, Bool, true, false, cond, List, [], ◌∷◌, Option, None, Some, is_some}
+use Rattle.std.specs.Prelude.{◌≡◌, ◌<◌, ℕ, Bool, true, false, List, [], ◌∷◌, Option, None, Some, is_some}
 use Rattle.plain_store.specs.{Answer, Setup}
 use Rattle.plain_store.specs.declared.Answer.TheVariants as answer
-use Rattle.model.specs.{Access, AsksCommit, AsksImage, AsksStamp, Mark, Part, WritesCommit, WritesImage, WritesStamp, width}
+use Rattle.model.specs.{Access, Field, AsksCommit, AsksImage, AsksStamp, Mark, Part, WritesCommit, WritesImage, WritesStamp, width}
 use Rattle.model.specs.declared.marks.Mark.TheVariants as mark
-use Rattle.process.specs.laws.{Doing, Runs, reads_of}
+use Rattle.process.specs.laws.{Doing, Runs}
 use Rattle.process.specs.{ProcessState, answer_of, change_of, changes_read}
 use Rattle.bakery.specs.declared.section_progress.SectionProgress.{SectionProgress}
 use Rattle.bakery.specs.declared.section_progress.SectionProgress.TheVariants as reported
-use Rattle.bakery.specs.Registers.{DataRow, is_data, without_reads_at}
+use Rattle.model.specs.declared.access.Field.TheVariants.{Choosing, Ticket}
 
 -- a part from E to G
 abbrev pub is_of_data : Part → Bool
@@ -28,19 +28,18 @@ goes _ = false
 abbrev pub is_going : ProcessState → Bool
 is_going section = goes section.doing
 
+-- the field is one of the store's versions
+abbrev pub is_data : Field → Bool
+is_data Choosing = false
+is_data Ticket = false
+is_data _ = true
+
 -- an access of a process to the registers of a setup
 pub record IsInRange (s : Setup) (a : Access) : Type 0 where
   pub owner : a.owner < s.processes
   pub field : is_data a.field ≡ true
   pub bit : a.bit < width s a.field
   pub reader : a.reader < s.processes
-
--- the row without the section's open read, if it has one
-abbrev pub dropped : ProcessState → DataRow → DataRow
-dropped section row = elim (reads_of section.setup section.process section.doing) [
-  | None ↦ row
-  | Some register ↦ cond (is_data register.1) (without_reads_at row register.0 register.1 section.process) row
-]
 
 -- THE RESULTS OF ACCESSES
 

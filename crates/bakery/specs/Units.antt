@@ -8,12 +8,22 @@ use Rattle.model.specs.declared.Mark.TheVariants as mark
 use Rattle.model.specs.Closings.{Closing, Settles, Frees, Lowers, closing_next, closing_after, settled_marks}
 use Rattle.process.specs.laws.{Doing, Closes, Lies, is_inside_closing}
 use Rattle.process.specs.{ProcessState, may_step, settles}
+use Rattle.bakery.specs.Memory.{BorrowedMemory, memory_after}
+use Rattle.bakery.specs.Sections.{is_data}
 use Rattle.bakery.specs.declared.unit_progress.UnitProgress.{UnitProgress}
 use Rattle.bakery.specs.declared.unit_progress.UnitProgress.TheVariants as progress
 
 -- the remaining work
 abbrev pub remains : Doing → UnitProgress
 remains d = cond (settles d) progress.Settling (cond (may_step d) progress.Clearing progress.Down)
+
+-- the lock after an access: an access to the versions leaves it as it is
+abbrev pub lock_after : BorrowedMemory → Access → BorrowedMemory
+lock_after lock a = record lock { memory = cond (is_data a.field) lock.memory (memory_after lock.memory a) }
+
+-- the versions after an access: an access to the lock leaves them as they are
+abbrev pub versions_after : BorrowedMemory → Access → BorrowedMemory
+versions_after versions a = record versions { memory = cond (is_data a.field) (memory_after versions.memory a) versions.memory }
 
 -- ANY CLOSING
 

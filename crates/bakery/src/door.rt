@@ -2,15 +2,15 @@ ghost use Rattle.std.specs.Prelude.{◌≡◌, ◌<◌, true, Ok, IfOk, IfSome, 
 ghost use Rattle.plain_store.specs.{checked};
 ghost use Rattle.plain_store.specs.declared.Command.TheVariants.{Ask};
 ghost use Rattle.model.specs.{IsTornOf, value_of};
-ghost use Rattle.process.specs.{called, marks_on, next_at, process_after, restarted, stage_doing, stepped, torn_of};
-ghost use Rattle.bakery.specs.Doors.{BeginsCalls, CallGoesOn, CallTears, IsInTurn, IsNextOfCall, MarksOfCall, MayDrop, dropped, goes_on, is_going, is_waiting, marks_reported, progress_on, reports_wait};
-ghost use Rattle.bakery.specs.Locks.{answered, locks_after};
+ghost use Rattle.process.specs.{called, marks_on, process_after, restarted, stage_doing, stepped, torn_of};
+ghost use Rattle.bakery.specs.Doors.{BeginsCalls, CallGoesOn, CallTears, IsNextOfCall, MarksOfCall, goes_on, is_going, is_waiting, marks_reported, progress_on, reports_wait};
+ghost use Rattle.bakery.specs.Memory.{answered_by, memory_after, memory_dropped};
 
 use crate::door_progress::DoorProgress;
 use crate::lock::Locks;
 use model::{Access, TornBit};
 use plain_store::{Command, Setup};
-use process::{Process, value_returned};
+use process::Process;
 use std::alloc::{AllocError, Global};
 use std::marker::Model;
 
@@ -61,14 +61,14 @@ impl Door {
 
     /// Makes the next access on the lock's registers, and returns it with its result. The end of a bit's read
     /// gives `flick` if a write of this process's copy was open at some time during the read, and otherwise the copy's
-    /// value. The access has to be in its turn there.
+    /// value.
     #[inline]
     pub fn step(&mut self, locks: &mut Locks, flick: bool) -> (Access, DoorProgress)
         requires going { is_going self.old ≡ true }
-        requires turn { IsInTurn self.old locks.old flick }
-        ensures access { result.0 ≡ answered locks.old flick (next_at self.old flick) }
+        requires setup { self.old.setup ≡ locks.old.setup }
+        ensures access { result.0 ≡ answered_by self.old locks.old flick }
         ensures any_access { IsNextOfCall self.old locks.old flick result.0 }
-        ensures locks { locks.new ≡ locks_after locks.old result.0 }
+        ensures locks { locks.new ≡ memory_after locks.old result.0 }
         ensures door { self.new ≡ stepped self.old flick (value_of result.0.how) }
         ensures any_door { CallGoesOn self.old (value_of result.0.how) self.new }
         ensures progress { result.1 ≡ progress_on self.old self.new }
@@ -78,11 +78,9 @@ impl Door {
         ensures going { is_going self.new ≡ goes_on result.1 }
         ensures waiting { is_waiting self.new ≡ reports_wait result.1 }
     {
-        let access = locks.answered(self.place.next(flick), flick);
-        locks.apply(access);
         let ticket = self.place.ticket();
         let full = self.place.full();
-        let _reported = self.place.advance(flick, value_returned(access.how));
+        let access = locks.lock.memory.step(&mut self.place, flick);
         (access, DoorProgress::at(self.place.stage(), ticket, full))
     }
 
@@ -90,11 +88,11 @@ impl Door {
     /// a [`Leaving`](crate::Leaving) clears it.
     pub fn withdraw(&mut self, locks: &mut Locks)
         requires waiting { is_waiting self.old ≡ true }
-        requires droppable { MayDrop self.old locks.old }
-        ensures locks { locks.new ≡ dropped self.old locks.old }
+        requires setup { self.old.setup ≡ locks.old.setup }
+        ensures locks { locks.new ≡ memory_dropped self.old locks.old }
         ensures door { self.new ≡ restarted self.old }
     {
-        self.drop_read(locks);
+        locks.lock.memory.drop_read(&self.place);
         self.place.restart();
     }
 
@@ -102,26 +100,16 @@ impl Door {
     /// Returns the bit whose write has begun and has not ended on every copy, if it exists.
     pub fn fail(&mut self, locks: &mut Locks) -> Option<TornBit>
         requires going { is_going self.old ≡ true }
-        requires droppable { MayDrop self.old locks.old }
+        requires setup { self.old.setup ≡ locks.old.setup }
         ensures torn { result ≡ torn_of self.old.setup self.old.process self.old.doing }
         ensures any_torn { CallTears self.old result }
         ensures known { IfSome result (IsTornOf self.old.setup) }
-        ensures locks { locks.new ≡ dropped self.old locks.old }
+        ensures locks { locks.new ≡ memory_dropped self.old locks.old }
         ensures door { self.new ≡ restarted self.old }
     {
         let torn = self.place.torn();
-        self.drop_read(locks);
+        locks.lock.memory.drop_read(&self.place);
         self.place.restart();
         torn
-    }
-
-    /// Drops the open read.
-    fn drop_read(&self, locks: &mut Locks)
-        requires { MayDrop self.now locks.old }
-        ensures { locks.new ≡ dropped self.now locks.old }
-    {
-        if let Some((owner, field)) = self.place.reads() {
-            locks.drop_read(owner, field, self.place.process());
-        }
     }
 }

@@ -4,12 +4,12 @@ ghost use Rattle.plain_store.specs.{checked};
 ghost use Rattle.model.specs.{IsTornOf, value_of};
 ghost use Rattle.process.specs.{may_step, next_at, process_after, stepped, torn_of, withdrawn};
 ghost use Rattle.bakery.specs.Leavings.{BeginsClearing, CallGoesOn, CallTears, IsNextOfCall};
-ghost use Rattle.bakery.specs.Locks.{CanAccess, lock_after};
+ghost use Rattle.bakery.specs.Memory.{with_access};
 
 use crate::lock::Lock;
 use model::{Access, TornBit};
 use plain_store::Setup;
-use process::{Process, value_returned};
+use process::Process;
 use reader_copies::Progress;
 use std::marker::Model;
 
@@ -25,10 +25,13 @@ pub struct Leaving {
 
 impl Model for Leaving {
     ghost use Rattle.process.specs.{ProcessState};
+    ghost use Rattle.bakery.specs.Leavings.{IsClosing};
 
     ghost Value = { ProcessState };
 
     ghost view = { λ l. l.place };
+
+    ghost invariant = { λ l. IsClosing l.place.doing };
 }
 
 impl Leaving {
@@ -44,26 +47,25 @@ impl Leaving {
         Leaving { place }
     }
 
-    /// Makes the next access on the lock's registers. It has to be in its turn there.
+    /// Makes the next access on the lock's registers.
     #[inline]
     pub fn step(&mut self, lock: &mut Lock) -> (Access, Progress)
         requires going { may_step self.old.doing ≡ true }
-        requires turn { CanAccess lock.old (next_at self.old false) }
+        requires setup { self.old.setup ≡ lock.old.memory.setup }
         ensures access { result.0 ≡ next_at self.old false }
         ensures any_access { IsNextOfCall self.old result.0 }
-        ensures lock { lock.new ≡ lock_after lock.old result.0 }
+        ensures lock { lock.new ≡ with_access lock.old result.0 }
         ensures leaving { self.new ≡ stepped self.old false (value_of result.0.how) }
         ensures any_leaving { CallGoesOn self.old self.new }
         ensures progress { result.1 ≡ progress_of (not (may_step self.new.doing)) }
     {
-        let access = self.place.next(false);
-        lock.apply(access);
-        let _reported = self.place.advance(false, value_returned(access.how));
-        if self.place.goes() {
-            (access, Progress::Going)
+        let access = lock.memory.step(&mut self.place, false);
+        let progress = if self.place.goes() {
+            Progress::Going
         } else {
-            (access, Progress::Done)
-        }
+            Progress::Done
+        };
+        (access, progress)
     }
 
     /// Halts at the next access, and returns the bit whose write has begun and has not ended on every copy, if it

@@ -3,8 +3,9 @@
 //! store, answers its command from the newest one, and commits the changed store as its own next version. The memory unit of
 //! a failed process settles the bit that the failure has torn, then clears the process's ticket, then its choosing bit.
 //!
-//! Each is a process at its place. Its `step` makes the next access on the lock's registers or on those of the versions. The
-//! versions and the failure rule are this project's own profile, on Lamport's safe registers (1986a).
+//! Each is a process at its place. Its `step` makes the next access on the registers of a setup, the memory that the program
+//! runs on too: [`Locks`] and [`DataRow`] each have one. The versions and the failure rule are this project's own profile, on
+//! Lamport's safe registers (1986a).
 //!
 //! This crate has the calls of the request's `critical` and `failure`: [`Section`] is the first, and [`Unit`]
 //! is the second.
@@ -14,9 +15,9 @@ mod data;
 mod data_row;
 mod door;
 mod door_progress;
-mod held;
 mod leaving;
 mod lock;
+mod memory;
 mod section;
 mod section_progress;
 mod unit;

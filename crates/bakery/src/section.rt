@@ -2,14 +2,14 @@ ghost use Rattle.std.specs.Prelude.{◌≡◌, ◌<◌, IfOk, IfSome, IsOk, Ok, 
 ghost use Rattle.plain_store.specs.{checked};
 ghost use Rattle.model.specs.{IsTornOf, ended_with, value_of};
 ghost use Rattle.process.specs.{called_inside, change_of, marks_on, next_at, process_after, restarted, stepped, torn_of};
-ghost use Rattle.bakery.specs.Registers.{after_access, answered, is_data, FitsSetup, MayMake};
-ghost use Rattle.bakery.specs.Sections.{dropped, goes_on, is_going, marks_reported, progress_on, IsInRange};
+ghost use Rattle.bakery.specs.Memory.{answered_by, memory_after, memory_dropped};
+ghost use Rattle.bakery.specs.Sections.{goes_on, is_going, marks_reported, progress_on, IsInRange};
 
 use crate::data_row::DataRow;
 use crate::section_progress::SectionProgress;
-use model::{Access, Field, Move, TornBit};
+use model::{Access, Move, TornBit};
 use plain_store::{Command, Reply, Setup};
-use process::{Process, value_returned};
+use process::Process;
 use std::alloc::{AllocError, Global};
 use std::marker::Model;
 
@@ -96,17 +96,20 @@ impl Section {
     #[inline]
     pub fn step(&mut self, row: &mut DataRow, flick: bool) -> (Access, SectionProgress)
         requires going { is_going self.old ≡ true }
-        requires turn { MayMake row.old (answered row.old flick (next_at self.old false)) }
-        ensures access { result.0 ≡ answered row.old flick (next_at self.old false) }
-        ensures registers { row.new ≡ after_access row.old result.0 }
-        ensures section { self.new ≡ stepped self.old false (value_of result.0.how) }
+        requires setup { self.old.setup ≡ row.old.setup }
+        ensures access { result.0 ≡ answered_by self.old row.old flick }
+        ensures registers { row.new ≡ memory_after row.old result.0 }
+        ensures section { self.new ≡ stepped self.old flick (value_of result.0.how) }
         ensures progress { result.1 ≡ progress_on self.old self.new }
-        ensures marks { marks_reported result.1 ≡ marks_on self.old false (value_of result.0.how) }
+        ensures marks { marks_reported result.1 ≡ marks_on self.old flick (value_of result.0.how) }
         ensures going { is_going self.new ≡ goes_on result.1 }
     {
-        let access = row.answered(self.place.next(false), flick);
-        row.apply(access);
-        (access, self.advance(value_returned(access.how)))
+        let changes = self.place.changes_read();
+        let access = row.data.memory.step(&mut self.place, flick);
+        (
+            access,
+            SectionProgress::at(changes, self.place.answer(), self.place.pending().is_some()),
+        )
     }
 
     /// Returns, while a change is written, the reply, the greatest stamp that was read, and the new value of the commit
@@ -120,34 +123,15 @@ impl Section {
     /// Ends the section because the process has failed: its open read is dropped. Returns the bit whose write was cut, if
     /// it exists. The section does nothing until it starts anew.
     pub fn fail(&mut self, row: &mut DataRow) -> Option<TornBit>
-        requires { FitsSetup self.old.setup row.old }
+        requires setup { self.old.setup ≡ row.old.setup }
         ensures torn { result ≡ torn_of self.old.setup self.old.process self.old.doing }
         ensures known { IfSome result (IsTornOf self.old.setup) }
-        ensures registers { row.new ≡ dropped self.old row.old }
+        ensures registers { row.new ≡ memory_dropped self.old row.old }
         ensures section { self.new ≡ restarted self.old }
     {
         let torn = self.place.torn();
-        self.drop_read(row);
+        row.data.memory.drop_read(&self.place);
         self.place.restart();
         torn
     }
-
-    /// Drops its open read.
-    fn drop_read(&self, row: &mut DataRow)
-        requires { FitsSetup self.now.setup row.old }
-        ensures { row.new ≡ dropped self.now row.old }
-    {
-        if let Some((owner, field)) = self.place.reads() {
-            if is_data(field) {
-                row.drop_read(owner, field, self.place.process());
-            }
-        }
-    }
-}
-
-/// Returns whether a register is one of the store's versions.
-fn is_data(field: Field) -> bool
-    ensures { result ≡ is_data field }
-{
-    !matches!(field, Field::Choosing | Field::Ticket)
 }

@@ -2,9 +2,7 @@ ghost use Rattle.std.specs.Prelude.{◌≡◌, ◌<◌, [], false, true, Ok, IfS
 ghost use Rattle.plain_store.specs.{checked};
 ghost use Rattle.model.specs.{IsTornOf};
 ghost use Rattle.process.specs.{may_step, next_at, process_after, settling_with, stepped};
-ghost use Rattle.bakery.specs.Locks.{lock_after};
-ghost use Rattle.bakery.specs.Memory.{CanAccess, versions_after};
-ghost use Rattle.bakery.specs.Units.{BeginsClosings, ClosingGoesOn, IsNextOfClosing, MarksOfClosing, remains};
+ghost use Rattle.bakery.specs.Units.{BeginsClosings, ClosingGoesOn, IsNextOfClosing, MarksOfClosing, lock_after, remains, versions_after};
 
 use crate::data::Data;
 use crate::lock::Lock;
@@ -12,7 +10,6 @@ use crate::unit_progress::UnitProgress;
 use model::{Access, Field, TornBit};
 use plain_store::Setup;
 use process::Process;
-use reader_copies::Made;
 use std::marker::Model;
 
 /// The memory unit of a failed process. It settles the torn bit, if there is one: on each copy by begin and end of a
@@ -28,10 +25,13 @@ pub struct Unit {
 
 impl Model for Unit {
     ghost use Rattle.process.specs.{ProcessState};
+    ghost use Rattle.bakery.specs.Leavings.{IsClosing};
 
     ghost Value = { ProcessState };
 
     ghost view = { λ u. u.place };
+
+    ghost invariant = { λ u. IsClosing u.place.doing };
 }
 
 impl Unit {
@@ -60,7 +60,8 @@ impl Unit {
         flick: bool,
     ) -> (Access, UnitProgress)
         requires going { may_step self.old.doing ≡ true }
-        requires can { CanAccess lock.old versions.old (next_at self.old flick) }
+        requires lock { self.old.setup ≡ lock.old.memory.setup }
+        requires versions { self.old.setup ≡ versions.old.memory.setup }
         ensures access { result.0 ≡ next_at self.old flick }
         ensures any_access { IsNextOfClosing self.old flick result.0 }
         ensures lock { lock.new ≡ lock_after lock.old result.0 }
@@ -70,18 +71,10 @@ impl Unit {
         ensures progress { result.1 ≡ remains self.new.doing }
         ensures any_marks { MarksOfClosing self.old flick result.1 }
     {
-        let access = self.place.next(flick);
-        match access.field {
-            Field::Choosing | Field::Ticket => lock.apply(access),
-            field => {
-                let made = Made {
-                    reader: access.reader,
-                    how: access.how,
-                };
-                versions.apply(field, access.bit, made);
-            }
-        }
-        let _reported = self.place.advance(flick, false);
+        let access = match self.place.next(flick).field {
+            Field::Choosing | Field::Ticket => lock.memory.step(&mut self.place, flick),
+            _ => versions.memory.step(&mut self.place, flick),
+        };
         (access, UnitProgress::of(&self.place))
     }
 }

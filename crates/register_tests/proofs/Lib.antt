@@ -1,10 +1,1 @@
-pub mod Chains
-pub mod Falls
-pub mod GivesUp
-pub mod LoneDoor
-pub mod LoneWrite
 pub mod OtherBits
-pub mod Rows
-pub mod Stepping
-pub mod Tickets
-pub mod Turning

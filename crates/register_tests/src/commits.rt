@@ -1,9 +1,8 @@
 //! A section on registers, driven to its end, and one that fails while it writes the commit bit.
-ghost use Rattle.std.specs.Prelude.{◌≡◌, true, IfOk};
-ghost use Rattle.bakery.specs.Locks.{new_locks};
+ghost use Rattle.std.specs.Prelude.{◌≡◌, ◌<◌, IfOk, IfSome, None, Ok, Some, true};
+ghost use Rattle.plain_store.specs.{checked};
 ghost use Rattle.bakery.specs.Sections.{is_going};
-ghost use Rattle.register_tests.specs.LoneWrite.{begun, committing, one, write_five};
-ghost use Rattle.register_tests.specs.Sections.{section_after, section_goes};
+ghost use Rattle.register_tests.specs.Steps.{section_goes};
 
 use super::sections::{a, goes_on};
 use super::units::{UnitSteps, place_of, settle};
@@ -25,7 +24,9 @@ struct SectionSteps {
 
 impl SectionSteps {
     /// No steps.
-    fn none() -> SectionSteps {
+    fn none() -> SectionSteps
+        ensures { result.last ≡ None }
+    {
         SectionSteps {
             reading: 0,
             writing: 0,
@@ -34,7 +35,9 @@ impl SectionSteps {
     }
 
     /// Those and one more, which led to this.
-    fn with(self, progress: SectionProgress) -> SectionSteps {
+    fn with(self, progress: SectionProgress) -> SectionSteps
+        ensures { result.last ≡ Some progress }
+    {
         let (reading, writing) = match progress {
             SectionProgress::Reading => (self.reading.saturating_add(1), self.writing),
             SectionProgress::Writing => (self.reading, self.writing.saturating_add(1)),
@@ -46,14 +49,25 @@ impl SectionSteps {
             last: Some(progress),
         }
     }
+
+    /// Whether steps of the section remain after these.
+    fn goes(&self) -> bool
+        ensures { result ≡ section_goes self.now.last }
+    {
+        match &self.last {
+            None => true,
+            Some(progress) => goes_on(progress),
+        }
+    }
 }
 
 /// Makes at most `most` steps of a section, and fewer where it comes to its end.
 fn run_section(section: &mut Section, row: &mut DataRow, most: u32, flick: bool) -> SectionSteps
     requires going { is_going section.old ≡ true }
-    requires runs { section_goes most flick (section.old, row.old) ≡ true }
-    ensures section { section.new ≡ (section_after most flick (section.old, row.old)).0 }
-    ensures row { row.new ≡ (section_after most flick (section.old, row.old)).1 }
+    requires setup { section.old.setup ≡ row.old.setup }
+    ensures section { section.new.setup ≡ section.old.setup }
+    ensures row { row.new.setup ≡ row.old.setup }
+    ensures going { is_going section.new ≡ section_goes result.last }
 {
     let _nested: NestedTypes = None;
     let mut steps = SectionSteps::none();
@@ -68,9 +82,7 @@ fn run_section(section: &mut Section, row: &mut DataRow, most: u32, flick: bool)
 }
 
 /// A write of a counter, whose image differs from the empty one.
-fn five() -> Command
-    ensures { result ≡ write_five }
-{
+fn five() -> Command {
     Command::Write(a(), Value::Count(5))
 }
 
@@ -91,28 +103,35 @@ struct Approach {
     pending: [Option<(Reply, u32, bool)>; 4],
 }
 
-/// Writes a counter by a single section, up to the access before the last. The commit bit is being written then.
-fn approach_commit(section: &mut Section, row: &mut DataRow, most: u32) -> Approach
-    requires most { most ≡ 373 }
-    requires section { section.old ≡ begun.0 }
-    requires row { row.old ≡ begun.1 }
-    ensures section { section.new ≡ committing.0 }
-    ensures row { row.new ≡ committing.1 }
+/// Writes a counter by a single section, up to the access before the last. The commit bit is being written then. None if the
+/// section comes to its end before.
+fn approach_commit(section: &mut Section, row: &mut DataRow, most: u32) -> Option<Approach>
+    requires going { is_going section.old ≡ true }
+    requires setup { section.old.setup ≡ row.old.setup }
+    ensures section { section.new.setup ≡ section.old.setup }
+    ensures row { row.new.setup ≡ row.old.setup }
+    ensures going { IfSome result (λ made. is_going section.new ≡ section_goes made.writes.last) }
 {
     let _nested: NestedTypes = None;
     let begun = section.pending();
     let reads = run_section(section, row, most, true);
+    if !reads.goes() {
+        return None;
+    }
     let read = section.pending();
     let turns = run_section(section, row, 1, true);
+    if !turns.goes() {
+        return None;
+    }
     let turned = section.pending();
     let writes = run_section(section, row, most, true);
     let written = section.pending();
-    Approach {
+    Some(Approach {
         reads,
         turns,
         writes,
         pending: [begun, read, turned, written],
-    }
+    })
 }
 
 /// The reply to the write, no changes before it, and the commit bit 1.
@@ -161,30 +180,39 @@ struct Commit {
     ends: SectionSteps,
     /// The change that is being written after them.
     pending: Option<(Reply, u32, bool)>,
-    /// The newest store then.
+    /// The newest store then, and the version that the process has committed.
     newest: Image,
+    version: (bool, u32),
 }
 
-/// Writes a counter by a single section.
-fn finish_commit(section: &mut Section, row: &mut DataRow) -> Commit
-    requires section { section.old ≡ begun.0 }
-    requires row { row.old ≡ begun.1 }
+/// Writes a counter by a single section. None if it comes to its end before it writes the commit bit.
+fn finish_commit(section: &mut Section, row: &mut DataRow) -> Option<Commit>
+    requires going { is_going section.old ≡ true }
+    requires process { 0 < row.old.setup.processes }
+    requires setup { section.old.setup ≡ row.old.setup }
 {
     let _nested: NestedTypes = None;
-    let approach = approach_commit(section, row, 373);
+    let approach = approach_commit(section, row, 373)?;
+    if !approach.writes.goes() {
+        return None;
+    }
     let ends = run_section(section, row, 100, true);
-    Commit {
+    let version = row.own(0).version();
+    Some(Commit {
         approach,
         ends,
         pending: section.pending(),
         newest: row.newest(),
-    }
+        version,
+    })
 }
 
 /// A section of process 0 that has begun to write a counter.
 fn begun(alloc: Global, setup: &Setup) -> Result<Section, AllocError>
-    requires { setup.now ≡ one }
-    ensures { IfOk result (λ section. section ≡ begun.0) }
+    requires good { checked setup.now ≡ Ok tt }
+    requires process { 0 < setup.now.processes }
+    ensures going { IfOk result (λ section. is_going section ≡ true) }
+    ensures setup { IfOk result (λ section. section.setup ≡ setup.now) }
 {
     let mut section = Section::new(alloc, 0, setup)?;
     section.start(five(), 0);
@@ -192,7 +220,7 @@ fn begun(alloc: Global, setup: &Setup) -> Result<Section, AllocError>
 }
 
 /// Runs the section of a single write to its end.
-fn commits(alloc: Global) -> Result<Commit, AllocError> {
+fn commits(alloc: Global) -> Result<Option<Commit>, AllocError> {
     let setup = Setup::one(1, 2, 2, 1);
     let mut row = DataRow::new(alloc, &setup)?;
     let mut section = begun(alloc, &setup)?;
@@ -202,7 +230,9 @@ fn commits(alloc: Global) -> Result<Commit, AllocError> {
 // With the last one of 748 accesses the command is taken, and the registers hold its store.
 #[test]
 fn a_lone_section_commits(rt: HostRuntime) -> Result<(), AllocError> {
-    let made = commits(rt.alloc())?;
+    let Some(made) = commits(rt.alloc())? else {
+        panic!(rt; "the run comes to its end too early");
+    };
     assert!(rt; has_come_to_the_commit(&made.approach));
     assert!(rt;
         matches!(
@@ -219,6 +249,7 @@ fn a_lone_section_commits(rt: HostRuntime) -> Result<(), AllocError> {
     );
     assert!(rt; made.pending.is_none());
     assert!(rt; has_five(&made.newest));
+    assert!(rt; made.version == (true, 1));
     Ok(())
 }
 
@@ -234,34 +265,37 @@ struct CutCommit {
     newest: Image,
 }
 
-/// Lets a single section fail within the write of its commit bit, and settles that bit at this value.
+/// Lets a single section fail within the write of its commit bit, and settles that bit at this value. None if the section comes
+/// to its end before.
 fn cut(
     section: &mut Section,
     locks: &mut Locks,
     row: &mut DataRow,
     setup: &Setup,
     value: bool,
-) -> CutCommit
-    requires setup { setup.now ≡ one }
-    requires section { section.old ≡ begun.0 }
-    requires locks { locks.old ≡ new_locks one }
-    requires row { row.old ≡ begun.1 }
+) -> Option<CutCommit>
+    requires good { checked setup.now ≡ Ok tt }
+    requires process { 0 < setup.now.processes }
+    requires going { is_going section.old ≡ true }
+    requires section { section.old.setup ≡ setup.now }
+    requires locks { setup.now ≡ locks.old.setup }
+    requires row { setup.now ≡ row.old.setup }
 {
-    let approach = approach_commit(section, row, 373);
+    let approach = approach_commit(section, row, 373)?;
     let torn = section.fail(row);
     let place = place_of(&torn);
     let mut unit = Unit::start(0, setup, torn);
     let unit = settle(locks, row, 0, &mut unit, value);
-    CutCommit {
+    Some(CutCommit {
         approach,
         torn: place,
         unit,
         newest: row.newest(),
-    }
+    })
 }
 
 /// Runs the section of a single write up to its failure.
-fn cut_in_the_commit(alloc: Global, value: bool) -> Result<CutCommit, AllocError> {
+fn cut_in_the_commit(alloc: Global, value: bool) -> Result<Option<CutCommit>, AllocError> {
     let setup = Setup::one(1, 2, 2, 1);
     let mut locks = Locks::new(alloc, &setup)?;
     let mut row = DataRow::new(alloc, &setup)?;
@@ -287,7 +321,9 @@ fn is_settled(made: &CutCommit) -> bool {
 fn settled_at(alloc: Global, value: bool) -> Result<[bool; 3], AllocError> {
     let _nested: NestedTypes = None;
     let _reported: Option<SectionProgress> = None;
-    let made = cut_in_the_commit(alloc, value)?;
+    let Some(made) = cut_in_the_commit(alloc, value)? else {
+        return Ok([false; 3]);
+    };
     let newest = if value {
         has_five(&made.newest)
     } else {

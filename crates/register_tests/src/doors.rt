@@ -1,15 +1,11 @@
 //! Doors, and the clearing of tickets, driven to their end on registers.
-ghost use Rattle.std.specs.Prelude.{◌≡◌, ◌<◌, true, Ok, [], length};
+ghost use Rattle.std.specs.Prelude.{◌≡◌, ◌<◌, true, None, Ok, Some};
 ghost use Rattle.plain_store.specs.{checked};
-ghost use Rattle.model.specs.{copy};
-ghost use Rattle.bakery.specs.process.{may_step, process_after};
-ghost use Rattle.bakery.specs.Doors.{goes_on, is_going};
-ghost use Rattle.bakery.specs.Locks.{lock_of, new_locks};
-ghost use Rattle.register_tests.specs.Doors.{after_bit_read, after_clearing, after_lock_read, bit_reads, door_after, door_goes, leaves, leaving_after, leaving_goes, lock_reads};
-ghost use Rattle.register_tests.specs.LoneWrite.{one};
+ghost use Rattle.bakery.specs.process.{may_step};
+ghost use Rattle.bakery.specs.Doors.{goes_on, is_going, is_waiting};
+ghost use Rattle.register_tests.specs.Steps.{door_goes, door_waits};
 
 use bakery::{Door, DoorProgress, Leaving, Lock, Locks};
-use model::{Access, Field, Move};
 use plain_store::Setup;
 use reader_copies::Progress;
 use std::alloc::{AllocError, Global};
@@ -27,7 +23,9 @@ pub struct DoorSteps {
 
 impl DoorSteps {
     /// No steps.
-    fn none() -> DoorSteps {
+    fn none() -> DoorSteps
+        ensures { result.last ≡ None }
+    {
         DoorSteps {
             doorway: 0,
             waiting: 0,
@@ -36,7 +34,9 @@ impl DoorSteps {
     }
 
     /// Those and one more, which led to this.
-    fn with(self, progress: DoorProgress) -> DoorSteps {
+    fn with(self, progress: DoorProgress) -> DoorSteps
+        ensures { result.last ≡ Some progress }
+    {
         let (doorway, waiting) = match progress {
             DoorProgress::Doorway => (self.doorway.saturating_add(1), self.waiting),
             DoorProgress::Waiting(_) => (self.doorway, self.waiting.saturating_add(1)),
@@ -46,6 +46,24 @@ impl DoorSteps {
             doorway,
             waiting,
             last: Some(progress),
+        }
+    }
+
+    /// Whether steps of the door remain after these.
+    pub fn goes(self) -> bool
+        ensures { result ≡ door_goes self.last }
+    {
+        self.last.map_or(true, goes_on)
+    }
+
+    /// Whether the process waits after these steps, if it waited before them or not.
+    pub fn waits(self, before: bool) -> bool
+        ensures { result ≡ door_waits before self.last }
+    {
+        match self.last {
+            None => before,
+            Some(DoorProgress::Waiting(_)) => true,
+            Some(_) => false,
         }
     }
 }
@@ -60,9 +78,11 @@ fn goes_on(progress: DoorProgress) -> bool
 /// Makes at most `most` steps of a door, and fewer where it comes to its end.
 pub fn run_door(door: &mut Door, locks: &mut Locks, most: u32, flick: bool) -> DoorSteps
     requires going { is_going door.old ≡ true }
-    requires runs { door_goes most flick (door.old, locks.old) ≡ true }
-    ensures door { door.new ≡ (door_after most flick (door.old, locks.old)).0 }
-    ensures locks { locks.new ≡ (door_after most flick (door.old, locks.old)).1 }
+    requires setup { door.old.setup ≡ locks.old.setup }
+    ensures door { door.new.setup ≡ door.old.setup }
+    ensures locks { locks.new.setup ≡ locks.old.setup }
+    ensures going { is_going door.new ≡ door_goes result.last }
+    ensures waiting { is_waiting door.new ≡ door_waits (is_waiting door.old) result.last }
 {
     let mut steps = DoorSteps::none();
     for _made in 0..most {
@@ -78,8 +98,8 @@ pub fn run_door(door: &mut Door, locks: &mut Locks, most: u32, flick: bool) -> D
 /// Makes at most `most` steps of the clearing of a ticket. Returns how many it took, or `None` if it is not done.
 pub fn run_leaving(leaving: &mut Leaving, lock: &mut Lock, most: u32) -> Option<u32>
     requires going { may_step leaving.old.doing ≡ true }
-    requires runs { leaving_goes most (leaving.old, lock.old) ≡ true }
-    ensures lock { lock.new ≡ (leaving_after most (leaving.old, lock.old)).1 }
+    requires setup { leaving.old.setup ≡ lock.old.memory.setup }
+    ensures setup { lock.new.memory.setup ≡ lock.old.memory.setup }
 {
     for made in 0..most {
         let (_, progress) = leaving.step(lock);
@@ -93,47 +113,22 @@ pub fn run_leaving(leaving: &mut Leaving, lock: &mut Lock, most: u32) -> Option<
 
 /// Clears the ticket of a process with at most 100 steps. Returns how many it took, or `None` if it is not done.
 pub fn clear_ticket(locks: &mut Locks, process: u8, setup: &Setup) -> Option<u32>
-    requires setup { checked setup.now ≡ Ok tt }
+    requires good { checked setup.now ≡ Ok tt }
     requires process { process < setup.now.processes }
-    requires in_range { process < length locks.old }
-    requires runs { leaving_goes 100 (leaves setup.now process, lock_of locks.old process) ≡ true }
-    ensures { locks.new ≡ after_clearing setup.now process locks.old }
+    requires setup { setup.now ≡ locks.old.setup }
+    ensures setup { locks.new.setup ≡ locks.old.setup }
 {
     let mut leaving = Leaving::new(process, setup);
     run_leaving(&mut leaving, locks.own(process), 100)
 }
 
-/// Begins and ends a read of a bit, at this flick.
-fn read_bit(locks: &mut Locks, owner: u8, field: Field, bit: u16, reader: u8, flick: bool) -> bool
-    requires { bit_reads locks.old (copy owner field reader bit) flick ≡ true }
-    ensures { locks.new ≡ after_bit_read locks.old (copy owner field reader bit) flick }
+/// Returns whether a process is choosing, and its ticket.
+pub fn read_lock(locks: &mut Locks, process: u8) -> (bool, u32)
+    requires process { process < locks.old.setup.processes }
+    ensures setup { locks.new.setup ≡ locks.old.setup }
 {
-    let begin = Access {
-        owner,
-        field,
-        bit,
-        reader,
-        how: Move::BeginRead,
-    };
-    locks.apply(begin);
-    let end = Access {
-        how: Move::EndRead(false),
-        ..begin
-    };
-    let end = locks.answered(end, flick);
-    locks.apply(end);
-    matches!(end.how, Move::EndRead(true))
-}
-
-/// Reads the choosing bit of a process and the two bits of its ticket, at this flick.
-pub fn read_lock(locks: &mut Locks, owner: u8, reader: u8, flick: bool) -> [bool; 3]
-    requires { lock_reads locks.old owner reader flick ≡ true }
-    ensures { locks.new ≡ after_lock_read locks.old owner reader flick }
-{
-    let choosing = read_bit(locks, owner, Field::Choosing, 0, reader, flick);
-    let low = read_bit(locks, owner, Field::Ticket, 0, reader, flick);
-    let high = read_bit(locks, owner, Field::Ticket, 1, reader, flick);
-    [choosing, low, high]
+    let lock = locks.own(process);
+    (lock.is_choosing(), lock.ticket())
 }
 
 /// The outcome of a single door, and its lock.
@@ -142,24 +137,25 @@ struct Visit {
     /// The steps with which it enters.
     enters: DoorSteps,
     /// The lock then.
-    inside: [bool; 3],
+    inside: (bool, u32),
     /// How many steps clear its ticket.
     cleared: Option<u32>,
     /// The lock after them.
-    outside: [bool; 3],
+    outside: (bool, u32),
 }
 
 /// Enters by a door, and clears the ticket.
 fn visit_alone(locks: &mut Locks, door: &mut Door, setup: &Setup) -> Visit
-    requires setup { setup.now ≡ one }
-    requires locks { locks.old ≡ new_locks one }
-    requires door { door.old ≡ process_after one [] 0 }
+    requires good { checked setup.now ≡ Ok tt }
+    requires process { 0 < setup.now.processes }
+    requires locks { setup.now ≡ locks.old.setup }
+    requires door { door.old.setup ≡ locks.old.setup }
 {
     door.start();
     let enters = run_door(door, locks, 100, true);
-    let inside = read_lock(locks, 0, 0, false);
+    let inside = read_lock(locks, 0);
     let cleared = clear_ticket(locks, 0, setup);
-    let outside = read_lock(locks, 0, 0, true);
+    let outside = read_lock(locks, 0);
     Visit {
         enters,
         inside,
@@ -191,8 +187,8 @@ fn a_lone_process_enters_and_leaves(rt: HostRuntime) -> Result<(), AllocError> {
             }
         )
     );
-    assert!(rt; made.inside == [false, true, false]);
+    assert!(rt; made.inside == (false, 1));
     assert!(rt; made.cleared == Some(4));
-    assert!(rt; made.outside == [false, false, false]);
+    assert!(rt; made.outside == (false, 0));
     Ok(())
 }

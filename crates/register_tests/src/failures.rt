@@ -1,9 +1,6 @@
 //! Doors that fail in the doorway, and the memory unit after them.
-ghost use Rattle.std.specs.Prelude.{◌≡◌, ◌<◌, []};
-ghost use Rattle.bakery.specs.process.{process_after};
-ghost use Rattle.bakery.specs.Locks.{new_locks};
-ghost use Rattle.bakery.specs.Registers.{opening_cell, row_from};
-ghost use Rattle.register_tests.specs.Waits.{two};
+ghost use Rattle.std.specs.Prelude.{◌≡◌, ◌<◌, Ok};
+ghost use Rattle.plain_store.specs.{checked};
 
 use super::doors::{DoorSteps, read_lock, run_door};
 use super::units::{UnitSteps, place_of, settle};
@@ -20,12 +17,13 @@ struct Failure {
     /// The steps of its memory unit.
     unit: UnitSteps,
     /// Its lock after them.
-    lock: [bool; 3],
+    lock: (bool, u32),
     /// The steps of the door of process 1 after them.
     enters: DoorSteps,
 }
 
-/// Lets process 0 fail after `steps` steps of its doorway and settles its torn bit at `value`. Then process 1 enters.
+/// Lets process 0 fail after `steps` steps of its doorway and settles its torn bit at `value`. Then process 1 enters. None if
+/// the doorway has fewer steps.
 fn falls(
     locks: &mut Locks,
     row: &mut DataRow,
@@ -34,35 +32,40 @@ fn falls(
     setup: &Setup,
     steps: u32,
     value: bool,
-) -> Failure
-    requires setup { setup.now ≡ two }
-    requires locks { locks.old ≡ new_locks two }
-    requires row { row.old ≡ row_from (opening_cell two) two }
-    requires first { first.old ≡ process_after two [] 0 }
-    requires second { second.old ≡ process_after two [] 1 }
-    requires steps { steps < 20 }
+) -> Option<Failure>
+    requires good { checked setup.now ≡ Ok tt }
+    requires process { 0 < setup.now.processes }
+    requires locks { setup.now ≡ locks.old.setup }
+    requires row { setup.now ≡ row.old.setup }
+    requires first { first.old.setup ≡ locks.old.setup }
+    requires second { second.old.setup ≡ locks.old.setup }
 {
     first.start();
-    let _doorway = run_door(first, locks, steps, true);
+    let doorway = run_door(first, locks, steps, true);
+    if !doorway.goes() {
+        return None;
+    }
     let torn = first.fail(locks);
     let place = place_of(&torn);
     let mut unit = Unit::start(0, setup, torn);
     let made = settle(locks, row, 0, &mut unit, value);
-    let lock = read_lock(locks, 0, 1, true);
+    let lock = read_lock(locks, 0);
     second.start();
     let enters = run_door(second, locks, 100, true);
-    Failure {
+    Some(Failure {
         torn: place,
         unit: made,
         lock,
         enters,
-    }
+    })
 }
 
 /// Lets two new processes fail and enter so.
-fn fails_in_the_doorway(alloc: Global, steps: u32, value: bool) -> Result<Failure, AllocError>
-    requires { steps < 20 }
-{
+fn fails_in_the_doorway(
+    alloc: Global,
+    steps: u32,
+    value: bool,
+) -> Result<Option<Failure>, AllocError> {
     let setup = Setup::one(2, 2, 2, 1);
     let mut locks = Locks::new(alloc, &setup)?;
     let mut row = DataRow::new(alloc, &setup)?;
@@ -98,7 +101,9 @@ fn torn_after(steps: u32) -> Option<(Field, u16)> {
 fn a_doorway_fails_after_each_step(rt: HostRuntime) -> Result<(), AllocError> {
     for steps in 0..20 {
         for value in [false, true] {
-            let made = fails_in_the_doorway(rt.alloc(), steps, value)?;
+            let Some(made) = fails_in_the_doorway(rt.alloc(), steps, value)? else {
+                panic!(rt; "the run comes to its end too early");
+            };
             let settling: u32 = match torn_after(steps) {
                 None => 0,
                 Some(_) if steps % 2 == 1 => 3,
@@ -108,7 +113,7 @@ fn a_doorway_fails_after_each_step(rt: HostRuntime) -> Result<(), AllocError> {
             assert!(rt; made.unit.settling == settling.saturating_sub(1));
             assert!(rt; made.unit.clearing == 11 + u32::from(settling > 0));
             assert!(rt; matches!(made.unit.last, Some(UnitProgress::Down)));
-            assert!(rt; made.lock == [false, false, false]);
+            assert!(rt; made.lock == (false, 0));
             assert!(rt;
                 matches!(
                     made.enters,

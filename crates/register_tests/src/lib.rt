@@ -25,4 +25,6 @@ mod sections;
 #[cfg(test)]
 mod units;
 #[cfg(test)]
+mod visitors;
+#[cfg(test)]
 mod waits;

@@ -1,7 +1,7 @@
 //! The memory unit on registers.
-ghost use Rattle.std.specs.Prelude.{◌≡◌, ◌<◌, true, length};
+ghost use Rattle.std.specs.Prelude.{◌≡◌, ◌<◌, true};
 ghost use Rattle.bakery.specs.process.{may_step};
-ghost use Rattle.register_tests.specs.Units.{is_down, locks_settled, row_settled, settlement, settlement_of, unit_after, unit_goes};
+ghost use Rattle.register_tests.specs.Steps.{is_down};
 
 use bakery::{Data, DataRow, Lock, Locks, Unit, UnitProgress};
 use model::{Access, Field, Move, TornBit};
@@ -83,11 +83,10 @@ pub fn run_unit(
     flick: bool,
 ) -> UnitSteps
     requires going { may_step unit.old.doing ≡ true }
-    requires runs { unit_goes most (settlement flick unit.old lock.old versions.old) ≡ true }
-    ensures lock { lock.new
-        ≡ (unit_after most (settlement flick unit.old lock.old versions.old)).lock }
-    ensures versions { versions.new
-        ≡ (unit_after most (settlement flick unit.old lock.old versions.old)).versions }
+    requires lock { unit.old.setup ≡ lock.old.memory.setup }
+    requires versions { unit.old.setup ≡ versions.old.memory.setup }
+    ensures lock { lock.new.memory.setup ≡ lock.old.memory.setup }
+    ensures versions { versions.new.memory.setup ≡ versions.old.memory.setup }
 {
     let mut steps = UnitSteps::none();
     let mut next = flick;
@@ -103,7 +102,7 @@ pub fn run_unit(
 }
 
 /// Whether a process is down after a step of its unit that left this.
-fn is_down(progress: UnitProgress) -> bool
+pub fn is_down(progress: UnitProgress) -> bool
     ensures { result ≡ is_down progress }
 {
     matches!(progress, UnitProgress::Down)
@@ -118,12 +117,12 @@ pub fn settle(
     unit: &mut Unit,
     flick: bool,
 ) -> UnitSteps
-    requires locks { process < length locks.old }
-    requires row { process < length row.old.parts }
+    requires process { process < unit.old.setup.processes }
     requires going { may_step unit.old.doing ≡ true }
-    requires runs { unit_goes 100 (settlement_of flick unit.old process locks.old row.old) ≡ true }
-    ensures locks { locks.new ≡ locks_settled flick unit.old process locks.old row.old }
-    ensures row { row.new ≡ row_settled flick unit.old process locks.old row.old }
+    requires locks { unit.old.setup ≡ locks.old.setup }
+    requires row { unit.old.setup ≡ row.old.setup }
+    ensures locks { locks.new.setup ≡ locks.old.setup }
+    ensures row { row.new.setup ≡ row.old.setup }
 {
     run_unit(unit, locks.own(process), row.own(process), 100, flick)
 }

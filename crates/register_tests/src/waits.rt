@@ -1,74 +1,94 @@
 //! Two processes at the lock, one of which waits for the other and gives up.
-ghost use Rattle.std.specs.Prelude.{◌≡◌, ◌<◌, []};
-ghost use Rattle.bakery.specs.process.{process_after};
-ghost use Rattle.bakery.specs.Locks.{new_locks};
-ghost use Rattle.register_tests.specs.Waits.{two, first_waits, second_waits, both_wait};
+ghost use Rattle.std.specs.Prelude.{◌≡◌, ◌<◌, Ok, false};
+ghost use Rattle.plain_store.specs.{checked};
+ghost use Rattle.bakery.specs.Doors.{is_going, is_waiting};
+ghost use Rattle.register_tests.specs.Steps.{door_goes, door_waits};
 
 use super::doors::{DoorSteps, clear_ticket, read_lock, run_door};
 use bakery::{Door, DoorProgress, Locks};
 use plain_store::Setup;
 use std::alloc::{AllocError, Global};
 
+/// The steps with which process 0 takes its ticket, and then process 1.
+#[derive(Clone, Copy)]
+struct Tickets {
+    first: DoorSteps,
+    second: DoorSteps,
+}
+
 /// Process 0 takes a ticket, and then process 1.
-fn take_tickets(locks: &mut Locks, first: &mut Door, second: &mut Door) -> [DoorSteps; 2]
-    requires locks { locks.old ≡ new_locks two }
-    requires first { first.old ≡ process_after two [] 0 }
-    requires second { second.old ≡ process_after two [] 1 }
-    ensures locks { locks.new ≡ both_wait }
-    ensures first { first.new ≡ first_waits }
-    ensures second { second.new ≡ second_waits }
+fn take_tickets(locks: &mut Locks, first: &mut Door, second: &mut Door) -> Tickets
+    requires first { first.old.setup ≡ locks.old.setup }
+    requires second { second.old.setup ≡ locks.old.setup }
+    ensures locks { locks.new.setup ≡ locks.old.setup }
+    ensures first { first.new.setup ≡ first.old.setup }
+    ensures first_going { is_going first.new ≡ door_goes result.first.last }
+    ensures first_waiting { is_waiting first.new ≡ door_waits false result.first.last }
+    ensures second { second.new.setup ≡ second.old.setup }
+    ensures second_going { is_going second.new ≡ door_goes result.second.last }
+    ensures second_waiting { is_waiting second.new ≡ door_waits false result.second.last }
 {
     first.start();
     let one = run_door(first, locks, 20, true);
     second.start();
     let two = run_door(second, locks, 20, true);
-    [one, two]
+    Tickets {
+        first: one,
+        second: two,
+    }
 }
 
 /// The outcome for two processes at the lock, one of which gives up.
 #[derive(Clone, Copy)]
 struct Withdrawal {
-    /// The steps with which process 0 and process 1 take their tickets.
-    tickets: [DoorSteps; 2],
+    tickets: Tickets,
     /// The steps of the one that gives up, until it does.
     waits: DoorSteps,
     /// How many steps its clearing takes.
     cleared: Option<u32>,
     /// Its lock after that.
-    lock: [bool; 3],
+    lock: (bool, u32),
     /// The steps of the other process after that.
     enters: DoorSteps,
 }
 
-/// Process 0 gives up after one step of its waiting, within a read of the choosing bit of process 1.
+/// Process 0 gives up after one step of its waiting, within a read of the choosing bit of process 1. None if one of them does
+/// not wait then.
 fn first_withdraws(
     locks: &mut Locks,
     first: &mut Door,
     second: &mut Door,
     setup: &Setup,
-) -> Withdrawal
-    requires setup { setup.now ≡ two }
-    requires locks { locks.old ≡ new_locks two }
-    requires first { first.old ≡ process_after two [] 0 }
-    requires second { second.old ≡ process_after two [] 1 }
+) -> Option<Withdrawal>
+    requires good { checked setup.now ≡ Ok tt }
+    requires process { 0 < setup.now.processes }
+    requires locks { setup.now ≡ locks.old.setup }
+    requires first { first.old.setup ≡ locks.old.setup }
+    requires second { second.old.setup ≡ locks.old.setup }
 {
     let tickets = take_tickets(locks, first, second);
+    if !tickets.first.goes() || !tickets.second.goes() {
+        return None;
+    }
     let waits = run_door(first, locks, 1, true);
+    if !waits.waits(tickets.first.waits(false)) {
+        return None;
+    }
     first.withdraw(locks);
     let cleared = clear_ticket(locks, 0, setup);
-    let lock = read_lock(locks, 0, 0, true);
+    let lock = read_lock(locks, 0);
     let enters = run_door(second, locks, 100, true);
-    Withdrawal {
+    Some(Withdrawal {
         tickets,
         waits,
         cleared,
         lock,
         enters,
-    }
+    })
 }
 
 /// Lets two new processes do so.
-fn first_gives_up(alloc: Global) -> Result<Withdrawal, AllocError> {
+fn first_gives_up(alloc: Global) -> Result<Option<Withdrawal>, AllocError> {
     let setup = Setup::one(2, 2, 2, 1);
     let mut locks = Locks::new(alloc, &setup)?;
     let mut first = Door::new(alloc, 0, &setup)?;
@@ -93,9 +113,11 @@ fn ticket(steps: DoorSteps) -> Option<u32> {
 // no ticket.
 #[test]
 fn the_other_enters_after_a_withdrawal(rt: HostRuntime) -> Result<(), AllocError> {
-    let made = first_gives_up(rt.alloc())?;
-    assert!(rt; ticket(made.tickets[0]) == Some(1));
-    assert!(rt; ticket(made.tickets[1]) == Some(2));
+    let Some(made) = first_gives_up(rt.alloc())? else {
+        panic!(rt; "the run comes to its end too early");
+    };
+    assert!(rt; ticket(made.tickets.first) == Some(1));
+    assert!(rt; ticket(made.tickets.second) == Some(2));
     assert!(rt;
         matches!(
             made.waits,
@@ -107,7 +129,7 @@ fn the_other_enters_after_a_withdrawal(rt: HostRuntime) -> Result<(), AllocError
         )
     );
     assert!(rt; made.cleared == Some(8));
-    assert!(rt; made.lock == [false, false, false]);
+    assert!(rt; made.lock == (false, 0));
     assert!(rt;
         matches!(
             made.enters,
@@ -121,39 +143,43 @@ fn the_other_enters_after_a_withdrawal(rt: HostRuntime) -> Result<(), AllocError
     Ok(())
 }
 
-/// Lets process 1 give up after `steps` steps of its waiting.
+/// Lets process 1 give up after `steps` steps of its waiting. None if one of them does not wait then.
 fn second_withdraws(
     locks: &mut Locks,
     first: &mut Door,
     second: &mut Door,
     setup: &Setup,
     steps: u32,
-) -> Withdrawal
-    requires setup { setup.now ≡ two }
-    requires locks { locks.old ≡ new_locks two }
-    requires first { first.old ≡ process_after two [] 0 }
-    requires second { second.old ≡ process_after two [] 1 }
-    requires steps { steps < 14 }
+) -> Option<Withdrawal>
+    requires good { checked setup.now ≡ Ok tt }
+    requires process { 1 < setup.now.processes }
+    requires locks { setup.now ≡ locks.old.setup }
+    requires first { first.old.setup ≡ locks.old.setup }
+    requires second { second.old.setup ≡ locks.old.setup }
 {
     let tickets = take_tickets(locks, first, second);
+    if !tickets.first.goes() || !tickets.second.goes() {
+        return None;
+    }
     let waits = run_door(second, locks, steps, true);
+    if !waits.waits(tickets.second.waits(false)) {
+        return None;
+    }
     second.withdraw(locks);
     let cleared = clear_ticket(locks, 1, setup);
-    let lock = read_lock(locks, 1, 1, true);
+    let lock = read_lock(locks, 1);
     let enters = run_door(first, locks, 100, true);
-    Withdrawal {
+    Some(Withdrawal {
         tickets,
         waits,
         cleared,
         lock,
         enters,
-    }
+    })
 }
 
 /// Lets two new processes do so.
-fn second_gives_up(alloc: Global, steps: u32) -> Result<Withdrawal, AllocError>
-    requires { steps < 14 }
-{
+fn second_gives_up(alloc: Global, steps: u32) -> Result<Option<Withdrawal>, AllocError> {
     let setup = Setup::one(2, 2, 2, 1);
     let mut locks = Locks::new(alloc, &setup)?;
     let mut first = Door::new(alloc, 0, &setup)?;
@@ -166,11 +192,13 @@ fn second_gives_up(alloc: Global, steps: u32) -> Result<Withdrawal, AllocError>
 #[test]
 fn a_waiting_process_gives_up(rt: HostRuntime) -> Result<(), AllocError> {
     for steps in 0..14 {
-        let made = second_gives_up(rt.alloc(), steps)?;
+        let Some(made) = second_gives_up(rt.alloc(), steps)? else {
+            panic!(rt; "the run comes to its end too early");
+        };
         assert!(rt; made.waits.doorway == 0 && made.waits.waiting == steps);
         assert!(rt; steps == 0 || matches!(made.waits.last, Some(DoorProgress::Waiting(2))));
         assert!(rt; made.cleared == Some(8));
-        assert!(rt; made.lock == [false, false, false]);
+        assert!(rt; made.lock == (false, 0));
         assert!(rt;
             matches!(
                 made.enters,

@@ -1,7 +1,11 @@
-use Rattle.std.proofs.Common.{◌-◌}
-use Rattle.register_tests.specs.Sections.{section_can, section_going, section_on}
-use Rattle.register_tests.proofs.Turning.{IsAlong}
+use Rattle.std.proofs.Common.{◌≡◌, true}
+use Rattle.bakery.specs.Sections.{is_going}
+use Rattle.register_tests.specs.Steps.{section_goes}
 use Rattle.register_tests.proofs.commits.run_section.Given as goal
 
 abbrev pub invariant-loop-made : goal.invariant-loop-made
-invariant-loop-made l = IsAlong section_going (section_can l.flick) (section_on l.flick) l.most (l.most - l._made) (l.section, l.row) (l.initial.section, l.initial.row)
+invariant-loop-made l =
+    (l.section.setup ≡ l.initial.section.setup)
+    × (l.row.setup ≡ l.initial.row.setup)
+    × (is_going l.section ≡ true)
+    × (section_goes l.steps.last ≡ true)

@@ -1,20 +1,13 @@
--- The access may be made on the register that it names; and it is that of any closing.
-use Rattle.std.proofs.Common.{sym, ap, subst, ◌∙◌}
-use Rattle.reader_copies.specs.{CanMake}
+use Rattle.std.proofs.Common.{ap, ◌∙◌}
 use Rattle.process.specs.{ProcessState, next_at}
-use Rattle.bakery.specs.Locks.{made_by}
-use Rattle.bakery.specs.Memory.{CanAccess}
-use Rattle.bakery.proofs.UnitRegisters.{of-lock, of-versions}
+use Rattle.bakery.proofs.Closings.{answered-closing}
 use Rattle.bakery.proofs.unit.Unit.step.Goals as goal
+use Rattle.bakery.proofs.unit.Unit.step.Goals.{in-Choosing, in_default}
 
-pub apply-requires : goal.apply-requires
-apply-requires c =
-    let a = c.next-access.result in
-    let next = c.next-access.ensures.access ∙ ap (λ (x : ProcessState). next_at x c.args.flick) c.self.view_is in
-    subst (λ row. CanMake row a.bit (made_by a)) (of-lock c.args.lock.now c.args.versions.now a.field c.in-Choosing.is) (subst (CanAccess c.args.lock.now c.args.versions.now) (sym next) c.requires.can)
-
-pub apply-requires-in_default : goal.apply-requires-in_default
-apply-requires-in_default c =
-    let a = c.next-access.result in
-    let next = c.next-access.ensures.access ∙ ap (λ (x : ProcessState). next_at x c.args.flick) c.self.view_is in
-    subst (λ row. CanMake row a.bit (made_by a)) (of-versions c.args.lock.now c.args.versions.now a.field c.in_default.not-Choosing c.in_default.not-Ticket) (subst (CanAccess c.args.lock.now c.args.versions.now) (sym next) c.requires.can)
+pub returns-clause-access : goal.returns-clause-access
+returns-clause-access c =
+    elim c.match-next.branch [
+      | in-Choosing w ↦ w.access-is ∙ w.step-access.ensures.access ∙ answered-closing c.self.inside.place c.lock.inside.memory.registers c.args.flick c.self.invariant
+      | in_default w ↦ w.access-is ∙ w.step-access-in_default.ensures.access ∙ answered-closing c.self.inside.place c.versions.inside.memory.registers c.args.flick c.self.invariant
+    ]
+    ∙ ap (λ (x : ProcessState). next_at x c.args.flick) c.self.view_is
