@@ -12,5 +12,8 @@ pub mod Units
 -- Every run is good
 pub mod Soundness
 pub mod Goods
+-- Runs with equal cores end alike
+pub mod Alike
+pub mod Outcomes
 -- The counts
 pub mod Counting

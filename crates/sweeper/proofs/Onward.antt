@@ -6,7 +6,7 @@ use Rattle.std.proofs.lemmas.List.Sums.{fold-append}
 use Rattle.plain_store.specs.{Command, Setup}
 use Rattle.model.specs.{Event}
 use Rattle.model.specs.declared.events.Event.TheVariants.{Call, Step, Fail, Restart}
-use Rattle.sweeper.specs.{Follows, IsRun, Run, RunnerState, RunsOn, cut_off, goes, is_accepted, most, on_from, rounds, steps_of, with_call, with_calls}
+use Rattle.sweeper.specs.{Follows, IsRun, Run, RunnerState, RunsOn, at_rest, cut_off, is_accepted, most, rounds, steps_of, with_call, with_calls}
 
 -- a call that is refused
 pub call_refused : (old new : RunnerState) (v : Bool) (p : ℕ) (command : Command) → new ≡ old → ((events : List Event) → Follows old events → false ≡ is_accepted old.core.setup events (Call p command)) →
@@ -51,20 +51,9 @@ calls_more s v calls k c run within is =
     ap (with_call s v (with_calls s (take k calls) v run)) is
     ∙ sym (ap (fold (with_call s v) run) (take_more calls k c within) ∙ fold-append (with_call s v) run (take k calls) (get_or calls k c ∷ []))
 
--- a run after its cut: the rounds, whether some process has a step left, and the calls
-pub run_made : (old cut gone new : RunnerState) (s : Setup) (calls : List (ℕ × Command)) (v : Bool) (p n : ℕ) (going met : Bool) → old.core.setup ≡ s → cut.core.setup ≡ s → gone.core.setup ≡ s → n ≡ most → RunsOn old cut (λ events. cut_off old.core.setup p v events) →
-    RunsOn cut gone (λ events. rounds cut.core.setup v n events) → ((events : List Event) → Follows gone events → going ≡ goes gone.core.setup v events) → ((run : Run) → IsRun gone going run → IsRun new met (with_calls gone.core.setup calls v run)) →
-    (events : List Event) → Follows old events → IsRun new met (on_from s calls v (cut_off s p v events))
-run_made old cut gone new s calls v p n going met a b c is cuts goes_on asks called events follows =
-    subst (λ s. IsRun new met (with_calls s calls v start)) c (called start (record { follows = there; stuck = asks on there ∙ ap (λ s. goes s v on) c }))
-  where
-    on : List Event
-    on = rounds s v most (cut_off s p v events)
-
-    start : Run
-    start = record { events = on; stuck = goes s v on }
-
-    there : Follows gone on
-    there = subst (λ n. Follows gone (rounds s v n (cut_off s p v events))) is
-        (subst (λ x. Follows gone (rounds s v n (cut_off x p v events))) a
-        (subst (λ x. Follows gone (rounds x v n (cut_off old.core.setup p v events))) b (goes_on (cut_off old.core.setup p v events) (cuts events follows))))
+-- a run after its cut comes to rest by its rounds
+pub rest_made : (old cut new : RunnerState) (v : Bool) (p n : ℕ) → cut.core.setup ≡ old.core.setup → n ≡ most → RunsOn old cut (λ events. cut_off old.core.setup p v events) → RunsOn cut new (λ events. rounds cut.core.setup v n events) →
+    RunsOn old new (λ events. at_rest old.core.setup p v events)
+rest_made old cut new v p n same is cuts goes_on events follows =
+    subst (λ n. Follows new (rounds old.core.setup v n (cut_off old.core.setup p v events))) is
+    (subst (λ s. Follows new (rounds s v n (cut_off old.core.setup p v events))) same (goes_on (cut_off old.core.setup p v events) (cuts events follows)))

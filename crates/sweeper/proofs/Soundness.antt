@@ -1,16 +1,20 @@
 -- The events of each run are given, if those of the sweep and its calls are.
-use Rattle.std.proofs.Common.{◌≡◌, ℕ, zero, suc, ◌||◌, Bool, true, false, cond, List, [], ◌∷◌, fold, refl}
+use Rattle.std.proofs.Common.{◌≡◌, ℕ, zero, suc, ◌+◌, ◌<◌, ◌&&◌, ◌||◌, Bool, true, false, cond, List, [], ◌∷◌, fold, length, take, get_or, refl, ap, sym, ◌∙◌}
 use Rattle.std.proofs.lemmas.Bool.{and_from, and_parts, cond_both}
+use Rattle.std.proofs.lemmas.List.{take_more}
 use Rattle.std.proofs.lemmas.List.Elements.{All-append, All-cons, All-nil}
+use Rattle.std.proofs.lemmas.List.Folds.{list_all-append}
 use Rattle.std.specs.List.{All, list_all}
 use Rattle.plain_store.specs.{Command, Setup, is_command}
 use Rattle.model.specs.{AreGiven, Event, is_event, process_of, processes}
 use Rattle.model.specs.declared.events.Event.TheVariants.{Call, Step, Fail, Restart}
-use Rattle.sweeper.specs.{Cut, Run, as_long_as, cut, cut_off, cuts, goes, is_accepted, is_cut, most, on_from, round, rounds, steps_of, with_call, with_calls}
+use Rattle.sweeper.specs.{Cut, Run, are_commands, as_long_as, cut, cut_off, cuts, goes, is_accepted, is_cut, most, on_from, round, rounds, steps_of, with_call, with_calls}
 
--- each call of the list has a command in range
-abbrev pub are_commands : List (ℕ × Command) → Bool
-are_commands calls = list_all (λ (c : ℕ × Command). is_command c.1) calls
+-- one more command in range
+pub commands_more : (calls : List (ℕ × Command)) (k : ℕ) (c : ℕ × Command) → k < length calls → c ≡ get_or calls k c → are_commands (take k calls) ≡ true → is_command c.1 ≡ true → are_commands (take (k + 1) calls) ≡ true
+commands_more calls k c within is before sound =
+    let here : is_command (get_or calls k c).1 ≡ true = ap (λ (x : ℕ × Command). is_command x.1) (sym is) ∙ sound in
+    ap are_commands (take_more calls k c within) ∙ list_all-append (λ (x : ℕ × Command). is_command x.1) (take k calls) (get_or calls k c ∷ []) ∙ (λ i. before i && (here i && true))
 
 -- one more event
 given_with : (s : Setup) (events : List Event) (event : Event) → is_event event ≡ true → AreGiven s events → AreGiven s (event ∷ events)
@@ -46,7 +50,7 @@ given_call s v run p command is given =
     cond_both (is_accepted s run.events (Call p command)) (record { events = after; stuck = run.stuck || is_accepted s after (Step p v) }) run (λ (run : Run). AreGiven s run.events)
     (λ h. given_steps s p v most (Call p command ∷ run.events) (given_with s run.events (Call p command) is given)) (λ h. given)
 
-given_calls : (s : Setup) (v : Bool) (calls : List (ℕ × Command)) (run : Run) → are_commands calls ≡ true → AreGiven s run.events → AreGiven s (with_calls s calls v run).events
+pub given_calls : (s : Setup) (v : Bool) (calls : List (ℕ × Command)) (run : Run) → are_commands calls ≡ true → AreGiven s run.events → AreGiven s (with_calls s calls v run).events
 given_calls s v [] run are given = given
 given_calls s v ((p, command) ∷ calls) run are given =
     let both = and_parts (is_command command) (are_commands calls) are in

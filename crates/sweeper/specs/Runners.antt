@@ -1,12 +1,12 @@
 -- A run that is audited while it is made.
-use Rattle.std.specs.Prelude.{◌≡◌, ℕ, ◌+◌, ◌||◌, Bool, List, length, Option, None}
-use Rattle.plain_store.specs.{Command, Setup}
-use Rattle.model.specs.{Event, history, past_of}
+use Rattle.std.specs.Prelude.{◌≡◌, ℕ, ◌+◌, ◌||◌, Bool, List, length, Option, None, Ok}
+use Rattle.plain_store.specs.{Command, Setup, checked}
+use Rattle.model.specs.{AreGiven, Event, history, past_of}
 use Rattle.world.specs.{CoreState, pending_in, with_history}
 use Rattle.world.specs.Shows.{Shows}
 use Rattle.auditor.specs.{AuditorState, HasObserved}
 use Rattle.sweeper.specs.declared.audited_run.BadEntry.{BadEntry}
-use Rattle.sweeper.specs.Sweeps.{Run, cut_off, is_accepted, on_from, with_call, with_calls}
+use Rattle.sweeper.specs.Sweeps.{Run, cut_off, goes, is_accepted, most, rounds, with_call, with_calls}
 
 -- a core, its auditor, and the number of commands taken
 pub record RunnerState : Type 0 where
@@ -61,6 +61,20 @@ MakesCall r p command v met then = (run : Run) → Follows r run.events → IsRu
 abbrev pub MakesCalls : RunnerState → (before : Bool) → List (ℕ × Command) → Bool → Bool → RunnerState → Type 0
 MakesCalls r before calls v met then = (run : Run) → IsRun r before run → IsRun then met (with_calls r.core.setup calls v run)
 
--- the runner has made the process fail and restart, and has then made the rounds and the calls
-abbrev pub MakesRun : RunnerState → List (ℕ × Command) → ℕ → Bool → Bool → RunnerState → Type 0
-MakesRun r calls p v met then = OfRun r (λ s events. IsRun then met (on_from s calls v (cut_off s p v events)))
+-- p fails and is restarted, and all processes continue
+abbrev pub at_rest : Setup → ℕ → Bool → List Event → List Event
+at_rest s p v events = rounds s v most (cut_off s p v events)
+
+-- calls that are made after these events
+abbrev pub ended : Setup → List (ℕ × Command) → Bool → List Event → Run
+ended s calls v events = with_calls s calls v (record { events = events; stuck = goes s v events })
+
+-- the runner has ended each run that it showed by these calls, and `met` is whether the run is stuck
+abbrev pub MakesEnd : RunnerState → List (ℕ × Command) → Bool → Bool → RunnerState → Type 0
+MakesEnd r calls v met then = OfRun r (λ s events. IsRun then met (ended s calls v events))
+
+-- a run whose events are given, and `met` is whether it is stuck
+pub record HasEnded (s : Setup) (met : Bool) (run : Run) : Type 0 where
+  pub good : checked s ≡ Ok tt
+  pub given : AreGiven s run.events
+  pub stuck : met ≡ run.stuck

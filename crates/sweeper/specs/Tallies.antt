@@ -9,6 +9,7 @@ use Rattle.sweeper.specs.declared.audited_run.BadEntry.{BadEntry}
 use Rattle.sweeper.specs.declared.swept.BadRun.{BadRun}
 use Rattle.sweeper.specs.declared.swept.Swept.{Swept}
 use Rattle.sweeper.specs.declared.sweeping.Sweeper.{Sweeper}
+use Rattle.sweeper.specs.Known.{AreKnown, AreOfSetup}
 use Rattle.sweeper.specs.Runners.{Follows, due}
 use Rattle.sweeper.specs.Sweeps.{Cut, KeepMainTheorem, cut, cuts}
 
@@ -40,16 +41,17 @@ pub record AreFew (found : Swept) : Type 0 where
   pub good : found.good ≤ 2 ^ 58
   pub stuck : found.stuck ≤ 2 ^ 58
 
--- after these events: the walker shows them, the other runner has the same setup, and these runs are counted
-pub record HasSwept (s : Setup) (before : List Event) (cs : List Cut) (sweeper : Sweeper) : Type 0 where
+-- after these events: the walker shows them, the other runner has the same setup, the outcomes are known, and these runs are counted
+pub record HasSwept (s : Setup) (calls : List (ℕ × Command)) (before : List Event) (cs : List Cut) (sweeper : Sweeper) : Type 0 where
   pub follows : Follows sweeper.walker before
   pub walker_setup : sweeper.walker.core.setup ≡ s
   pub runner_setup : sweeper.runner.core.setup ≡ s
+  pub known : AreKnown s calls sweeper.known
   pub counts : Counts s cs sweeper.found
 
 -- the sweeper has taken these events, and these calls ended each run that is cut after one of them
 abbrev pub SweptBy : Setup → List (ℕ × Command) → List Event → Sweeper → Type 0
-SweptBy s calls before sweeper = HasSwept s before (cuts s calls before) sweeper
+SweptBy s calls before sweeper = HasSwept s calls before (cuts s calls before) sweeper
 
 -- the sweeper has taken no event, for all calls that are to follow
 abbrev pub SweepsNone : Setup → Sweeper → Type 0
@@ -82,10 +84,11 @@ RoomAtFirst sweeper = (calls : List (ℕ × Command)) → length calls ≤ 2 ^ 5
 -- the sweeper has room for one more run
 pub record CanRun (calls : List (ℕ × Command)) (sweeper : Sweeper) : Type 0 where
   pub setup : sweeper.runner.core.setup ≡ sweeper.walker.core.setup
+  pub known : AreOfSetup sweeper.walker.core.setup sweeper.known
   pub due : due sweeper.walker + 16 * length calls + 16 < 2 ^ 64
   pub few : AreFew sweeper.found
 
 -- the sweeper counts the run in which the process of the last event fails, and that continues by this flick
 abbrev pub CountsRun : ℕ → Bool → List (ℕ × Command) → Sweeper → Sweeper → Type 0
 CountsRun p v calls sweeper then =
-    (s : Setup) (event : Event) (before : List Event) (cs : List Cut) → p ≡ process_of event → HasSwept s (event ∷ before) cs sweeper → HasSwept s (event ∷ before) (cs ++ cut s calls event before v ∷ []) then
+    (s : Setup) (event : Event) (before : List Event) (cs : List Cut) → p ≡ process_of event → HasSwept s calls (event ∷ before) cs sweeper → HasSwept s calls (event ∷ before) (cs ++ cut s calls event before v ∷ []) then

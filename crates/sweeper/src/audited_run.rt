@@ -85,6 +85,20 @@ impl AuditedRun {
         self.bad = other.bad;
     }
 
+    /// Borrows the core.
+    pub fn core(&self) -> &Core
+        ensures { result.now ≡ self.now.core }
+    {
+        &self.core
+    }
+
+    /// Returns whether all processes are at rest, no bad entry was found, and the auditor's own core is equal to the core.
+    pub fn is_as_audited(&self) -> bool
+        ensures { result ≡ true → self.now.auditor.core ≡ self.now.core }
+    {
+        self.bad.is_none() && self.auditor.core().is_same(&self.core)
+    }
+
     /// Returns the number of processes.
     pub fn processes(&self) -> u8
         ensures { result ≡ self.now.core.setup.processes }

@@ -1,6 +1,6 @@
 //! The continuation of a run after the event at which it is cut.
 ghost use Rattle.std.specs.Prelude.{◌≡◌, ◌+◌, ◌*◌, ◌^◌, ◌<◌, ◌≤◌, length};
-ghost use Rattle.sweeper.specs.Runners.{MakesCall, MakesCalls, MakesRun, OfRun, RunsBy, due};
+ghost use Rattle.sweeper.specs.Runners.{MakesCall, MakesCalls, MakesEnd, OfRun, RunsBy, at_rest, due};
 ghost use Rattle.sweeper.specs.Sweeps.{cut_off, goes, most as most_of, round, rounds, steps_of};
 
 use crate::audited_run::AuditedRun;
@@ -120,14 +120,24 @@ impl AuditedRun {
         stuck
     }
 
-    /// Makes a process fail here, lets all processes continue, and makes the calls. Returns whether the run is stuck.
-    pub fn run(&mut self, process: u8, value: bool, calls: &[(u8, Command)]) -> bool
-        requires room { due self.old + 16 * length calls.now + 16 < 2 ^ 64 }
-        ensures run { MakesRun self.old calls.now process value result self.new }
+    /// Makes a process fail here, and lets all processes continue until none has a step to make, for at most the limit of
+    /// rounds.
+    pub fn come_to_rest(&mut self, process: u8, value: bool)
+        requires room { due self.old + 16 < 2 ^ 64 }
+        ensures follows { RunsBy self.old self.new (λ s. at_rest s process value) }
+        ensures bounded { due self.new ≤ due self.old }
         ensures setup { self.new.core.setup ≡ self.old.core.setup }
     {
         self.cut_off(process, value);
         self.rounds(value, limit());
+    }
+
+    /// Makes the calls that end the run. Returns whether the run is stuck: whether it met a limit before them or with them.
+    pub fn end(&mut self, value: bool, calls: &[(u8, Command)]) -> bool
+        requires room { due self.old + 16 * length calls.now + 16 < 2 ^ 64 }
+        ensures run { MakesEnd self.old calls.now value result self.new }
+        ensures setup { self.new.core.setup ≡ self.old.core.setup }
+    {
         let stuck = self.goes(value);
         self.calls(calls, value, stuck)
     }

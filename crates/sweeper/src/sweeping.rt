@@ -5,6 +5,7 @@ ghost use Rattle.sweeper.specs.Sweeps.{AreAllGood, AreDownInTime, IsFound, IsSwe
 ghost use Rattle.sweeper.specs.Tallies.{CanRun, CanSweep, CountsRun, OfSweep, RoomAtFirst, SweepsNone, SweepsOn};
 
 use crate::audited_run::AuditedRun;
+use crate::known_outcomes::KnownOutcomes;
 use crate::swept::Swept;
 use model::Event;
 use plain_store::{Command, Setup};
@@ -16,8 +17,8 @@ const MOST: usize = 1 << 56;
 /// Makes all runs in which a process fails after one accepted event, and returns the result. The process has not failed
 /// before and is not down. Its memory unit makes its steps, after which the process is down. It is restarted, all
 /// processes continue in rounds, and the calls follow in their order. There is one run for each value that the steps have
-/// as their flick. Each entry of each run is audited, is good, and keeps the main theorem. The function does not allocate
-/// after the first event.
+/// as their flick. Each entry of each run is good and keeps the main theorem. Each run is audited, but only up to its calls
+/// if it takes their outcome from an earlier run with an equal core. The function does not allocate after the first event.
 ///
 /// # Errors
 ///
@@ -47,10 +48,12 @@ pub fn sweep(
 
 /// A sweep in progress: one runner takes the events, and another one makes the runs. The sweep takes its events one by
 /// one, so its caller does not need a list of them.
+/// It keeps the outcomes of a few runs, for later runs with an equal core.
 #[derive(Drop)]
 pub struct Sweeper {
     walker: AuditedRun,
     runner: AuditedRun,
+    known: KnownOutcomes,
     found: Swept,
 }
 
@@ -68,6 +71,7 @@ impl Sweeper {
         Ok(Sweeper {
             walker: AuditedRun::new(alloc, setup)?,
             runner: AuditedRun::new(alloc, setup)?,
+            known: KnownOutcomes::new(alloc, setup)?,
             found: Swept {
                 runs: 0,
                 good: 0,
@@ -120,7 +124,8 @@ impl Sweeper {
         ensures { CountsRun process value calls.now self.old self.new }
     {
         self.runner.copy_from(&self.walker);
-        let stuck = self.runner.run(process, value, calls);
+        self.runner.come_to_rest(process, value);
+        let stuck = self.known.end(&mut self.runner, value, calls);
         self.found = self.found.with_run(cut, value, stuck, self.runner.bad());
     }
 }
