@@ -7,6 +7,8 @@ pub mod Closings
 pub mod DoorSteps
 -- The registers of a setup remain those of the setup
 pub mod Kept
+-- The owner of an access
+pub mod OwnAccesses
 -- A step of a section
 pub mod SectionSteps
 pub mod UnitSteps

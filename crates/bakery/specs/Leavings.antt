@@ -2,13 +2,15 @@
 use Rattle.std.specs.Prelude.{◌≡◌, ℕ, Bool, Option}
 use Rattle.plain_store.specs.{Answer, Setup}
 use Rattle.plain_store.specs.declared.Command.TheVariants.{Ask}
-use Rattle.model.specs.{Access, Call, Clears, Part, Place, Run, TornBit, Withdraws, Writing, access_at, enter, place_after, torn_at}
+use Rattle.model.specs.{Access, Call, Clears, Ended, Part, Place, Quit, Run, TornBit, Withdraws, Writing, access_at, enter, place_after, torn_at}
 use Rattle.process.specs.laws.{Doing, Closes, Rests, Runs}
 use Rattle.process.specs.{ProcessState}
 
--- the process runs no call: it is closing one, or has nothing to do
+-- the process runs no call: it is closing one and has an access to make, or has nothing to do
 abbrev pub IsClosing : Doing → Type 0
 IsClosing (Runs command number at) = ⊥
+IsClosing (Closes command number Quit) = ⊥
+IsClosing (Closes command number Ended) = ⊥
 IsClosing _ = Unit {0}
 
 -- the progress of the clearing, as in a withdrawal of some call

@@ -45,7 +45,9 @@ impl DataRow {
         })
     }
 
-    /// Borrows the versions of one process. A call on them changes only the registers of the process that makes the call.
+    /// Borrows the versions of one process. A call on them changes only registers of the process that makes the call: the
+    /// clause `own` of [`Unit::step`](crate::Unit::step) states that its access is to such a register, and an access
+    /// changes no other register.
     pub fn own(&mut self, process: u8) -> &mut Data
         requires { process < self.old.setup.processes }
         ensures part { result.now ≡ borrowed_for process self.old }

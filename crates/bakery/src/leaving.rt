@@ -54,6 +54,7 @@ impl Leaving {
         requires setup { self.old.setup ≡ lock.old.memory.setup }
         ensures access { result.0 ≡ next_at self.old false }
         ensures any_access { IsNextOfCall self.old result.0 }
+        ensures own { result.0.owner ≡ self.old.process }
         ensures lock { lock.new ≡ with_access lock.old result.0 }
         ensures leaving { self.new ≡ stepped self.old false (value_of result.0.how) }
         ensures any_leaving { CallGoesOn self.old self.new }

@@ -77,7 +77,9 @@ impl Locks {
         })
     }
 
-    /// Borrows the lock of process `p`. A call on it changes only the registers of the process that makes the call.
+    /// Borrows the lock of process `p`. A call on it changes only registers of the process that makes the call: the clause
+    /// `own` of [`Leaving::step`](crate::Leaving::step) and [`Unit::step`](crate::Unit::step) states that its access is to
+    /// such a register, and an access changes no other register.
     pub fn own(&mut self, p: u8) -> &mut Lock
         requires { p < self.old.setup.processes }
         ensures* borrows { sem 𝓛 (BorrowsLock self.entry result) }

@@ -1,6 +1,7 @@
 ghost use Rattle.std.specs.Prelude.{◌≡◌, ◌<◌, IfOk, IfSome, IsOk, Ok, [], false, true};
 ghost use Rattle.plain_store.specs.{checked};
 ghost use Rattle.model.specs.{IsTornOf, ended_with, value_of};
+ghost use Rattle.model.specs.safe_bit.{is_of_write};
 ghost use Rattle.process.specs.{called_inside, change_of, marks_on, next_at, process_after, restarted, stepped, torn_of};
 ghost use Rattle.bakery.specs.Memory.{answered_by, memory_after, memory_dropped};
 ghost use Rattle.bakery.specs.Sections.{goes_on, is_going, marks_reported, progress_on, IsInRange};
@@ -98,6 +99,7 @@ impl Section {
         requires going { is_going self.old ≡ true }
         requires setup { self.old.setup ≡ row.old.setup }
         ensures access { result.0 ≡ answered_by self.old row.old flick }
+        ensures own_writes { is_of_write result.0.how ≡ true → result.0.owner ≡ self.old.process }
         ensures registers { row.new ≡ memory_after row.old result.0 }
         ensures section { self.new ≡ stepped self.old flick (value_of result.0.how) }
         ensures progress { result.1 ≡ progress_on self.old self.new }

@@ -64,6 +64,7 @@ impl Unit {
         requires versions { self.old.setup ≡ versions.old.memory.setup }
         ensures access { result.0 ≡ next_at self.old flick }
         ensures any_access { IsNextOfClosing self.old flick result.0 }
+        ensures own { result.0.owner ≡ self.old.process }
         ensures lock { lock.new ≡ lock_after lock.old result.0 }
         ensures versions { versions.new ≡ versions_after versions.old result.0 }
         ensures unit { self.new ≡ stepped self.old flick false }

@@ -2,6 +2,7 @@ use Rattle.std.proofs.Common.{◌≡◌, Bool, is_some, sym, ap, ◌∙◌}
 use Rattle.model.specs.{value_of}
 use Rattle.process.specs.{ProcessState, stepped}
 use Rattle.bakery.specs.Sections.{goes_on, is_going, marks_reported, progress_on}
+use Rattle.bakery.proofs.OwnAccesses.{write-own}
 use Rattle.bakery.proofs.SectionSteps.{reported, reported-is}
 use Rattle.bakery.proofs.section.Section.step.Goals as goal
 
@@ -22,3 +23,8 @@ pub returns-clause-going : goal.returns-clause-going
 returns-clause-going c =
     let v : Bool = value_of c.step-access.result.how in
     ap is_going (then-is c) ∙ (reported c.args.self.now c.args.flick v c.requires.going).going ∙ sym (ap goes_on (progress-is c))
+
+pub returns-clause-own_writes : goal.returns-clause-own_writes
+returns-clause-own_writes c = λ writes.
+    write-own c.self.inside.place _ c.args.flick c.step-access.result (ap is_going c.self.view_is ∙ c.requires.going) c.step-access.ensures.access writes
+    ∙ ap (λ (x : ProcessState). x.process) c.self.view_is
