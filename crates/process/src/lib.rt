@@ -30,7 +30,5 @@ pub use newest_version::NewestVersion;
 pub use opening::open_memory;
 pub use outcomes::{EventMade, EventOutcome, StepOutcome};
 pub use process::Process;
-pub use registers::{
-    AccessMade, AccessesMade, BitCopy, BitMemory, CopyState, RegisterName, value_returned,
-};
+pub use registers::{AccessMade, AccessesMade, BitCopy, BitMemory, CopyState, RegisterName};
 pub use store_image::Image;
