@@ -6,9 +6,9 @@ ghost use Rattle.safe_number.specs.Runs.{IsGoing, bit_write, number_write_after,
 ghost use Rattle.safe_number.specs.Written.{AreClosed, loaded, read_made};
 
 use crate::bytes;
+use crate::construction::reading::ReadRun;
+use crate::construction::writing::WriteRun;
 use crate::fault::NumberFault;
-use crate::reading::ReadRun;
-use crate::writing::WriteRun;
 use reader_copies::{CopiedRow, MAX_WIDTH, Made, Move, Progress, Torn};
 use std::alloc::{AllocError, Global};
 use std::marker::Model;

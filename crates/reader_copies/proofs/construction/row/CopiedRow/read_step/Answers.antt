@@ -1,7 +1,7 @@
 use Rattle.std.proofs.Common.{◌∙◌, ap, subst, sym}
 use Rattle.reader_copies.specs.{CanMake, Made, next_read}
 use Rattle.reader_copies.proofs.Steps.{read_can}
-use Rattle.reader_copies.proofs.row.CopiedRow.read_step.Goals as goal
+use Rattle.reader_copies.proofs.construction.row.CopiedRow.read_step.Goals as goal
 
 pub apply-requires : goal.apply-requires
 apply-requires c =

@@ -4,8 +4,8 @@ use Rattle.reader_copies.specs.{Progress, Reading, progress_of}
 use Rattle.reader_copies.specs.declared.runs.Progress.TheVariants.{Going}
 use Rattle.safe_number.specs.{NumberRead, bits_in}
 use Rattle.safe_number.proofs.Numbers.{bit_in-set_above, bits_in-more, length_bits, read-ends}
-use Rattle.safe_number.proofs.reading.ReadRun.advance.Goals.{Joined-self}
-use Rattle.safe_number.proofs.reading.ReadRun.advance.Goals as goal
+use Rattle.safe_number.proofs.construction.reading.ReadRun.advance.Goals.{Joined-self}
+use Rattle.safe_number.proofs.construction.reading.ReadRun.advance.Goals as goal
 
 -- a read that does not go on had begun
 ended : (begun : Bool) (reported : Progress) → reported ≡ progress_of begun → (reported ≡ Going → ⊥) → begun ≡ true

@@ -2,7 +2,7 @@ ghost use Rattle.std.specs.Prelude.{◌≡◌, ◌<◌, ◌≤◌, ◌*◌, ◌=
 ghost use Rattle.reader_copies.specs.Row.{answer_at, cell_at, row_after, without_read_at, new_bit, HasCell, CanMake};
 ghost use Rattle.reader_copies.specs.Runs.{next_write, write_after, next_read, read_after, next_settle, settle_after, settled_at, progress_of};
 
-use crate::row::CopiedRow;
+use crate::construction::row::CopiedRow;
 use crate::runs::{CopyRead, CopyWrite, Made, Progress, Torn};
 use std::alloc::{AllocError, Global};
 use std::marker::Model;

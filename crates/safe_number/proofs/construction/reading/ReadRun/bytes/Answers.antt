@@ -2,7 +2,7 @@ use Rattle.std.proofs.Common.{◌∙◌, ap, take, get_or, length, false, arith}
 use Rattle.std.proofs.lemmas.List.{length-take-le}
 use Rattle.safe_number.specs.{NumberRead, bit_in}
 use Rattle.safe_number.proofs.Numbers.{bits-reported, length_bits}
-use Rattle.safe_number.proofs.reading.ReadRun.bytes.Goals as goal
+use Rattle.safe_number.proofs.construction.reading.ReadRun.bytes.Goals as goal
 
 pub returns-clause-len : goal.returns-clause-len
 returns-clause-len c = omega (arith, length-take-le c.div_ceil.result c.deref.result.now (omega (arith, c.deref.ensures.len, ap length c.deref.ensures.value, c.div_ceil.ensures, c.self.invariant.bit_in_width, c.self.invariant.width_in_room, c.self.invariant.bytes_in_room)), c.div_ceil.ensures, length_bits c.self.inside.bytes.items c.self.inside.bit, ap (λ (r : NumberRead). length r.bits) c.self.view_is)
