@@ -30,9 +30,6 @@ SPECIFIED = {
     "world": {"Flick", "history_laws", "laws"},
 }
 
-# re-exports that nothing uses any more: a change of their crate has all crates above it proved again, so each goes with the next one
-UNUSED = {("process", "value_returned")}
-
 LIBRARY = TOP / "docs" / "LIBRARY.md"
 
 
@@ -64,7 +61,7 @@ def re_exports():
         needed = names_in_api(crate) | SPECIFIED.get(crate, set())
         for name, source in re_exports_of(crate):
             without = [user for user in users[crate, name] if source not in crates()[user].stands_on]
-            has_reason = name in needed or bool(without) or (crate, name) in UNUSED
+            has_reason = name in needed or bool(without)
             yield f"{crate} re-exports `{name}` of {source}", has_reason
 
 
