@@ -99,8 +99,10 @@ const SWEEP: &str = r"
 Runs a scenario, as replay does, and makes two more runs for each event of a process
 that has not failed: with the flick 0 and with the flick 1. In these the process fails
 after the event, its memory unit does its work, and it is restarted; all processes go
-on; and the calls of the file are made again. Prints how many such runs there are, how
-many are good, and how many were stuck. The status is 3 if a run is bad.
+on; and the calls of the file are made again. If these calls would begin in the same
+state as those of one of the last eight runs, the run takes over that run's outcome.
+Prints how many such runs there are, how many are good, and how many were stuck. The
+status is 3 if a run is bad.
 The lines of a scenario: bakerystore help replay
 
   $ printf 'bakery 2\ncall 0 add a 1\n' | bakerystore sweep -
