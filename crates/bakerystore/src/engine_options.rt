@@ -1,4 +1,4 @@
-//! The options of an engine, and what they say of its file.
+//! The options of an engine: which file it may read, and how many of its entries.
 use command_line::{Engine, InputMode, RangeFault, Request, entries_asked};
 use run_state::{FileKind, events_said};
 use trace_draw::draw::{PictureOptions, Reads, Window};

@@ -1,4 +1,4 @@
-//! What a scenario leaves on a board, as text.
+//! The text of a scenario's result on a board.
 use crate::drives::DriveResult;
 use board::{Closing, Image};
 use model::Placed;
