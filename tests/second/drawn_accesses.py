@@ -138,10 +138,13 @@ def whole_style(access):
 
 
 def overlapped_reads(shown):
-    """The entries that begin a read that a write overlaps: a write is open as it begins, or an access begins later that writes."""
+    """The entries that begin a read that a write overlaps: a write is open as it begins, or an access begins later that writes.
+
+    A bad entry may write the bit that its own process reads. The box of the read ends there, so the write does not overlap it.
+    """
     opened, found = {}, set()
     for access in shown:
-        for process in access.overlaps:
+        for process in access.overlaps - {access.process}:
             if process in opened and opened[process].kind == "read":
                 found.add(opened[process].begin)
         opened.pop(access.process, None)
