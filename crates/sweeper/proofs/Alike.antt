@@ -1,5 +1,5 @@
 -- Two runs whose cores are equal behave alike: each event is accepted in both or in neither, and leads to equal cores.
-use Rattle.std.proofs.Common.{◌≡◌, ℕ, zero, suc, ◌<◌, ◌&&◌, ◌||◌, ◌==◌, Bool, true, false, cond, List, [], ◌∷◌, Option, None, Some, Ok, refl, ap, sym, ◌∙◌, arith}
+use Rattle.std.proofs.Common.{◌≡◌, ℕ, ◌<◌, ◌&&◌, ◌||◌, ◌==◌, Bool, true, false, cond, List, [], ◌∷◌, Option, None, Some, Ok, refl, ap, sym, ◌∙◌, arith}
 use Rattle.std.proofs.lemmas.Bool.Decides.{nat_tests}
 use Rattle.std.specs.Prelude.{is_none, nat_le, nat_lt, slice_get}
 use Rattle.std.specs.List.{list_any}
@@ -15,8 +15,9 @@ use Rattle.world.proofs.WorldLists.{get-mapped}
 use Rattle.world.proofs.WorldOpen.{core_of, is-allowed}
 use Rattle.world.proofs.WorldShows.{past-after}
 use Rattle.world.proofs.WorldStages.{stage-process}
-use Rattle.sweeper.specs.{Run, as_long_as, ended, goes, is_accepted, most, steps_of, with_call, with_calls}
+use Rattle.sweeper.specs.{Run, ended, goes, is_accepted, most, steps_of, with_call, with_calls}
 use Rattle.sweeper.proofs.Accepted.{past_kept}
+use Rattle.sweeper.proofs.Going.{related_repeated}
 
 -- runs of these events have equal cores
 abbrev pub HaveOneCore : Setup → List Event → List Event → Type 0
@@ -84,22 +85,11 @@ same_then s good x y what same = by (refused s (past_of s x) what) refl
         ∙ sym (core_then s good y what (other None is))
     by (Some r) is = ap (core_of s) (past_kept s x what r is) ∙ same ∙ sym (ap (core_of s) (past_kept s y what r (other (Some r) is)))
 
--- A loop.
-
-same_repeated : (s : Setup) (test : List Event → Bool) (on : List Event → List Event) → ((x y : List Event) → HaveOneCore s x y → test x ≡ test y) → ((x y : List Event) → HaveOneCore s x y → HaveOneCore s (on x) (on y)) →
-    (n : ℕ) (x y : List Event) → HaveOneCore s x y → HaveOneCore s (as_long_as test on n x) (as_long_as test on n y)
-same_repeated s test on asks kept zero x y same = same
-same_repeated s test on asks kept (suc n) x y same = by (test x) (test y) (asks x y same) (same_repeated s test on asks kept n (on x) (on y) (kept x y same))
-  where
-    by : (b c : Bool) → b ≡ c → HaveOneCore s (as_long_as test on n (on x)) (as_long_as test on n (on y)) → HaveOneCore s (cond b (as_long_as test on n (on x)) x) (cond c (as_long_as test on n (on y)) y)
-    by true true h more = more
-    by true false h more = cc
-    by false true h more = cc
-    by false false h more = same
+-- Steps.
 
 same_steps : (s : Setup) → checked s ≡ Ok tt → (p : ℕ) (v : Bool) (n : ℕ) (x y : List Event) → HaveOneCore s x y → HaveOneCore s (steps_of s p v n x) (steps_of s p v n y)
 same_steps s good p v n x y same =
-    same_repeated s (λ events. is_accepted s events (Step p v)) (λ events. Step p v ∷ events) (λ x y same. same_accepted s good x y same (Step p v)) (λ x y same. same_then s good x y (Step p v) same) n x y same
+    related_repeated (HaveOneCore s) (λ events. is_accepted s events (Step p v)) (λ events. Step p v ∷ events) (λ x y same. same_accepted s good x y same (Step p v)) (λ x y same. same_then s good x y (Step p v) same) n x y same
 
 -- Calls.
 

@@ -40,6 +40,18 @@ as_long_more test on (suc m) n now =
     by more true holds = more
     by more false fails = sym (ended test on n now fails)
 
+-- related runs stay related, if the test is equal for them and the function keeps the relation
+pub related_repeated : (Related : List Event → List Event → Type 0) (test : List Event → Bool) (on : List Event → List Event) → ((x y : List Event) → Related x y → test x ≡ test y) → ((x y : List Event) → Related x y → Related (on x) (on y)) →
+    (n : ℕ) (x y : List Event) → Related x y → Related (as_long_as test on n x) (as_long_as test on n y)
+related_repeated Related test on asks kept zero x y same = same
+related_repeated Related test on asks kept (suc n) x y same = by (test x) (test y) (asks x y same) (related_repeated Related test on asks kept n (on x) (on y) (kept x y same))
+  where
+    by : (b c : Bool) → b ≡ c → Related (as_long_as test on n (on x)) (as_long_as test on n (on y)) → Related (cond b (as_long_as test on n (on x)) x) (cond c (as_long_as test on n (on y)) y)
+    by true true h more = more
+    by true false h more = cc
+    by false true h more = cc
+    by false false h more = same
+
 -- the loop of a runner of this setup, which computes whether the test holds
 module _ (test : Setup → List Event → Bool) (on : Setup → List Event → List Event) (s : Setup) (most : ℕ) (events : List Event) (r : RunnerState) (remaining : ℕ) (same : r.core.setup ≡ s) where
   asked : (reported b : Bool) → OfRun r (λ s now. reported ≡ test s now) → reported ≡ b → (now : List Event) → Follows r now → test s now ≡ b

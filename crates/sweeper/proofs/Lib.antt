@@ -12,6 +12,10 @@ pub mod Units
 -- Every run is good
 pub mod Soundness
 pub mod Goods
+-- One process alone makes the steps of the rounds
+pub mod Pasts
+pub mod Alone
+pub mod Rounding
 -- Runs with equal cores end alike
 pub mod Alike
 pub mod Outcomes

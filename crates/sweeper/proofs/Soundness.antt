@@ -41,7 +41,7 @@ given_round : (s : Setup) (v : Bool) (ps : List ℕ) (events : List Event) → A
 given_round s v [] events given = given
 given_round s v (p ∷ ps) events given = given_round s v ps (Step p v ∷ events) (given_with s events (Step p v) refl given)
 
-given_rounds : (s : Setup) (v : Bool) (n : ℕ) (events : List Event) → AreGiven s events → AreGiven s (rounds s v n events)
+pub given_rounds : (s : Setup) (v : Bool) (n : ℕ) (events : List Event) → AreGiven s events → AreGiven s (rounds s v n events)
 given_rounds s v n events given = given_repeated s (goes s v) (round s v) (given_round s v (processes s)) n events given
 
 given_call : (s : Setup) (v : Bool) (run : Run) (p : ℕ) (command : Command) → is_command command ≡ true → AreGiven s run.events → AreGiven s (with_call s v run (p, command)).events

@@ -28,6 +28,7 @@
 mod audited_run;
 mod known_outcomes;
 mod laws_of_sweeps;
+mod round_steps;
 mod runs;
 mod shown;
 mod sweeping;

@@ -1,9 +1,11 @@
 //! The continuation of a run after the event at which it is cut.
 ghost use Rattle.std.specs.Prelude.{◌≡◌, ◌+◌, ◌*◌, ◌^◌, ◌<◌, ◌≤◌, length};
 ghost use Rattle.sweeper.specs.Runners.{MakesCall, MakesCalls, MakesEnd, OfRun, RunsBy, at_rest, due};
+ghost use Rattle.sweeper.specs.Rounds.{OthersRest};
 ghost use Rattle.sweeper.specs.Sweeps.{cut_off, goes, most as most_of, round, rounds, steps_of};
 
 use crate::audited_run::AuditedRun;
+use crate::round_steps::RoundSteps;
 use model::Event;
 use plain_store::Command;
 use world::Flicks;
@@ -64,19 +66,26 @@ impl AuditedRun {
         false
     }
 
-    /// Makes a step of each process that has one to make, ascending.
-    fn round(&mut self, value: bool)
+    /// Makes a step of each process that has one to make, ascending. Returns which processes have made one.
+    fn round(&mut self, value: bool) -> RoundSteps
         requires room { due self.old + 16 < 2 ^ 64 }
         ensures follows { RunsBy self.old self.new (λ s. round s value) }
+        ensures others { OfRun self.old
+            (λ s events. OthersRest s value result (round s value events)) }
         ensures bounded { due self.new ≤ due self.old }
         ensures setup { self.new.core.setup ≡ self.old.core.setup }
     {
+        let mut stepped = RoundSteps::NoProcess;
         for process in 0..self.processes() {
-            self.step(process, value);
+            if self.step(process, value) {
+                stepped = stepped.with(process);
+            }
         }
+        stepped
     }
 
-    /// Makes rounds while some process has a step to make, at most `most`.
+    /// Makes rounds while some process has a step to make, at most `most`. If one process alone still makes steps, the
+    /// remaining rounds are its steps, so it makes them by [`walk`](AuditedRun::walk).
     fn rounds(&mut self, value: bool, most: u32)
         requires room { due self.old + 16 < 2 ^ 64 }
         ensures follows { RunsBy self.old self.new (λ s. rounds s value most) }
@@ -85,11 +94,15 @@ impl AuditedRun {
     {
         let mut remaining = most;
         'rounds: while 0 < remaining {
-            if !self.goes(value) {
-                return;
-            }
-            self.round(value);
             remaining -= 1;
+            match self.round(value) {
+                RoundSteps::NoProcess => return,
+                RoundSteps::One(process) => {
+                    self.walk(process, value, remaining);
+                    return;
+                }
+                RoundSteps::Several => {}
+            }
         }
     }
 
