@@ -1,4 +1,5 @@
 pub use Rattle.safe_bit.specs as safe_bit
+pub mod Alike
 pub mod Flags
 pub mod Histories
 pub mod Laws
@@ -8,6 +9,7 @@ pub mod Seeing
 pub mod Words
 pub mod Wordwise
 pub mod Written
+pub use Alike.{AreAlike, without_unused_flag, without_unused_flags}
 pub use Flags.{IsMask, SetsFlag, cell_among, cell_in_flags, cells_of, flag_in, open_flags}
 pub use Histories.{DropsAt, IsReadCall, MakesAt, RowCall, calls_at, row_after_call, row_of}
 pub use Row.{CanMake, HasCell, IsClosed, IsRow, answer_at, cell_at, cell_in, new_bit, new_row, preset_row, row_after, with_cell, without_reads}

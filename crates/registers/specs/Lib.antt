@@ -20,7 +20,7 @@ pub use Begins.{is_fresh, is_settling, is_torn, is_writing, made_of_bit, reading
 pub use BitCopies.{cell_of_copy, copy_named}
 pub use CopyBytes.{copies_in, copy_bytes, has_open_write, register_bytes, values_in}
 pub use Cursors.{CursorState, Fits, IsAtCopy, bits_kept, first_lane, is_over, lane_number, made_of_read, made_of_write, rest_by, rest_of}
-pub use Memory.{HasLanes, cell_at, lane_of, memory_moved, without_reads}
+pub use Memory.{AreAlikeMemories, HasLanes, cell_at, lane_of, memory_moved, without_reads}
 pub use Openings.{AreOf, AreOfOneSetup, field_numbered, opening_lane, opening_memory}
 pub use Progress.{access_on, accesses_in_all, accesses_made, last_access, last_by_run, last_read, last_write, made_of_settling, settling_in_all}
 pub use Rows.{bit_begun, register_number, settling_kept, values_held, write_kept}

@@ -1,8 +1,8 @@
 -- A memory of safe bits: lanes of cells. A lane holds the copies that one reader has of one register, bit by bit.
-use Rattle.std.specs.Prelude.{ℕ, ◌<◌, ◌≤◌, ◌+◌, List, [], length, map, slice_index_or, slice_set}
+use Rattle.std.specs.Prelude.{◌≡◌, ℕ, ◌<◌, ◌≤◌, ◌+◌, List, [], length, map, slice_index_or, slice_set}
 use Rattle.safe_bit.specs.Cell.{Cell, cell_after, without_read}
 use Rattle.safe_bit.specs.{Move}
-use Rattle.reader_copies.specs.{cell_in}
+use Rattle.reader_copies.specs.{cell_in, without_unused_flag}
 
 -- a lane of a memory
 abbrev pub lane_of : List (List Cell) → ℕ → List Cell
@@ -24,3 +24,7 @@ pub record HasLanes (memory : List (List Cell)) (lane copies width : ℕ) : Type
 -- the memory with every open read of a lane dropped
 abbrev pub without_reads : List (List Cell) → ℕ → List (List Cell)
 without_reads memory lane = slice_set memory lane (map without_read (lane_of memory lane))
+
+-- The memories are equal, except for flags `touched` of copies without an open read. So they behave alike.
+abbrev pub AreAlikeMemories : List (List Cell) → List (List Cell) → Type 0
+AreAlikeMemories memory other = map (map without_unused_flag) memory ≡ map (map without_unused_flag) other

@@ -17,6 +17,9 @@ pub mod WorldReporting
 -- The world after an event
 pub mod WorldShows
 pub mod CoreGoes
+-- Cores that behave alike
+pub mod AlikeMemories
+pub mod AlikeCores
 pub mod WorldPending
 pub mod CoreKeeps
 pub mod CoreLooks

@@ -8,6 +8,7 @@ use Rattle.model.specs.{Access, Event, Past, Refusal, Taken, is_call, process_of
 use Rattle.model.specs.declared.events.Event.TheVariants.{Step}
 use Rattle.process.specs.{EventOutcome, StepOutcome, marks_of}
 use Rattle.process.specs.declared.outcomes.EventOutcome.TheVariants.{Steps}
+use Rattle.process.specs.registers.{AreAlikeMemories}
 use Rattle.model.specs.safe_bit.Cell.{Cell}
 use Rattle.world.specs.Changes.{pending_in, with_taken}
 use Rattle.world.specs.Events.{AddsEvent, GoesOn, InEachPast, IsRefused, IsTurnedAway, UnlessRefused}
@@ -21,6 +22,12 @@ pub record CoreState : Type 0 where
   pub setup : Setup
   pub registers : List (List Cell)
   pub seats : List Seat
+
+-- The cores are equal, except for flags `touched` of copies without an open read. So they behave alike.
+pub record AreAlikeCores (core other : CoreState) : Type 0 where
+  pub setup : core.setup ≡ other.setup
+  pub registers : AreAlikeMemories core.registers other.registers
+  pub seats : core.seats ≡ other.seats
 
 -- the world that has this core and this history
 abbrev pub with_history : CoreState → List Taken → WorldState
