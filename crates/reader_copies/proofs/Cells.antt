@@ -5,11 +5,11 @@ use Rattle.std.proofs.lemmas.Bool.{cases_eq, cases_lt}
 use Rattle.std.proofs.lemmas.List.{get_or-set_same, get_or-set_other, get_or-replicate, length-replicate, length-map, get_or-map, get_or_default}
 use Rattle.std.proofs.lemmas.List.FromFn.{length-map-range_with_len, get_or-map-range_with_len, fill_by_all}
 use Rattle.reader_copies.specs.declared.copies.Flags.{Flags}
-use Rattle.reader_copies.specs.{IsMask, SetsFlag, bits_of_words, cell_among, cell_in, cell_in_flags, cells_of, flag_in, open_flags, over}
+use Rattle.reader_copies.specs.{AreAlike, IsMask, SetsFlag, bits_of_words, cell_among, cell_in, cell_in_flags, cells_of, flag_in, open_flags, over, without_unused_flag, without_unused_flags}
 use Rattle.std.specs.List.{range_with_len}
 use Rattle.reader_copies.proofs.Words.{bit-found, length-bits}
 use Rattle.reader_copies.proofs.Over.{length-over, over-inside, over-outside}
-use Rattle.reader_copies.proofs.Flags.{cell, flag-zero, same_cell}
+use Rattle.reader_copies.proofs.Flags.{cell, flag-both, flag-zero, same_cell}
 
 pub length_cells : (flags : List Flags) (n : ℕ) → length (cells_of flags n) ≡ n
 length_cells flags n = length-map-range_with_len (cell_among flags) 0 n
@@ -101,6 +101,25 @@ cells-without_reads flags now len cells seen many is =
     get_or-map without_read cells k (new_cell false) (new_cell false) (omega arith) ∙ ap without_read (sym (cells-among flags len k cells seen (omega arith)))
     ∙ same_cell refl refl (sym (flag-zero (k % 64))) refl
     ∙ ap (λ x. cell_in_flags x (k % 64)) (sym (get_or-map dropped flags (k / 64) (open_flags 0) (open_flags 0) (omega (arith, many))) ∙ ap (λ fs. get_or fs (k / 64) (open_flags 0)) (sym is)))
+
+-- the flags that no read uses are cleared word by word
+unused-in : (flags : Flags) (k : ℕ) → without_unused_flag (cell_in_flags flags k) ≡ cell_in_flags (without_unused_flags flags) k
+unused-in flags k = same_cell refl refl refl (sym (flag-both flags.reading flags.touched k))
+
+pub cells-without_unused : (flags : List Flags) (len : ℕ) (cells : List Cell) → cells_of flags len ≡ cells → length flags ≡ (len + 63) / 64 → map without_unused_flag cells ≡ cells_of (map without_unused_flags flags) len
+cells-without_unused flags len cells seen many =
+    let long : length cells ≡ len = ap length (sym seen) ∙ length_cells flags len in
+    sym (cells-each (map without_unused_flags flags) (map without_unused_flag cells) len (length-map cells without_unused_flag ∙ long)
+    (λ k below.
+    get_or-map without_unused_flag cells k (new_cell false) (new_cell false) (omega arith) ∙ ap without_unused_flag (sym (cells-among flags len k cells seen (omega arith)))
+    ∙ unused-in (get_or flags (k / 64) (open_flags 0)) (k % 64)
+    ∙ ap (λ x. cell_in_flags x (k % 64)) (sym (get_or-map without_unused_flags flags (k / 64) (open_flags 0) (open_flags 0) (omega (arith, many))))))
+
+-- copies behave alike if their words do
+pub alike-cells : (flags flags' : List Flags) (len len' : ℕ) (cells cells' : List Cell) → cells_of flags len ≡ cells → cells_of flags' len' ≡ cells' → length flags ≡ (len + 63) / 64 → length flags' ≡ (len' + 63) / 64 → len ≡ len' →
+    map without_unused_flags flags ≡ map without_unused_flags flags' → AreAlike cells cells'
+alike-cells flags flags' len len' cells cells' seen seen' many many' same alike =
+    cells-without_unused flags len cells seen many ∙ (λ i. cells_of (alike i) (same i)) ∙ sym (cells-without_unused flags' len' cells' seen' many')
 
 -- copies that open at bits
 pub cells-open : (flags : List Flags) (words : List ℕ) (many len : ℕ) → flags ≡ map (λ p. open_flags (get_or words p 0)) (range_with_len 0 many) → len ≤ 64 * many → cells_of flags len ≡ map new_cell (bits_of_words words len)

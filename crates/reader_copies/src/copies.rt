@@ -1,5 +1,6 @@
 ghost use Rattle.std.specs.Prelude.{◌≡◌, ℕ, ◌<◌, ◌≤◌, ◌+◌, ◌*◌, ◌/◌, ◌%◌, true, false, length, map, replicate, slice_set, if◌then◌else◌, IfNone, IfOk, IfSome, OnSome};
 ghost use Rattle.safe_bit.specs.{new_cell, cell_after, read_answer, without_read};
+ghost use Rattle.reader_copies.specs.Alike.{AreAlike, without_unused_flags};
 ghost use Rattle.reader_copies.specs.Flags.{flag_in, open_flags};
 ghost use Rattle.reader_copies.specs.Wordwise.{AreClosedAmong, IsWrittenAmong, after_read, after_write, over};
 ghost use Rattle.reader_copies.specs.Row.{cell_in};
@@ -35,15 +36,15 @@ impl Flags {
         }
     }
 
-    /// Returns whether all flags are equal to those of `other`.
+    /// Returns whether all flags are equal to those of `other`, except the flags `touched` of copies without an open read.
     #[inline]
-    fn is_same(&self, other: &Flags) -> bool
-        ensures { result ≡ true → self.now ≡ other.now }
+    fn is_alike(&self, other: &Flags) -> bool
+        ensures { result ≡ true → without_unused_flags self.now ≡ without_unused_flags other.now }
     {
         self.value == other.value
             && self.writing == other.writing
             && self.reading == other.reading
-            && self.touched == other.touched
+            && self.reading & self.touched == other.reading & other.touched
     }
 }
 
@@ -165,17 +166,17 @@ impl Copies {
         self.flags.copy_from_slice(&other.flags);
     }
 
-    /// Returns whether these copies are equal to the other ones: the number of bits, and each flag of each bit. It compares
-    /// whole words, also the flags after the last bit, so it may return `false` for equal copies, but never `true` for
-    /// different ones.
-    pub fn is_same(&self, other: &Copies) -> bool
-        ensures { result ≡ true → self.now ≡ other.now }
+    /// Returns whether these copies behave like the other ones: they have as many bits, and the flags of each bit are equal.
+    /// The flags `touched` of bits without an open read do not count, because the begin of a read sets this flag anew. It
+    /// compares whole words, also the flags after the last bit, so it may return `false` for copies that behave alike.
+    pub fn is_alike(&self, other: &Copies) -> bool
+        ensures { result ≡ true → AreAlike self.now other.now }
     {
         if self.len != other.len {
             return false;
         }
         for place in 0..self.flags.len() {
-            if !self.flags[place].is_same(&other.flags[place]) {
+            if !self.flags[place].is_alike(&other.flags[place]) {
                 return false;
             }
         }

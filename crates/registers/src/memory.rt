@@ -7,7 +7,7 @@ ghost use Rattle.registers.specs.Accesses.{LeadsTo, applied, cursor_after, ends_
 ghost use Rattle.registers.specs.Begins.{is_settling};
 ghost use Rattle.registers.specs.Cursors.{Fits, first_lane, rest_of};
 ghost use Rattle.reader_copies.specs.{bits_of_words};
-ghost use Rattle.registers.specs.Memory.{without_reads};
+ghost use Rattle.registers.specs.Memory.{AreAlikeMemories, without_reads};
 ghost use Rattle.registers.specs.Openings.{AreOfOneSetup, field_numbered, opening_lane, opening_memory};
 
 mod held;
@@ -174,16 +174,17 @@ impl BitMemory {
         }
     }
 
-    /// Returns whether this memory is equal to the other one: the number of lanes, and each flag of each copy in each lane.
-    /// It compares whole words, and a result `false` proves nothing.
-    pub fn is_same(&self, other: &BitMemory) -> bool
-        ensures { result ≡ true → self.now ≡ other.now }
+    /// Returns whether this memory behaves like the other one: it has as many lanes, and the flags of each copy are equal,
+    /// except the flags `touched` of copies without an open read. It compares whole words, and a result `false` proves
+    /// nothing.
+    pub fn is_alike(&self, other: &BitMemory) -> bool
+        ensures { result ≡ true → AreAlikeMemories self.now other.now }
     {
         if self.lanes.len() != other.lanes.len() {
             return false;
         }
         for (at, lane) in other.lanes.iter().enumerate() {
-            if !self.lanes[at].is_same(lane) {
+            if !self.lanes[at].is_alike(lane) {
                 return false;
             }
         }

@@ -1,7 +1,7 @@
--- Two runs whose cores are equal behave alike: each event is accepted in both or in neither, and leads to equal cores.
-use Rattle.std.proofs.Common.{◌≡◌, ℕ, ◌<◌, ◌&&◌, ◌||◌, ◌==◌, Bool, true, false, cond, List, [], ◌∷◌, Option, None, Some, Ok, refl, ap, sym, ◌∙◌, arith}
+-- Two runs with alike cores: each event is accepted in both or in neither, and leads to alike cores.
+use Rattle.std.proofs.Common.{◌≡◌, ℕ, ◌<◌, ◌&&◌, ◌||◌, ◌==◌, Bool, true, false, cond, List, [], ◌∷◌, Option, None, Some, Ok, refl, ap, sym, subst, ◌∙◌, arith}
 use Rattle.std.proofs.lemmas.Bool.Decides.{nat_tests}
-use Rattle.std.specs.Prelude.{is_none, nat_le, nat_lt, slice_get}
+use Rattle.std.specs.Prelude.{is_none, nat_le, nat_lt}
 use Rattle.std.specs.List.{list_any}
 use Rattle.plain_store.specs.{Command, Setup, checked}
 use Rattle.model.specs.{Event, Refusal, calls_full, calls_in, is_call, own, past_of, process_of, processes, refused, refused_at, stage}
@@ -9,19 +9,17 @@ use Rattle.model.specs.declared.events.Event.TheVariants.{Call, Step}
 use Rattle.model.specs.declared.refusals.Refusal.TheVariants.{NoProcess, CallsFull}
 use Rattle.model.proofs.Width.{is_good}
 use Rattle.world.specs.process.{stage_doing}
-use Rattle.world.specs.{CoreState, Seat, core_after, seat_of}
-use Rattle.world.proofs.CoreGoes.{core-goes, entry_made, made}
-use Rattle.world.proofs.WorldLists.{get-mapped}
-use Rattle.world.proofs.WorldOpen.{core_of, is-allowed}
-use Rattle.world.proofs.WorldShows.{past-after}
+use Rattle.world.specs.{AreAlikeCores, Seat}
+use Rattle.world.proofs.AlikeCores.{alike-goes, same_seat}
+use Rattle.world.proofs.WorldOpen.{core_of}
 use Rattle.world.proofs.WorldStages.{stage-process}
 use Rattle.sweeper.specs.{Run, ended, goes, is_accepted, most, steps_of, with_call, with_calls}
 use Rattle.sweeper.proofs.Accepted.{past_kept}
 use Rattle.sweeper.proofs.Going.{related_repeated}
 
--- runs of these events have equal cores
-abbrev pub HaveOneCore : Setup → List Event → List Event → Type 0
-HaveOneCore s x y = core_of s (past_of s x) ≡ core_of s (past_of s y)
+-- runs of these events have cores that are equal, except for flags of registers that no read uses
+abbrev pub HaveAlikeCores : Setup → List Event → List Event → Type 0
+HaveAlikeCores s x y = AreAlikeCores (core_of s (past_of s x)) (core_of s (past_of s y))
 
 -- a number that the test finds below another is below it
 less : (p n : ℕ) → nat_lt p n ≡ true → p < n
@@ -29,22 +27,15 @@ less p n h = grind (arith, nat_tests)
 
 -- One event.
 
-module _ (s : Setup) (good : checked s ≡ Ok tt) (x y : List Event) (same : HaveOneCore s x y) where
-  -- the seat of a process that exists
-  same_seat : (p : ℕ) → p < s.processes → seat_of s (past_of s x) p ≡ seat_of s (past_of s y) p
-  same_seat p below =
-      let both : Some (seat_of s (past_of s x) p) ≡ Some (seat_of s (past_of s y) p) =
-      sym (get-mapped (seat_of s (past_of s x)) 0 s.processes p p below (omega arith)) ∙ ap (λ (c : CoreState). slice_get c.seats p) same ∙ get-mapped (seat_of s (past_of s y)) 0 s.processes p p below (omega arith) in
-      cc
-
+module _ (s : Setup) (good : checked s ≡ Ok tt) (x y : List Event) (same : HaveAlikeCores s x y) where
   same_stage : (p : ℕ) → p < s.processes → stage p (past_of s x) ≡ stage p (past_of s y)
   same_stage p below =
-      sym (stage-process s (is_good s good) x p) ∙ ap (λ (seat : Seat). stage_doing seat.process.doing) (same_seat p below) ∙ stage-process s (is_good s good) y p
+      sym (stage-process s (is_good s good) x p) ∙ ap (λ (seat : Seat). stage_doing seat.process.doing) (same_seat s (past_of s x) (past_of s y) same.seats p below) ∙ stage-process s (is_good s good) y p
 
   same_full : (what : Event) → process_of what < s.processes → calls_full s (past_of s x) what ≡ calls_full s (past_of s y) what
   same_full what below =
       by (is_call what) (s.version == 2) (calls_in (own (process_of what) (past_of s x))) (calls_in (own (process_of what) (past_of s y)))
-      (ap (λ (seat : Seat). seat.process.number) (same_seat (process_of what) below))
+      (ap (λ (seat : Seat). seat.process.number) (same_seat s (past_of s x) (past_of s y) same.seats (process_of what) below))
     where
       by : (b v : Bool) (n m : ℕ) → cond v n 0 ≡ cond v m 0 → (b && v && nat_le 65535 n) ≡ (b && v && nat_le 65535 m)
       by true true n m h = ap (nat_le 65535) h
@@ -68,34 +59,29 @@ module _ (s : Setup) (good : checked s ≡ Ok tt) (x y : List Event) (same : Hav
   pub same_goes : (v : Bool) → goes s v x ≡ goes s v y
   same_goes v = ap (λ test. list_any test (processes s)) (λ i p. same_accepted (Step p v) i)
 
--- the core after an event that is accepted
-core_then : (s : Setup) → checked s ≡ Ok tt → (x : List Event) (what : Event) → refused s (past_of s x) what ≡ None → core_of s (past_of s (what ∷ x)) ≡ core_after (core_of s (past_of s x)) (seat_of s (past_of s x) (process_of what)) what
-core_then s good x what allowed = ap (core_of s) (past-after s x what (entry_made s (past_of s x) what) (made s good x what allowed)) ∙ sym (core-goes s good x what allowed)
-
-pub same_then : (s : Setup) → checked s ≡ Ok tt → (x y : List Event) (what : Event) → HaveOneCore s x y → HaveOneCore s (what ∷ x) (what ∷ y)
+pub same_then : (s : Setup) → checked s ≡ Ok tt → (x y : List Event) (what : Event) → HaveAlikeCores s x y → HaveAlikeCores s (what ∷ x) (what ∷ y)
 same_then s good x y what same = by (refused s (past_of s x) what) refl
   where
     other : (o : Option Refusal) → refused s (past_of s x) what ≡ o → refused s (past_of s y) what ≡ o
     other o is = sym (same_refused s good x y same what) ∙ is
 
-    by : (o : Option Refusal) → refused s (past_of s x) what ≡ o → HaveOneCore s (what ∷ x) (what ∷ y)
-    by None is =
-        core_then s good x what is
-        ∙ (λ i. core_after (same i) (same_seat s good x y same (process_of what) (is-allowed s (past_of s x) what is).below i) what)
-        ∙ sym (core_then s good y what (other None is))
-    by (Some r) is = ap (core_of s) (past_kept s x what r is) ∙ same ∙ sym (ap (core_of s) (past_kept s y what r (other (Some r) is)))
+    by : (o : Option Refusal) → refused s (past_of s x) what ≡ o → HaveAlikeCores s (what ∷ x) (what ∷ y)
+    by None is = alike-goes s good x y what is (other None is) same
+    by (Some r) is =
+        subst (λ past. AreAlikeCores (core_of s past) (core_of s (past_of s (what ∷ y)))) (sym (past_kept s x what r is))
+        (subst (λ past. AreAlikeCores (core_of s (past_of s x)) (core_of s past)) (sym (past_kept s y what r (other (Some r) is))) same)
 
 -- Steps.
 
-same_steps : (s : Setup) → checked s ≡ Ok tt → (p : ℕ) (v : Bool) (n : ℕ) (x y : List Event) → HaveOneCore s x y → HaveOneCore s (steps_of s p v n x) (steps_of s p v n y)
+same_steps : (s : Setup) → checked s ≡ Ok tt → (p : ℕ) (v : Bool) (n : ℕ) (x y : List Event) → HaveAlikeCores s x y → HaveAlikeCores s (steps_of s p v n x) (steps_of s p v n y)
 same_steps s good p v n x y same =
-    related_repeated (HaveOneCore s) (λ events. is_accepted s events (Step p v)) (λ events. Step p v ∷ events) (λ x y same. same_accepted s good x y same (Step p v)) (λ x y same. same_then s good x y (Step p v) same) n x y same
+    related_repeated (HaveAlikeCores s) (λ events. is_accepted s events (Step p v)) (λ events. Step p v ∷ events) (λ x y same. same_accepted s good x y same (Step p v)) (λ x y same. same_then s good x y (Step p v) same) n x y same
 
 -- Calls.
 
--- two runs have equal cores, and both are stuck or neither is
+-- two runs have alike cores, and both are stuck or neither is
 record AreAlike (s : Setup) (a b : Run) : Type 0 where
-  cores : HaveOneCore s a.events b.events
+  cores : HaveAlikeCores s a.events b.events
   stuck : a.stuck ≡ b.stuck
 
 alike_call : (s : Setup) → checked s ≡ Ok tt → (v : Bool) (a b : Run) (p : ℕ) (command : Command) → AreAlike s a b → AreAlike s (with_call s v a (p, command)) (with_call s v b (p, command))
@@ -104,7 +90,7 @@ alike_call s good v a b p command alike = by (is_accepted s a.events (Call p com
     then : Run → Run
     then run = let after : List Event = steps_of s p v most (Call p command ∷ run.events) in record { events = after; stuck = run.stuck || is_accepted s after (Step p v) }
 
-    cores : HaveOneCore s (then a).events (then b).events
+    cores : HaveAlikeCores s (then a).events (then b).events
     cores = same_steps s good p v most (Call p command ∷ a.events) (Call p command ∷ b.events) (same_then s good a.events b.events (Call p command) alike.cores)
 
     by : (c d : Bool) → c ≡ d → AreAlike s (cond c (then a) a) (cond d (then b) b)
@@ -118,7 +104,7 @@ alike_calls s good v [] a b alike = alike
 alike_calls s good v ((p, command) ∷ calls) a b alike = alike_calls s good v calls (with_call s v a (p, command)) (with_call s v b (p, command)) (alike_call s good v a b p command alike)
 
 -- the outcome of two runs that make the same calls
-pub same_end : (s : Setup) → checked s ≡ Ok tt → (calls : List (ℕ × Command)) (v : Bool) (x y : List Event) → HaveOneCore s x y → (ended s calls v x).stuck ≡ (ended s calls v y).stuck
+pub same_end : (s : Setup) → checked s ≡ Ok tt → (calls : List (ℕ × Command)) (v : Bool) (x y : List Event) → HaveAlikeCores s x y → (ended s calls v x).stuck ≡ (ended s calls v y).stuck
 same_end s good calls v x y same =
     let a : Run = record { events = x; stuck = goes s v x } in
     let b : Run = record { events = y; stuck = goes s v y } in

@@ -16,7 +16,7 @@ pub mod Goods
 pub mod Pasts
 pub mod Alone
 pub mod Rounding
--- Runs with equal cores end alike
+-- Runs with alike cores end alike
 pub mod Alike
 pub mod Outcomes
 -- The counts

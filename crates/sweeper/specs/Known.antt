@@ -1,9 +1,9 @@
--- The outcomes that a sweep keeps. Each is that of all runs that have its core.
-use Rattle.std.specs.Prelude.{◌≡◌, ℕ, Bool, List, Some, None}
+-- The outcomes that a sweep keeps. Each is that of all runs whose core is alike: equal, except for flags of registers that no read uses.
+use Rattle.std.specs.Prelude.{◌≡◌, ℕ, Bool, Contains, List, Some, None}
 use Rattle.std.specs.List.{All, list_all}
 use Rattle.plain_store.specs.{Command, Setup, is_command}
 use Rattle.model.specs.{Event, history, past_of}
-use Rattle.world.specs.{CoreState, with_history}
+use Rattle.world.specs.{AreAlikeCores, CoreState, with_history}
 use Rattle.world.specs.Shows.{Shows}
 use Rattle.sweeper.specs.declared.known_outcomes.KnownOutcome.{KnownOutcome}
 use Rattle.sweeper.specs.Runners.{HasEnded, OfRun, RunnerState, ended}
@@ -12,14 +12,22 @@ use Rattle.sweeper.specs.Runners.{HasEnded, OfRun, RunnerState, ended}
 abbrev pub HasCore : CoreState → List Event → Type 0
 HasCore core events = Shows (with_history core (history core.setup (past_of core.setup events))) events
 
--- a run that has this core and makes these calls by this flick is stuck then, or is not
+-- a run whose core is alike and that makes these calls by this flick is stuck then, or is not
 abbrev pub EndsFrom : CoreState → List (ℕ × Command) → Bool → Bool → Type 0
-EndsFrom core calls v stuck = (events : List Event) → HasCore core events → (ended core.setup calls v events).stuck ≡ stuck
+EndsFrom core calls v stuck = (other : CoreState) (events : List Event) → AreAlikeCores core other → HasCore other events → (ended other.setup calls v events).stuck ≡ stuck
 
--- the outcome, if there is one, is that of each run that has its core, continues by its flick and ends by these calls
+-- the outcome, if there is one, is that of each run whose core is alike, which continues by its flick and ends by these calls
 pub record IsKnown (s : Setup) (calls : List (ℕ × Command)) (known : KnownOutcome) : Type 0 where
   pub setup : known.core.setup ≡ s
   pub outcome : (stuck : Bool) → known.stuck ≡ Some stuck → EndsFrom known.core calls known.value stuck
+
+-- one of the outcomes is that of a core that is alike, and of this flick
+pub record HasOutcome (known : List KnownOutcome) (core : CoreState) (v stuck : Bool) : Type 0 where
+  pub of : KnownOutcome
+  pub among : Contains known of
+  pub alike : AreAlikeCores of.core core
+  pub value : of.value ≡ v
+  pub outcome : of.stuck ≡ Some stuck
 
 -- all outcomes are known
 abbrev pub AreKnown : Setup → List (ℕ × Command) → List KnownOutcome → Type 0

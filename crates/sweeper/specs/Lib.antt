@@ -5,7 +5,7 @@ pub mod Tallies
 pub mod Shown
 pub mod Rounds
 pub use Runners.{Accepts, Follows, HasEnded, IsRun, MakesEnd, OfRun, RunnerState, RunsBy, RunsOn, at_rest, due, ended}
-pub use Known.{AreKnown, AreOfSetup, AreUnknown, EndsFrom, EndsRun, HasCore, IsKnown, IsUnknown, LearnsFrom, are_commands}
+pub use Known.{AreKnown, AreOfSetup, AreUnknown, EndsFrom, EndsRun, HasCore, HasOutcome, IsKnown, IsUnknown, LearnsFrom, are_commands}
 pub use Rounds.{IsAlone, OthersRest, with_step}
 pub use Shown.{swept_text}
 unfoldable pub use Sweeps.{most}

@@ -4,7 +4,7 @@ ghost use Rattle.plain_store.specs.{checked};
 ghost use Rattle.model.specs.declared.Event.TheVariants.{Step};
 ghost use Rattle.model.specs.{is_call, is_event};
 ghost use Rattle.world.specs.choices.{flick_of, is_constant};
-ghost use Rattle.world.specs.{remaining_in, taking};
+ghost use Rattle.world.specs.{AreAlikeCores, remaining_in, taking};
 ghost use Rattle.auditor.specs.{Observes, step_reported};
 ghost use Rattle.sweeper.specs.Runners.{Accepts, Follows, RunsBy, RunsOn, due};
 ghost use Rattle.sweeper.specs.Sweeps.{steps_of};
@@ -92,11 +92,11 @@ impl AuditedRun {
         &self.core
     }
 
-    /// Returns whether all processes are at rest, no bad entry was found, and the auditor's own core is equal to the core.
+    /// Returns whether all processes are at rest, no bad entry was found, and the auditor's own core behaves like the core.
     pub fn is_as_audited(&self) -> bool
-        ensures { result ≡ true → self.now.auditor.core ≡ self.now.core }
+        ensures { result ≡ true → AreAlikeCores self.now.auditor.core self.now.core }
     {
-        self.bad.is_none() && self.auditor.core().is_same(&self.core)
+        self.bad.is_none() && self.auditor.core().is_alike(&self.core)
     }
 
     /// Returns the number of processes.

@@ -1,7 +1,7 @@
-//! The outcomes of runs that came to rest in cores that later runs may reach too.
-ghost use Rattle.std.specs.Prelude.{◌≡◌, ◌+◌, ◌*◌, ◌^◌, ◌<◌, true, Contains, IfOk, IfSome, Ok, Some, length};
+//! The outcomes of runs that came to rest, for later runs that come to rest in a core that behaves alike.
+ghost use Rattle.std.specs.Prelude.{◌≡◌, ◌+◌, ◌*◌, ◌^◌, ◌<◌, true, IfOk, IfSome, Ok, Some, length};
 ghost use Rattle.plain_store.specs.{checked};
-ghost use Rattle.sweeper.specs.Known.{AreOfSetup, AreUnknown, EndsRun, LearnsFrom, are_commands};
+ghost use Rattle.sweeper.specs.Known.{AreOfSetup, AreUnknown, EndsRun, HasOutcome, LearnsFrom, are_commands};
 ghost use Rattle.sweeper.specs.Runners.{MakesEnd, due};
 
 use crate::audited_run::AuditedRun;
@@ -83,9 +83,9 @@ impl KnownOutcomes {
         Ok(KnownOutcomes { known, oldest: 0 })
     }
 
-    /// Ends a run that has come to rest. If an outcome of its core is known, the run is stuck or not as that outcome states,
-    /// and its calls are not made. Otherwise it makes its calls, and its outcome is known from then on. Returns whether the
-    /// run is stuck.
+    /// Ends a run that has come to rest, and returns whether it is stuck. If an outcome is known of a core that behaves alike
+    /// ([`Core::is_alike`]), the run is stuck or not as that outcome states, and its calls are not made. Otherwise it makes
+    /// its calls, and its outcome is known from then on.
     pub fn end(&mut self, run: &mut AuditedRun, value: bool, calls: &[(u8, Command)]) -> bool
         requires setup { AreOfSetup run.old.core.setup self.old }
         requires room { due run.old + 16 * length calls.now + 16 < 2 ^ 64 }
@@ -102,15 +102,15 @@ impl KnownOutcomes {
         stuck
     }
 
-    /// Returns the known outcome of a run, or `None` if no outcome of its core and flick is known. The auditor of the run
-    /// must have found all entries good and have an equal core, so each run is audited up to the core whose outcome it takes.
+    /// Returns the known outcome of a run, or `None` if no outcome is known of its flick and of a core that behaves alike.
+    /// The auditor of the run must have found all entries good, and its core must behave like the core of the run. So each
+    /// run is audited up to its calls.
     fn find(&self, run: &AuditedRun, value: bool) -> Option<bool>
         requires setup { AreOfSetup run.now.core.setup self.now }
-        ensures { IfSome result (λ stuck. Contains self.now
-            (record { core = run.now.core; value = value; stuck = Some stuck })) }
+        ensures { IfSome result (λ stuck. HasOutcome self.now run.now.core value stuck) }
     {
         for known in self.known.iter() {
-            if known.value == value && known.core.is_same(run.core()) && run.is_as_audited() {
+            if known.value == value && known.core.is_alike(run.core()) && run.is_as_audited() {
                 return known.stuck;
             }
         }

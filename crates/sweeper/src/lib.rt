@@ -1,8 +1,8 @@
 //! Sweeps: the consequences of a failure after any one event of a run. A sweep makes two runs after each event of a list.
 //! In each, the process of the event fails and is restarted, all processes continue, and calls follow. Each run is audited
-//! while it is made. If all processes come to rest before the calls, in a core that an earlier run had there, the run takes
-//! the outcome of that run, and its calls are not made. A law of this crate states that every run is good. The result shows
-//! which runs met their limits.
+//! while it is made. If all processes come to rest before the calls, in a core that behaves like the core of an earlier run
+//! there, the run takes the outcome of that run, and its calls are not made. A law of this crate states that every run is
+//! good. The result shows which runs met their limits.
 //!
 //! The following makes a sweep of a checked setup, events, and the calls that follow each failure. It tries once more after
 //! an allocation failure:

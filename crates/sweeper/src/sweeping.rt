@@ -18,7 +18,8 @@ const MOST: usize = 1 << 56;
 /// before and is not down. Its memory unit makes its steps, after which the process is down. It is restarted, all
 /// processes continue in rounds, and the calls follow in their order. There is one run for each value that the steps have
 /// as their flick. Each entry of each run is good and keeps the main theorem. Each run is audited, but only up to its calls
-/// if it takes their outcome from an earlier run with an equal core. The function does not allocate after the first event.
+/// if it takes their outcome from an earlier run whose core behaves alike. The function does not allocate after the first
+/// event.
 ///
 /// # Errors
 ///
@@ -48,7 +49,7 @@ pub fn sweep(
 
 /// A sweep in progress: one runner takes the events, and another one makes the runs. The sweep takes its events one by
 /// one, so its caller does not need a list of them.
-/// It keeps the outcomes of a few runs, for later runs with an equal core.
+/// It keeps the outcomes of a few runs, for later runs whose cores behave alike.
 #[derive(Drop)]
 pub struct Sweeper {
     walker: AuditedRun,

@@ -1,5 +1,6 @@
 //! Sets a core from another one, and compares two cores.
 ghost use Rattle.std.specs.Prelude.{◌≡◌, true};
+ghost use Rattle.world.specs.Cores.{AreAlikeCores};
 ghost use Rattle.world.specs.Seats.{setups_in};
 
 use super::Core;
@@ -16,14 +17,14 @@ impl Core {
         copy_seats(&mut self.seats, &other.seats);
     }
 
-    /// Returns whether all processes of both cores are at rest, idle or down, and the cores are equal: each flag of each
-    /// register, and each seat. Both cores have the same setup. It returns `false` if a process has an access to make, and
-    /// it does not allocate.
-    pub fn is_same(&self, other: &Core) -> bool
+    /// Returns whether all processes of both cores are at rest, idle or down, and the cores behave alike. Then their seats
+    /// are equal, and so are their registers, except the flags `touched` of copies without an open read. Both cores have the
+    /// same setup. It returns `false` if a process has an access to make, and it does not allocate.
+    pub fn is_alike(&self, other: &Core) -> bool
         requires setup { self.now.setup ≡ other.now.setup }
-        ensures { result ≡ true → self.now ≡ other.now }
+        ensures { result ≡ true → AreAlikeCores self.now other.now }
     {
-        are_same_seats(&self.seats, &other.seats) && self.registers.is_same(&other.registers)
+        are_same_seats(&self.seats, &other.seats) && self.registers.is_alike(&other.registers)
     }
 }
 

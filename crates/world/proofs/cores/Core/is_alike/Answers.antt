@@ -1,7 +1,7 @@
 use Rattle.std.proofs.Common.{ap, sym, ◌∙◌}
 use Rattle.world.specs.{CoreState, setups_in}
 use Rattle.world.proofs.CoreCopies.{seats-alike}
-use Rattle.world.proofs.cores.Core.is_same.Goals as goal
+use Rattle.world.proofs.cores.Core.is_alike.Goals as goal
 
 pub are_same_seats-requires : goal.are_same_seats-requires
 are_same_seats-requires c =
