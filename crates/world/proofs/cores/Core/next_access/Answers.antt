@@ -1,5 +1,4 @@
-use Rattle.std.proofs.Common.{◌≡◌, ◌<◌, ℕ, Bool, List, ap, refl, subst, sym, ◌∙◌, arith}
-use Rattle.plain_store.specs.{Setup}
+use Rattle.std.proofs.Common.{◌≡◌, ◌<◌, ℕ, Bool, List, ap, refl, subst, ◌∙◌, arith}
 use Rattle.model.specs.{Access, ended}
 use Rattle.model.specs.safe_bit.{Move}
 use Rattle.model.specs.safe_bit.Cell.{Cell, read_answer}
