@@ -5,9 +5,11 @@ use Rattle.model.specs.{Access, Entry, Past, entry_of, width}
 use Rattle.model.specs.declared.events.Event.TheVariants.{Step}
 use Rattle.model.proofs.Width.{is_good}
 use Rattle.calls.specs.{ComesInTurn, HasObserved, HasNotFailed, HasTabled, Passes, TableState, ReportsRead, ended_lines, ends_number, follows, known_step, line_of, lines_after, more_if, quiet_entry}
+use Rattle.world.specs.choices.{FlickState}
 use Rattle.world.proofs.WorldTurns.{takes-turns}
 use Rattle.scenario_run.specs.world.{ends_overlapped_read}
 use Rattle.scenario_run.specs.{Happening, PassBy, PassWithin, UnmarkedStep, StepsOn, StepsWithin, Tries, overlapped_in, past_after, tried}
+use Rattle.scenario_run.proofs.Within.{last_step}
 use Rattle.scenario_run.proofs.laws.FrameEvents.{accepted}
 use Rattle.scenario_run.proofs.laws.Steps.{step_is}
 use Rattle.calls.proofs.UnmarkedSteps.{inside_never, not_so, steps_below}
@@ -56,13 +58,6 @@ step_lines s before made on = unmarked_lines s before made.process made.flick (S
 pub pass_lines : (s : Setup) (p n : ℕ) (before after : List Happening) → PassWithin s p n before after → lines_after s after ≡ lines_after s before
 pass_lines s p zero before after same = ap (lines_after s) same
 pass_lines s p (suc n) before after (flick, w, more) = pass_lines s p n (Tries (Step p flick) ∷ before) after more ∙ unmarked_lines s before p flick w.quiet.0 w.quiet.1
-
--- the last of them
-last_step : (s : Setup) (p n : ℕ) (x y : List Happening) → PassWithin s p (suc n) x y → (mid : List Happening) × (flick : Bool) × PassWithin s p n x mid × StepsWithin s mid p flick × (y ≡ Tries (Step p flick) ∷ mid)
-last_step s p zero x y (flick, w, same) = (x, flick, refl, w, same)
-last_step s p (suc n) x y (flick, w, more) =
-    let (mid, last, part, step, is) = last_step s p n (Tries (Step p flick) ∷ x) y more in
-    (mid, last, (flick, w, part), step, is)
 
 access_made : (s : Setup) (before : List Happening) (p : ℕ) (flick : Bool) → StepsWithin s before p flick → (a : Access) × (entry_of s (past_after s before) (Step p flick) ≡ Some (quiet_entry p a))
 access_made s before p flick w = by w.quiet.0 w.quiet.1
@@ -141,8 +136,8 @@ abbrev newest_access : Past → Option Access
 newest_access [] = None
 newest_access (e ∷ past) = e.access
 
-passes_by : (s : Setup) (p n : ℕ) (newest : Access) (overlapped : ℕ) (x y : List Happening) → PassBy s p (suc n) newest overlapped x y → Passes s p (suc n) newest overlapped (past_after s x) (past_after s y)
-passes_by s p n newest overlapped x y pass =
+passes_by : (s : Setup) (p : ℕ) (f : FlickState) (n : ℕ) (newest : Access) (overlapped : ℕ) (x y : List Happening) → PassBy s p f (suc n) newest overlapped x y → Passes s p (suc n) newest overlapped (past_after s x) (past_after s y)
+passes_by s p f n newest overlapped x y pass =
     let h : Passed s p n x y = passed s p n x y pass.within in
     let both : Some h.newest ≡ Some newest = sym (ap newest_access h.at) ∙ ap newest_access pass.newest_is.1 in
     let same : h.newest ≡ newest = cc in
@@ -155,13 +150,13 @@ pass_unfailed s p n before after (flick, w, more) = within_unfailed s p (past_af
 pass_below : (s : Setup) (p n : ℕ) (before after : List Happening) → PassWithin s p (suc n) before after → p < s.processes
 pass_below s p n before after (flick, w, more) = (accepted s (is_good s w.good) (tried before) (Step p flick) _ w.quiet.1).below
 
-pub pass_tabled : (s : Setup) (p n : ℕ) (newest : Access) (overlapped : ℕ) (before after : List Happening) (old new : TableState) → 0 < n → PassBy s p n newest overlapped before after →
+pub pass_tabled : (s : Setup) (p : ℕ) (f : FlickState) (n : ℕ) (newest : Access) (overlapped : ℕ) (before after : List Happening) (old new : TableState) → 0 < n → PassBy s p f n newest overlapped before after →
     ((past later : Past) → Passes old.setup p n newest overlapped past later → p < old.setup.processes → HasNotFailed p past → HasObserved old past → HasObserved new later) → new.setup ≡ old.setup → HasTabled s before old → HasTabled s after new
-pass_tabled s p zero newest overlapped before after old new some pass observes kept t = absurd (omega (arith, some))
-pass_tabled s p (suc n) newest overlapped before after old new some pass observes kept t = record {
+pass_tabled s p f zero newest overlapped before after old new some pass observes kept t = absurd (omega (arith, some))
+pass_tabled s p f (suc n) newest overlapped before after old new some pass observes kept t = record {
   setup = kept ∙ t.setup;
   observed = observes (past_after s before) (past_after s after)
-      (subst (λ (s' : Setup). Passes s' p (suc n) newest overlapped (past_after s before) (past_after s after)) (sym t.setup) (passes_by s p n newest overlapped before after pass))
+      (subst (λ (s' : Setup). Passes s' p (suc n) newest overlapped (past_after s before) (past_after s after)) (sym t.setup) (passes_by s p f n newest overlapped before after pass))
       (subst (λ (s' : Setup). p < s'.processes) (sym t.setup) (pass_below s p n before after pass.within)) (pass_unfailed s p n before after pass.within)
       t.observed;
 }

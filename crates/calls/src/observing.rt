@@ -12,10 +12,11 @@ ghost use Rattle.calls.specs.Tables.{CutsReported, HasTabled, Reports, fewer, kn
 use crate::called::{Called, EntryFacts};
 use crate::printed::print_call;
 use crate::table::CallTable;
-use model::{Access, Mark, Move};
+use model::{Access, Mark};
 use scenario::{Fault, Sink, write_all};
 use scenario_run::{RunObserver, TurnReport, UnmarkedStep};
 use std::alloc::Global;
+use world::Flicks;
 
 /// Tabulates the calls of a run as it observes its entries.
 #[derive(Drop)]
@@ -54,8 +55,8 @@ impl<'a, W: Sink> RunObserver for CallsWriter<'a, W> {
     }
 
     #[inline(always)]
-    fn pass(&mut self, process: u8, steps: u32, newest: Move, overlapped: u32) {
-        self.table.pass(process, steps, newest, overlapped);
+    fn pass(&mut self, process: u8, _flicks: &Flicks, steps: u32, newest: Access, overlapped: u32) {
+        self.table.pass(process, steps, newest.how, overlapped);
     }
 
     ghost room_less = { λ a n k few room. (fewer a.table.now.entries n k few room.0, room.1) };

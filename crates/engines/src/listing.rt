@@ -13,7 +13,7 @@ use plain_store::{NestedTypes, Setup};
 use scenario::progress::NoObserver;
 use scenario::{Fault, Scenario};
 use scenario_run::{
-    Entry, Event, Move, PlayLimit, Record, Refusal, RunObserver, ScenarioRun, TurnReport,
+    Access, Entry, Event, Flicks, PlayLimit, Record, Refusal, RunObserver, ScenarioRun, TurnReport,
     UnmarkedStep, World,
 };
 use std::alloc::{AllocError, Global};
@@ -67,7 +67,14 @@ impl RunObserver for EventLister {
         Ok(add(Event::Step(made.process, made.flick), &mut self.events)?)
     }
 
-    fn pass(&mut self, _process: u8, _steps: u32, _newest: Move, _overlapped: u32) {}
+    fn pass(
+        &mut self,
+        _process: u8,
+        _flicks: &Flicks,
+        _steps: u32,
+        _newest: Access,
+        _overlapped: u32,
+    ) {}
 
     ghost room_less = { λ a n k few room. tt };
 

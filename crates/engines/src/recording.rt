@@ -14,7 +14,9 @@ ghost use Rattle.scenario_run.specs.{FailsAsWriting, Took, TookPart, ended, part
 use judge::{StepLine, print_entry, print_setup};
 use scenario::progress::ProgressObserver;
 use scenario::{Fault, Scenario, Sink, Source, read_input, read_scenario, write_all};
-use scenario_run::{Entry, Move, PlayLimit, RunObserver, ScenarioRun, TurnReport, UnmarkedStep};
+use scenario_run::{
+    Access, Entry, Flicks, PlayLimit, RunObserver, ScenarioRun, TurnReport, UnmarkedStep,
+};
 use std::alloc::{AllocError, Global};
 
 /// Reads a whole scenario file, and then writes the record of its run, as it is made: the setup, and a line for each
@@ -125,7 +127,14 @@ impl<'a, W: Sink> RunObserver for RecordWriter<'a, W> {
         Ok(())
     }
 
-    fn pass(&mut self, _process: u8, _steps: u32, _newest: Move, _overlapped: u32) {}
+    fn pass(
+        &mut self,
+        _process: u8,
+        _flicks: &Flicks,
+        _steps: u32,
+        _newest: Access,
+        _overlapped: u32,
+    ) {}
 
     ghost room_less = { λ a n k few room. room };
 

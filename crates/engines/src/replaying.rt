@@ -13,7 +13,7 @@ use crate::writing::{write_end, write_turn};
 use scenario::progress::ProgressObserver;
 use scenario::{Fault, Scenario, Sink, Source, read_input, read_scenario};
 use scenario_run::{
-    Move, PlayLimit, RunObserver, ScenarioRun, Summary, Taken, TurnReport, UnmarkedStep,
+    Access, Flicks, PlayLimit, RunObserver, ScenarioRun, Summary, Taken, TurnReport, UnmarkedStep,
 };
 use std::alloc::Global;
 
@@ -112,7 +112,14 @@ impl<'a, W: Sink> RunObserver for ReplayWriter<'a, W> {
         Ok(())
     }
 
-    fn pass(&mut self, _process: u8, steps: u32, _newest: Move, _overlapped: u32) {
+    fn pass(
+        &mut self,
+        _process: u8,
+        _flicks: &Flicks,
+        steps: u32,
+        _newest: Access,
+        _overlapped: u32,
+    ) {
         self.summary.events += u64::from(steps);
     }
 

@@ -16,7 +16,9 @@ use judge::{Verdict, status_of};
 use plain_store::{Command, NestedTypes};
 use scenario::progress::{NoObserver, ProgressObserver, ProgressPoint};
 use scenario::{Fault, Scenario, Sink, Source, read_input, read_scenario};
-use scenario_run::{Event, Move, PlayLimit, RunObserver, ScenarioRun, TurnReport, UnmarkedStep};
+use scenario_run::{
+    Access, Event, Flicks, PlayLimit, RunObserver, ScenarioRun, TurnReport, UnmarkedStep,
+};
 use std::alloc::{AllocError, Global};
 use sweeper::{Sweeper, Swept};
 
@@ -179,7 +181,14 @@ impl RunObserver for Calls {
         Ok(())
     }
 
-    fn pass(&mut self, _process: u8, steps: u32, _newest: Move, _overlapped: u32) {
+    fn pass(
+        &mut self,
+        _process: u8,
+        _flicks: &Flicks,
+        steps: u32,
+        _newest: Access,
+        _overlapped: u32,
+    ) {
         self.events = self.events.saturating_add(u64::from(steps));
     }
 
@@ -267,7 +276,14 @@ impl<'a, L: ProgressObserver> RunObserver for SweepObserver<'a, L> {
         Ok(())
     }
 
-    fn pass(&mut self, _process: u8, _steps: u32, _newest: Move, _overlapped: u32) {}
+    fn pass(
+        &mut self,
+        _process: u8,
+        _flicks: &Flicks,
+        _steps: u32,
+        _newest: Access,
+        _overlapped: u32,
+    ) {}
 
     ghost room_less = { λ a n k. can_sweep_less a.calls.now a.sweeper n k };
 

@@ -11,9 +11,9 @@ ghost use Rattle.calls.specs.Tables.{fewer};
 
 use crate::observed_run::ObservedRun;
 use calls::scenario::Fault;
-use calls::scenario_run::{Accepted, RunObserver, TurnReport, UnmarkedStep};
+use calls::scenario_run::{Accepted, Flicks, RunObserver, TurnReport, UnmarkedStep};
 use calls::world::Core;
-use model::{Access, Act, Entry, Move};
+use model::{Access, Act, Entry};
 use plain_store::{NestedTypes, Setup};
 use smallvec::SmallVec;
 use std::alloc::{AllocError, Global};
@@ -197,7 +197,14 @@ impl RunObserver for StateObserver {
     }
 
     #[inline(always)]
-    fn pass(&mut self, process: u8, steps: u32, _newest: Move, _overlapped: u32) {
+    fn pass(
+        &mut self,
+        process: u8,
+        _flicks: &Flicks,
+        steps: u32,
+        _newest: Access,
+        _overlapped: u32,
+    ) {
         self.observed_run.pass(steps);
         self.process = process;
     }

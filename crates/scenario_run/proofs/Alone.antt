@@ -1,14 +1,17 @@
 -- One process makes the Steps of a line: `step`, and `go` while the process is not at its target.
 use Rattle.std.proofs.Common.{◌≡◌, ℕ, zero, suc, ◌+◌, ◌-◌, ◌<◌, ◌≤◌, arith, Bool, true, false, cond, List, [], ◌∷◌, IfOk, IfSome, Option, None, Some, Result, Ok, Err, is_none, refl, ap, sym, subst, ◌∙◌, add-one, inl, inr}
 use Rattle.plain_store.specs.{Setup}
-use Rattle.model.specs.{Access, Mark}
+use Rattle.model.specs.{Access, AreGiven, Mark}
 use Rattle.model.specs.declared.events.Event.TheVariants.{Step}
 use Rattle.scenario.specs.{Line}
 use Rattle.scenario.specs.declared.lines.Line.TheVariants as line
 use Rattle.scenario.specs.files.{Fault}
 use Rattle.world.specs.choices.{FlickState, after_flick, flick_of}
+use Rattle.world.specs.{remaining_in}
 use Rattle.world.specs.Shows.{Shows, WorldState}
 use Rattle.world.specs.Walks.{StepsQuietly, Walks}
+use Rattle.auditor.specs.{steps_on}
+use Rattle.auditor.proofs.Stretches.{walks-flicks}
 use Rattle.scenario_run.specs.{AddsMarks, ComesAlong, ComesOn, ComesTo, ScenarioRunState, Follows, Happening, ObservesStep, IsAlone, IsNewest, IsQuiet, MakesStep, PassBy, PassWithin, PassesAlone, QuietTurns, Run, RunsTo, StepsWithin, StopsBy, ReportsOf, ReportsStep, TurnReport, Tries, Turn, scenario_run, entry_made, is_there, remaining_after, made_turn, may_step, next_step, overlapped_in, past_after, past_in, step_turn, stepped, tried, turn_of}
 use Rattle.scenario_run.specs.declared.reports.TurnReport.TheVariants as reported
 use Rattle.scenario_run.proofs.ScenarioRunTurns.{turn_next}
@@ -73,7 +76,7 @@ module _ (w w' : WorldState) (l : Line) (remaining p floor : ℕ) (run : Run) (f
       (record { shows = follows.shows; by = by; turn = alone_turn w.setup l remaining p floor run more next ∙ step_turn_reported w.setup p (remaining - 1) run answer reports ∙ ap (λ n. made_turn p n run) (sym fewer) }) t (after ∙ ap after_flick follows.flicks)
 
 -- the Steps that a world makes in a row without a mark
-record Walked (s : Setup) (l : Line) (remaining p floor n : ℕ) (newest : Access) (overlapped : ℕ) (run : Run) (w' : WorldState) (flicks' : FlickState) : Type 0 where
+record Walked (s : Setup) (l : Line) (remaining p floor n : ℕ) (newest : Access) (overlapped : ℕ) (run : Run) (flicks : FlickState) (w' : WorldState) (flicks' : FlickState) : Type 0 where
   now : Run
   turns : QuietTurns s l n remaining run (remaining - n) now
   follows : Follows (scenario_run w' flicks' (remaining - n)) now
@@ -82,8 +85,9 @@ record Walked (s : Setup) (l : Line) (remaining p floor n : ℕ) (newest : Acces
   within : PassWithin s p n run.happened now.happened
   newest_is : 0 < n → IsNewest s p newest now.happened
   overlapped_are : overlapped ≡ overlapped_in n (past_after s now.happened)
+  tried_are : tried now.happened ≡ steps_on p flicks n (tried run.happened)
 
-walked : (n : ℕ) (newest : Access) (overlapped : ℕ) (w w' : WorldState) (flicks flicks' : FlickState) (l : Line) (remaining p floor : ℕ) (run : Run) → n + floor ≤ remaining → Walks w flicks p n newest overlapped w' flicks' → Follows (scenario_run w flicks remaining) run → IsAlone p floor w.setup l run → Walked w.setup l remaining p floor n newest overlapped run w' flicks'
+walked : (n : ℕ) (newest : Access) (overlapped : ℕ) (w w' : WorldState) (flicks flicks' : FlickState) (l : Line) (remaining p floor : ℕ) (run : Run) → n + floor ≤ remaining → Walks w flicks p n newest overlapped w' flicks' → Follows (scenario_run w flicks remaining) run → IsAlone p floor w.setup l run → Walked w.setup l remaining p floor n newest overlapped run flicks w' flicks'
 walked zero newest overlapped w w' flicks flicks' l remaining p floor run few (same, same_flicks, nobody) follows next =
     let all : remaining - 0 ≡ remaining = omega arith in
     record {
@@ -95,10 +99,11 @@ walked zero newest overlapped w w' flicks flicks' l remaining p floor run few (s
       within = refl;
       newest_is = λ some. absurd (omega (arith, some));
       overlapped_are = nobody;
+      tried_are = refl;
     }
 walked (suc n) newest overlapped w w' flicks flicks' l remaining p floor run few (w1, flicks1, access, count, walks, last, made, after, counts) follows next =
     let s : Setup = w.setup in
-    let b : Walked s l remaining p floor n access count run w1 flicks1 = walked n access count w w1 flicks flicks1 l remaining p floor run (omega (arith, few)) walks follows next in
+    let b : Walked s l remaining p floor n access count run flicks w1 flicks1 = walked n access count w w1 flicks flicks1 l remaining p floor run (omega (arith, few)) walks follows next in
     let step : StepsWithin s b.now.happened p (flick_of flicks1) = subst (λ (s : Setup). StepsWithin s b.now.happened p (flick_of flicks1)) b.setup (steps_within w1 w' p (flick_of flicks1) newest last b.now.happened made b.follows.shows) in
     let is : flick_of flicks1 ≡ flick_of b.now.flicks = ap flick_of b.follows.flicks in
     let adds : AddsMarks s (past_in s b.now) (next_step p b.now) [] = subst (λ (s : Setup). AddsMarks s (past_in s b.now) (next_step p b.now) []) b.setup (quiet_adds w1 w' p (flick_of flicks1) b.now b.now.flicks made.steps b.follows.shows is) in
@@ -119,14 +124,23 @@ walked (suc n) newest overlapped w w' flicks flicks' l remaining p floor run few
           (subst (λ f. count + cond last 1 0 ≡ overlapped_in (suc n) (past_after w1.setup (Tries (Step p f) ∷ happened))) is
           (overlapped_more w1 w' p (flick_of flicks1) newest last n count happened made b.follows.shows (subst (λ (s : Setup). count ≡ overlapped_in n (past_after s happened)) (sym b.setup) b.overlapped_are)));
       within = subst (λ b. PassWithin s p (suc n) run.happened (Tries (Step p b) ∷ happened)) is (passes_then s p n run.happened happened b.within (flick_of flicks1) step);
+      tried_are = λ i. Step p (flick_of ((sym b.follows.flicks ∙ walks-flicks n access count w w1 flicks flicks1 p walks) i)) ∷ b.tried_are i;
     }
 
 -- the observer is passed these Steps in one call
-pub alone_pass : {L : Type 0} (Observes : L → Setup → List Happening → List Happening → L → Type 0) (n : ℕ) (w w' : WorldState) (flicks flicks' : FlickState) (newest : Access) (overlapped : ℕ) (l : Line) (remaining p floor : ℕ) (run : Run) (was is : L) → n + floor ≤ remaining → 0 < n → Walks w flicks p n newest overlapped w' flicks' →
-    ((s : Setup) (before after : List Happening) → PassBy s p n newest overlapped before after → Observes was s before after is) → Follows (scenario_run w flicks remaining) run → IsAlone p floor w.setup l run → ComesOn Observes w.setup l remaining run was is (scenario_run w' flicks' (remaining - n)) (IsAlone p floor)
-alone_pass Observes n w w' flicks flicks' newest overlapped l remaining p floor run was is few some walks pass follows next =
+pub alone_pass : {L : Type 0} (Observes : L → Setup → List Happening → List Happening → L → Type 0) (n : ℕ) (w w' : WorldState) (flicks flicks' : FlickState) (newest : Access) (overlapped : ℕ) (l : Line) (remaining p floor : ℕ) (run : Run) (was is : L) → n + floor ≤ remaining → 0 < n → n ≤ remaining_in w.seats p → Walks w flicks p n newest overlapped w' flicks' →
+    ((s : Setup) (before after : List Happening) → PassBy s p flicks n newest overlapped before after → Observes was s before after is) → Follows (scenario_run w flicks remaining) run → IsAlone p floor w.setup l run → ComesOn Observes w.setup l remaining run was is (scenario_run w' flicks' (remaining - n)) (IsAlone p floor)
+alone_pass Observes n w w' flicks flicks' newest overlapped l remaining p floor run was is few some left walks pass follows next =
     let b = walked n newest overlapped w w' flicks flicks' l remaining p floor run few walks follows next in
-    record { quiet = n; now = b.now; turns = b.turns; observes = pass w.setup run.happened b.now.happened (record { within = b.within; newest_is = b.newest_is some; overlapped_are = b.overlapped_are }); follows = b.follows; setup = b.setup; next = b.next }
+    let by : PassBy w.setup p flicks n newest overlapped run.happened b.now.happened = record {
+      given = subst (λ (s : Setup). AreGiven s (tried b.now.happened)) b.setup b.follows.shows.given;
+      remaining = subst (λ (w : WorldState). n ≤ remaining_in w.seats p) follows.shows.shown left;
+      tried_are = b.tried_are;
+      within = b.within;
+      newest_is = b.newest_is some;
+      overlapped_are = b.overlapped_are;
+    } in
+    record { quiet = n; now = b.now; turns = b.turns; observes = pass w.setup run.happened b.now.happened by; follows = b.follows; setup = b.setup; next = b.next }
 
 -- A turn: the observer is passed some Steps in one call, and then one Step is made.
 module _ {L : Type 0} (Observes : L → Setup → List Happening → List Happening → L → Type 0) (observes_on : (a b c : L) (s : Setup) (x y z : List Happening) → Observes a s x y b → Observes b s y z c → Observes a s x z c) (s : Setup) (l : Line) (had p floor : ℕ) (run : Run) (was mid now is : L) (first : ScenarioRunState) (w w' : WorldState) (flicks flicks' : FlickState) (remaining : ℕ)

@@ -1,10 +1,12 @@
 -- Steps within a register access, as an observer observes them.
-use Rattle.std.proofs.Common.{◌≡◌, ◌∙◌, ℕ, zero, suc, ◌+◌, ◌<◌, Bool, cond, List, [], ◌∷◌, Option, None, Some, ap, refl, subst, sym, arith}
+use Rattle.std.proofs.Common.{◌≡◌, ◌∙◌, ℕ, zero, suc, ◌+◌, ◌<◌, ◌≤◌, Bool, cond, List, [], ◌∷◌, Option, None, Some, ap, refl, subst, sym, arith}
 use Rattle.plain_store.specs.{Setup}
 use Rattle.model.specs.{Access, AreGiven, Entry, Past, entry_of}
 use Rattle.model.specs.declared.events.Event.TheVariants.{Step}
+use Rattle.world.specs.choices.{FlickState, flick_of}
 use Rattle.world.specs.laws.{doing}
 use Rattle.world.specs.process.{remaining_at, number_read, process_after}
+use Rattle.world.specs.{remaining_in}
 use Rattle.world.specs.Shows.{Shows, WorldState}
 use Rattle.world.specs.Walks.{MakesQuietly, StepsQuietly, ReportsOverlapped}
 use Rattle.world.proofs.WorldWithin.{remaining-shown}
@@ -22,6 +24,13 @@ steps_within w w' p flick access last before made shows = record {
 pub passes_then : (s : Setup) (p n : ℕ) (x y : List Happening) → PassWithin s p n x y → (flick : Bool) → StepsWithin s y p flick → PassWithin s p (suc n) x (Tries (Step p flick) ∷ y)
 passes_then s p zero x y same flick step = (flick, subst (λ l. StepsWithin s l p flick) same step, ap (λ l. Tries (Step p flick) ∷ l) same)
 passes_then s p (suc n) x y (f, w, more) flick step = (f, w, passes_then s p n (Tries (Step p f) ∷ x) y more flick step)
+
+-- the last of them
+pub last_step : (s : Setup) (p n : ℕ) (x y : List Happening) → PassWithin s p (suc n) x y → (mid : List Happening) × (flick : Bool) × PassWithin s p n x mid × StepsWithin s mid p flick × (y ≡ Tries (Step p flick) ∷ mid)
+last_step s p zero x y (flick, w, same) = (x, flick, refl, w, same)
+last_step s p (suc n) x y (flick, w, more) =
+    let (mid, last, part, step, is) = last_step s p n (Tries (Step p flick) ∷ x) y more in
+    (mid, last, (flick, w, part), step, is)
 
 -- none of them has a mark
 pub within_quietly : (s : Setup) (p n : ℕ) (x y : List Happening) → PassWithin s p n x y → PassQuietly s n x y
@@ -69,10 +78,13 @@ module _ {L : Type 0} (R : L → Setup → List Happening → List Happening →
   }
 
   -- a Step within a register access is passed as a group of one
-  pub within_passed : (overlapped : ℕ) → overlapped ≡ cond last 1 0 → ObservesPassing R p 1 access.how overlapped was is → ObservesStep R w p flick w' was is
-  within_passed overlapped one passed = record {
+  pub within_passed : (f : FlickState) → flick ≡ flick_of f → (overlapped : ℕ) → overlapped ≡ cond last 1 0 → ObservesPassing R p f 1 access overlapped was is → ObservesStep R w p flick w' was is
+  within_passed f by overlapped one passed = record {
     step = made.steps;
-    observes = λ before shows. passed w.setup before (Tries (Step p flick) ∷ before) access refl (record {
+    observes = λ before shows. passed w.setup before (Tries (Step p flick) ∷ before) (record {
+      given = subst (λ (s : Setup). AreGiven s (Step p flick ∷ tried before)) made.steps.setup (made.steps.shows (tried before) shows).given;
+      remaining = subst (λ (w : WorldState). 1 ≤ remaining_in w.seats p) shows.shown (let some = made.within in omega (arith, some));
+      tried_are = λ i. Step p (by i) ∷ tried before;
       within = (flick, steps_within w w' p flick access last before made shows, refl);
       newest_is = newest_made w w' p flick access last before made shows;
       overlapped_are = one ∙ (let alone : cond last 1 0 ≡ 0 + cond last 1 0 = omega arith in alone) ∙ overlapped_more w w' p flick access last 0 0 before made shows refl;

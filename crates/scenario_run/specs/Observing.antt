@@ -1,16 +1,17 @@
 -- Observers of a run: the reports that they receive, and what they have observed once a line has made its turns.
-use Rattle.std.specs.Prelude.{◌≡◌, ◌⊎◌, ◌+◌, ◌<◌, ℕ, zero, suc, Bool, if◌then◌else◌, List, [], ◌∷◌, Option, None, Some, Ok}
+use Rattle.std.specs.Prelude.{◌≡◌, ◌⊎◌, ◌+◌, ◌<◌, ◌≤◌, ℕ, zero, suc, Bool, if◌then◌else◌, List, [], ◌∷◌, Option, None, Some, Ok}
 use Rattle.plain_store.specs.{Setup, checked}
 use Rattle.model.specs.{Access, AreGiven, Event, Past, entry_of, moves_of, past_of}
 use Rattle.model.specs.declared.events.Event.TheVariants.{Step}
-use Rattle.model.specs.safe_bit.{Move}
 use Rattle.scenario.specs.{Line}
 use Rattle.scenario.specs.files.{Fault}
 use Rattle.world.specs.laws.{doing}
 use Rattle.world.specs.process.{remaining_at, number_read, process_after}
-use Rattle.world.specs.{GoesOn}
-use Rattle.world.specs.Shows.{Shows, WorldState}
+use Rattle.world.specs.choices.{FlickState}
+use Rattle.world.specs.{GoesOn, remaining_in}
+use Rattle.world.specs.Shows.{Shows, WorldState, world_of}
 use Rattle.world.specs.Walks.{StepsQuietly, ends_overlapped, ends_overlapped_read}
+use Rattle.auditor.specs.{steps_on}
 use Rattle.scenario_run.specs.ScenarioRuns.{ScenarioRunState, Follows, IsQuiet, QuietTurns}
 use Rattle.scenario_run.specs.Happenings.{Happening, Tries, past_after, tried}
 use Rattle.scenario_run.specs.Runs.{Run, past_in, run_after, runs}
@@ -62,8 +63,11 @@ overlapped_in zero past = 0
 overlapped_in (suc n) [] = 0
 overlapped_in (suc n) (e ∷ past) = overlapped_in n past + (if ends_overlapped_read past e then 1 else 0)
 
--- `steps` such Steps are made; the newest makes the access `newest`, and `overlapped` of them end a read that a write overlapped
-pub record PassBy (s : Setup) (p steps : ℕ) (newest : Access) (overlapped : ℕ) (before after : List Happening) : Type 0 where
+-- `steps` such Steps are made, each by the next flick of f; the newest makes the access `newest`, and `overlapped` of them end a read that a write overlapped
+pub record PassBy (s : Setup) (p : ℕ) (f : FlickState) (steps : ℕ) (newest : Access) (overlapped : ℕ) (before after : List Happening) : Type 0 where
+  pub given : AreGiven s (tried after)
+  pub remaining : steps ≤ remaining_in (world_of s (past_after s before)).seats p
+  pub tried_are : tried after ≡ steps_on p f steps (tried before)
   pub within : PassWithin s p steps before after
   pub newest_is : IsNewest s p newest after
   pub overlapped_are : overlapped ≡ overlapped_in steps (past_after s after)
@@ -81,9 +85,9 @@ ObservesReported Observes reported was is = (s : Setup) (before : List Happening
 abbrev pub ObservesUnmarked : {L : Type 0} → (L → Setup → List Happening → List Happening → L → Type 0) → UnmarkedStep → L → L → Type 0
 ObservesUnmarked Observes made was is = (s : Setup) (before : List Happening) → StepsOn s before made → Observes was s before (Tries (Step made.process made.flick) ∷ before) is
 
--- the observer observes `steps` Steps of p within a register access: the move of the newest, and how many end a read that a write overlapped
-abbrev pub ObservesPassing : {L : Type 0} → (L → Setup → List Happening → List Happening → L → Type 0) → ℕ → ℕ → Move → ℕ → L → L → Type 0
-ObservesPassing Observes p steps how overlapped was is = (s : Setup) (before after : List Happening) (newest : Access) → newest.how ≡ how → PassBy s p steps newest overlapped before after → Observes was s before after is
+-- the observer observes `steps` Steps of p within a register access: their flicks, the newest access, and how many end a read that a write overlapped
+abbrev pub ObservesPassing : {L : Type 0} → (L → Setup → List Happening → List Happening → L → Type 0) → ℕ → FlickState → ℕ → Access → ℕ → L → L → Type 0
+ObservesPassing Observes p f steps newest overlapped was is = (s : Setup) (before after : List Happening) → PassBy s p f steps newest overlapped before after → Observes was s before after is
 
 -- an observer that stops by this fault has observed a prefix of what it would have observed
 abbrev pub StopsBy : {L : Type 0} → (L → Setup → List Happening → List Happening → Fault → L → Type 0) → Fault → L → Setup → List Happening → List Happening → L → Type 0

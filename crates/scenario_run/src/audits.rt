@@ -1,5 +1,5 @@
-//! An observer, together with an auditor that observes each entry.
-ghost use Rattle.std.specs.Prelude.{◌≡◌, ◌↔◌, [], ◌∷◌, List, IfOk, IsTrue, None, Ok, Some, true};
+//! An observer, together with an auditor that observes the same run.
+ghost use Rattle.std.specs.Prelude.{◌≡◌, ◌<◌, ◌↔◌, ℕ, [], ◌∷◌, List, IfOk, IsTrue, None, Ok, Some};
 ghost use Rattle.plain_store.specs.{checked};
 ghost use Rattle.plain_store.specs.declared.setups.Setup.{Setup as Given};
 ghost use Rattle.model.specs.{Entry as Noted, Past};
@@ -7,15 +7,16 @@ ghost use Rattle.auditor.specs.{KeepsAll};
 ghost use Rattle.auditor.specs.safe_monitor.declared.verdicts.Verdict.TheVariants.{Good};
 ghost use Rattle.scenario_run.specs.Happenings.{Happening, past_after};
 ghost use Rattle.scenario_run.specs.Judging.{Audits};
-ghost use Rattle.scenario_run.specs.Observing.{Happens};
+ghost use Rattle.scenario_run.specs.Observing.{Happens, PassBy};
 
 use crate::reports::{TurnReport, UnmarkedStep};
 use crate::run_observers::RunObserver;
 use auditor::{Auditor, Law, Verdict};
-use model::{Access, Mark, Move};
+use model::{Access, Mark};
 use plain_store::{NestedTypes, Setup};
 use scenario::Fault;
 use std::alloc::{AllocError, Global};
+use world::Flicks;
 
 /// The audit of the entries of a run.
 #[derive(Drop)]
@@ -83,6 +84,29 @@ impl RunAudit {
         self.note(law);
     }
 
+    /// Observes a stretch, unless an entry before has broken a law: `steps` unmarked accesses of a process within one
+    /// register access, each by the next of `flicks`. The auditor makes all of them on its own core, and compares the last
+    /// with `newest`. The contract states what observing each entry by itself leads to.
+    #[inline]
+    fn observe_run(&mut self, process: u8, flicks: &Flicks, steps: u32, newest: Access)
+        requires nonzero { 0 < steps }
+        ensures { (s : Given) (overlapped : ℕ) (before after : List Happening) →
+            PassBy s process flicks.now steps newest overlapped before after →
+            Audits s (past_after s before) self.old → Audits s (past_after s after) self.new }
+    {
+        if steps == 1 {
+            // If several processes take turns, nearly each stretch is one access. `observe` takes fewer instructions for it.
+            self.observe(process, &Some(newest), &[]);
+            return;
+        }
+        if !self.is_good() {
+            return;
+        }
+        let law = self.auditor.observe_run(process, flicks, steps, newest);
+        self.entries = self.entries.saturating_add(u64::from(steps - 1));
+        self.note(law);
+    }
+
     /// Returns whether no entry has broken a law.
     #[inline]
     fn is_good(&self) -> bool
@@ -104,7 +128,8 @@ impl RunAudit {
     }
 }
 
-/// An observer, and the audit of what it observes.
+/// An observer, and the audit of what it observes. Steps within a register access are audited as one stretch, unless the
+/// observer observes each Step.
 #[derive(Drop)]
 pub struct WithAudit<L: RunObserver + Drop> {
     pub observer: L,
@@ -112,11 +137,11 @@ pub struct WithAudit<L: RunObserver + Drop> {
 }
 
 impl<L: RunObserver + Drop> RunObserver for WithAudit<L> {
-    ghost observes_steps = { λ _. true };
+    ghost observes_steps = { λ judged. L.observes_steps judged.observer };
 
     #[inline(always)]
     fn observes_steps(&self) -> bool {
-        true
+        self.observer.observes_steps()
     }
 
     fn event_count(&self) -> u64 {
@@ -140,8 +165,11 @@ impl<L: RunObserver + Drop> RunObserver for WithAudit<L> {
         self.observer.step(made)
     }
 
-    fn pass(&mut self, process: u8, steps: u32, newest: Move, overlapped: u32) {
-        self.observer.pass(process, steps, newest, overlapped);
+    #[inline(always)]
+    fn pass(&mut self, process: u8, flicks: &Flicks, steps: u32, newest: Access, overlapped: u32) {
+        self.audit.observe_run(process, flicks, steps, newest);
+        self.observer
+            .pass(process, flicks, steps, newest, overlapped);
     }
 
     ghost room_less = { λ a n k. L.room_less a.observer n k };

@@ -15,7 +15,7 @@ mod summaries;
 mod turns;
 
 pub use audits::{RunAudit, WithAudit};
-pub use model::{Access, Entry, Event, Mark, Move, Record, Refusal, Taken, refusal_line};
+pub use model::{Access, Entry, Event, Mark, Record, Refusal, Taken, refusal_line};
 pub use newest::newest_words;
 pub use play_limit::{LineMade, PlayLimit};
 pub use reports::{Accepted, TurnReport, UnmarkedStep};
@@ -23,4 +23,4 @@ pub use run_lines::ReplayLine;
 pub use run_observers::RunObserver;
 pub use summaries::Summary;
 pub use turns::ScenarioRun;
-pub use world::World;
+pub use world::{Flicks, World};

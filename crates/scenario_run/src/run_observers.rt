@@ -8,8 +8,9 @@ ghost use Rattle.scenario_run.specs.Happenings.{Happening, Tries};
 ghost use Rattle.scenario_run.specs.Observing.{ObservesPassing, ObservesReported, ObservesUnmarked, StopsBy, TakesRoom};
 
 use crate::reports::{TurnReport, UnmarkedStep};
-use model::Move;
+use model::Access;
 use scenario::Fault;
+use world::Flicks;
 
 /// An observer, which observes a run. Two relations describe what it has observed between two moments: the happenings of a
 /// run of a setup, from the first list of them to the second.
@@ -58,12 +59,13 @@ pub trait RunObserver {
             ObservesUnmarked (StopsBy Stops fault) made self.old self.new) };
 
     /// Observes `steps` Steps of this process in one call. They are within a register access of its call and have no mark.
-    /// The last of them made the move `newest`, and `overlapped` of them ended a read that a write overlapped.
-    fn pass(&mut self, process: u8, steps: u32, newest: Move, overlapped: u32)
+    /// Each was made by the next of `flicks`. The last of them made the access `newest`, and `overlapped` of them ended a
+    /// read that a write overlapped.
+    fn pass(&mut self, process: u8, flicks: &Flicks, steps: u32, newest: Access, overlapped: u32)
         requires nonzero { 0 < steps }
         requires room { HasRoom self.old steps }
-        ensures observed { observes_steps self.old ≡ false
-            → ObservesPassing Observes process steps newest overlapped self.old self.new }
+        ensures observed { observes_steps self.old ≡ false →
+            ObservesPassing Observes process flicks.now steps newest overlapped self.old self.new }
         ensures room { TakesRoom HasRoom self.old steps self.new };
 
     ghost room_less: { (a : Self) (n k : ℕ) → n ≤ k → HasRoom a k → HasRoom a n };

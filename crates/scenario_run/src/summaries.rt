@@ -5,8 +5,9 @@ ghost use Rattle.scenario_run.specs.Writing.{Counts};
 
 use crate::reports::{TurnReport, UnmarkedStep};
 use crate::run_observers::RunObserver;
-use model::Move;
+use model::Access;
 use scenario::{DONE, Ending, Fault};
+use world::Flicks;
 
 /// The three numbers that a replay ends with.
 #[derive(Clone, Copy)]
@@ -86,7 +87,14 @@ impl RunObserver for Summary {
     }
 
     #[tactic(auto, using(crate::proofs::Counting::counts_passed))]
-    fn pass(&mut self, _process: u8, steps: u32, _newest: Move, _overlapped: u32) {
+    fn pass(
+        &mut self,
+        _process: u8,
+        _flicks: &Flicks,
+        steps: u32,
+        _newest: Access,
+        _overlapped: u32,
+    ) {
         self.events += u64::from(steps);
     }
 

@@ -48,10 +48,11 @@ pub(super) fn pass_by<L: RunObserver>(
     if within == 0 {
         return;
     }
+    let before = flicks.twin();
     let made = world.run(process, flicks, within);
     *remaining -= within;
     *known = 1;
-    observer.pass(process, within, made.newest.how, made.overlapped);
+    observer.pass(process, &before, within, made.newest, made.overlapped);
 }
 
 /// Makes a turn's Step, by the next flick. Returns whether it is made within a register access, where it has no mark, and the
@@ -88,10 +89,11 @@ pub(super) fn turn_step<L: RunObserver>(
         *outcome = any_step(world, process, flicks.flick(), observer);
         return false;
     }
+    let before = flicks.twin();
     let flick = flicks.twin().flick();
     let made = world.run(process, flicks, 1);
     if !observer.observes_steps() {
-        observer.pass(process, 1, made.newest.how, made.overlapped);
+        observer.pass(process, &before, 1, made.newest, made.overlapped);
         return true;
     }
     let observed = observer.step(UnmarkedStep {

@@ -7,9 +7,9 @@ ghost use Rattle.draw.specs.Drawings.{observes};
 ghost use Rattle.draw.specs.RunDrawings.{DrawsLine, GoesOnDrawing, tally};
 
 use super::RunDrawing;
-use model::Move;
+use model::Access;
 use scenario::{Fault, Line, Sink};
-use scenario_run::{RunObserver, ScenarioRun, TurnReport, UnmarkedStep};
+use scenario_run::{Flicks, RunObserver, ScenarioRun, TurnReport, UnmarkedStep};
 
 /// Makes the turns of a line, and draws each turn before the next one is made.
 pub(super) fn draw_line<W: Sink>(
@@ -69,7 +69,14 @@ impl<'a, W: Sink> RunObserver for RunDrawer<'a, W> {
             .step(made.process, made.access, made.overlapped, self.output)
     }
 
-    fn pass(&mut self, _process: u8, steps: u32, _newest: Move, _overlapped: u32) {
+    fn pass(
+        &mut self,
+        _process: u8,
+        _flicks: &Flicks,
+        steps: u32,
+        _newest: Access,
+        _overlapped: u32,
+    ) {
         self.run.drawing.pass(steps);
     }
 

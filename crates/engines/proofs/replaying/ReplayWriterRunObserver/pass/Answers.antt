@@ -7,7 +7,7 @@ use Rattle.scenario_run.proofs.Within.{within_quietly}
 use Rattle.engines.proofs.replaying.ReplayWriterRunObserver.pass.Goals as goal
 
 pub returns-clause-observed : goal.returns-clause-observed
-returns-clause-observed g c = λ off s before after newest is passed.
+returns-clause-observed g c = λ off s before after passed.
     let passes = within_quietly s _ c.args.steps before after passed.within in
     let old = c.args.self.now in (
       refl,

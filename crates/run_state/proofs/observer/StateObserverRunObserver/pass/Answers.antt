@@ -6,7 +6,7 @@ use Rattle.run_state.proofs.Seeing.{newest_within, passes_of}
 use Rattle.run_state.proofs.observer.StateObserverRunObserver.pass.Goals as goal
 
 pub returns-clause-observed : goal.returns-clause-observed
-returns-clause-observed c = λ off s before after newest is passed seen.
+returns-clause-observed c = λ off s before after passed seen.
     let p = c.args.process in
     let n = c.args.steps in
     let most = seen.reported in

@@ -5,4 +5,4 @@ use Rattle.scenario_run.proofs.Within.{within_quietly}
 use Rattle.scenario_run.proofs.summaries.SummaryRunObserver.pass.Goals as goal
 
 pub returns-clause-observed : goal.returns-clause-observed
-returns-clause-observed c = λ off s before after newest is passed counts. subst (λ n. Counts s after (with_events n c.args.self.now)) (sym c.from.ensures) (counts_passed s c.args.steps before after c.args.self.now (within_quietly s _ c.args.steps before after passed.within) counts)
+returns-clause-observed c = λ off s before after passed counts. subst (λ n. Counts s after (with_events n c.args.self.now)) (sym c.from.ensures) (counts_passed s c.args.steps before after c.args.self.now (within_quietly s _ c.args.steps before after passed.within) counts)

@@ -30,5 +30,5 @@ returns-then-not-observes_steps-clause-observed g c =
     let r = c.run-made in
     let w = c.args.world.now in
     let one = walks-one w r.new.self c.args.flicks.now r.new.flicks c.args.process (flick_of c.args.flicks.now) r.result.newest r.result.overlapped refl r.ensures.runs in
-    rw c.requires.none (within_passed g.L.RunObserver.Observes w r.new.self c.args.process (flick_of c.args.flicks.now) r.result.newest _ c.args.observer.now c.pass.new.self one.0 r.result.overlapped one.1
+    rw c.requires.none (within_passed g.L.RunObserver.Observes w r.new.self c.args.process (flick_of c.args.flicks.now) r.result.newest _ c.args.observer.now c.pass.new.self one.0 c.twin-before.result (sym (ap flick_of c.twin-before.ensures)) r.result.overlapped one.1
     (c.pass.ensures.observed (sym c.observes_steps.ensures ∙ c.if-not-observes_steps.true)))

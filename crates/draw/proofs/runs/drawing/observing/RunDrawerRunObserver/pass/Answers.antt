@@ -5,7 +5,7 @@ use Rattle.draw.proofs.Turning.{run_passed}
 use Rattle.draw.proofs.runs.drawing.observing.RunDrawerRunObserver.pass.Goals as goal
 
 pub returns-clause-observed : goal.returns-clause-observed
-returns-clause-observed g c = λ none s before after newest is passed. (
+returns-clause-observed g c = λ none s before after passed. (
   refl,
   refl,
   ap (λ (d : Drawing). d.source) c.pass.ensures,
