@@ -2,10 +2,11 @@
 one byte, or takes no byte. In other runs a standard stream is closed or full, a file has reached its limit, the reader of a pipe
 goes away, the input never ends, or the file cannot be read or has a name that is not UTF-8.
 
-After a failed read the program must print `read fault` and nothing else. A read that takes no byte is the end of the file. After a
-failed write, or one that takes no byte, the program must report `write fault` and write no further output, and what it wrote before
-must be a prefix of the text. If standard error fails, the exit status and standard output must be unchanged. A call that takes one
-byte must change nothing. Every command except `judge` must stop reading at the greatest length of a file.
+After a failed read the program must print `read fault` and nothing else. A read that takes no byte is the end of the file, so the
+program must then write what it writes for the bytes that it has read. No page states how many bytes a read takes. After a failed
+write, or one that takes no byte, the program must report `write fault` and not write to standard output again, and what it wrote before
+must be a prefix of the text. If standard error fails, the exit status and standard output must be unchanged. A call that takes one byte
+must change nothing. Every command except `judge` must stop reading at the greatest length of a file.
 
 The library `tests/preload/interrupt.c` is loaded before the program and spoils one call of a run.
 """
@@ -82,9 +83,10 @@ def spoiled_calls(spoiler, command, text, most):
                 yield command, text, most, stream, call, how
 
 
-def is_as_it_must(ran, whole, cut, most, stream, call, how):
-    """Whether a run of which a call was spoiled ended as it must; `whole` is the run without that, `cut` the one on what was read
-    before a read that takes nothing."""
+def is_as_it_must(met, whole, cut, most, stream, call, how):
+    """Whether a run of which a call was spoiled ended as it must. `met` is that run with the numbers of its calls, `whole` the run
+    without that, and `cut` the run on the bytes that were read before a read that took no byte."""
+    ran, _, outputs, *_ = met
     if how == "one":
         return ran == whole
     if stream == READS:
@@ -92,7 +94,8 @@ def is_as_it_must(ran, whole, cut, most, stream, call, how):
     if stream == OUTPUT:
         written = len(ran.output)
         is_before = written < len(whole.output) and (written <= most * (call - 1) or most == 0 and call > 1)
-        return (ran.status, ran.errors) == WRITE_FAULT and whole.output.startswith(ran.output) and is_before
+        is_last = outputs == call
+        return (ran.status, ran.errors) == WRITE_FAULT and whole.output.startswith(ran.output) and is_before and is_last
     return (ran.status, ran.output) == (whole.status, whole.output) and whole.errors.startswith(ran.errors)
 
 
@@ -102,16 +105,22 @@ def plainly(command, text):
     return runner().run([*command.split(), "-"], text)
 
 
+def run_without(job, taken):
+    """The run on the bytes that were read, if a read that took no byte ended the file; otherwise the run on the whole text."""
+    command, text, _, stream, _, how = job
+    return plainly(command, text[:taken] if (stream, how) == (READS, "none") else text)
+
+
 def spoil(spoiler, job):
     """Spoils one call; what was done, and what is wrong, or None."""
     command, text, most, stream, call, how = job
-    whole = plainly(command, text)
-    cut = plainly(command, text[: most * (call - 1)] if most else b"" if call == 1 else text)
-    ran, *_ = spoiler.run([*command.split(), "-"], text, MOST=most, STREAM=stream, CALL=call, HOW=how)
+    met = spoiler.run([*command.split(), "-"], text, MOST=most, STREAM=stream, CALL=call, HOW=how)
+    ran, *_, taken = met
+    whole, cut = plainly(command, text), run_without(job, taken)
     what = f"each {STREAMS[stream]} in turn {HOWS[how]}"
-    if is_as_it_must(ran, whole, cut, most, stream, call, how):
+    if is_as_it_must(met, whole, cut, most, stream, call, how):
         return what, f"`{command}`", None
-    return what, f"`{command}`", f"call {call} of at most {most} bytes: {ran}, without it {whole}, on a cut file {cut}"
+    return what, f"`{command}`", f"call {call} of at most {most} bytes: {ran}, without it {whole}, on the first {taken} bytes {cut}"
 
 
 def call_jobs(spoiler, examples):
