@@ -7,7 +7,7 @@ soak.py --only KIND:NUMBER [--program PATH]
 Each file is a function of its kind and its number. The kinds have fixed shares of the time:
 
   scenario       runs of scenarios: plain, replay, record, audit, calls, state
-  long-scenario  scenarios of 5,000 to 100,000 events: replay, record, audit
+  long-scenario  scenarios of 2,500 to 100,000 events: replay, record, audit
   sweep          short scenarios: sweep
   bits           bits files: bits
   own-record     records of this lock, most of them with changed entries: judge with each option, calls, state
@@ -26,6 +26,9 @@ or by kill, and continues where it was: FOLDER, by default tests/byhand/soak/, h
 `--first N` begins each kind at this number. With another program the totals begin anew, and the numbers continue. A file for
 which the program differs is made shorter line by line, and kept in FOLDER/differences with both outputs. `--only` plays one
 number and prints what differs; how threads meet is not drawn, so a race may go otherwise.
+
+With `cc` and a proved program, each worker has one process that loads the program and starts each run in a copy of itself
+(tests/preload/start.c). Runs with failures, long runs and races are new processes.
 
 The totals are printed at the end and every ten minutes. The exit status is 1 if something has differed. The kinds `long`,
 `refused` and `streams` need `cc`. With a program that is built without proof, `long` and `refused` are left out.
@@ -79,7 +82,8 @@ def main():
     words = words_of()
     # (the modules below take the program's path from `places` when they are loaded)
     places.PROGRAM = words.program
-    from lib import soak_state, soaking
+    from lib import running, soak_state, soaking
+    from lib.drawn_plays import starting_library
 
     with tempfile.TemporaryDirectory() as folder:
         plays = soaking.Plays(pathlib.Path(folder), words.kinds)
@@ -93,6 +97,9 @@ def main():
             sys.exit(f"the kinds are {', '.join(known)}")
         for kind, why in plays.left_out.items():
             print(f"{kind} is left out: {why}", flush=True)
+        running.LIBRARY, why = starting_library(pathlib.Path(folder))
+        if why:
+            print(f"each run starts the program anew: {why}", flush=True)
         words.dir.mkdir(parents=True, exist_ok=True)
         state = soak_state.read_state(words.dir, words.program)
         if words.first is not None:

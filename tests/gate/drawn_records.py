@@ -14,6 +14,7 @@ drawn_verdicts.py reads it; and the status is that of `judge`. A record with a f
 `draw`, `draw-svg` and `judge`, of which the page alone may have begun.
 """
 
+import functools
 import pathlib
 import re
 import sys
@@ -42,14 +43,16 @@ BY_LINE = re.compile(r' data-l="\d+"')
 END = re.compile(r"(end events \d+ taken \d+ refused )\d+")
 # the most entries of a picture that shows accesses without being asked to, and of one that is drawn with all accesses here
 MOST_ENTRIES, MOST_DRAWN = 400, 2_000
+MOST_KEPT = 16
 # what asks for a verdict in a picture, and alone
 JUDGES = [(["--judge"], ["--why"]), (["--any-lock"], ["--any-lock", "--why"])]
 # what spoils a record: where a line is put, and that line
 SPOILS = [(0, b"bakery 3"), (1, b"slots 9999"), (-1, b"0 0.ticket.0"), (-1, b"x"), (-1, b"#" * 129), (-1, b"slots 2")]
 
 
+@functools.lru_cache(maxsize=MOST_KEPT)
 def run(file, command, *options):
-    """How a run ended: its status, what it wrote, and what it told."""
+    """How a run ended: its status, what it wrote, and what it told. Several things are read from each run, so the last ones are kept."""
     return tuple(runner().run([command, *options, "-"], file))
 
 

@@ -30,7 +30,7 @@ from lib.random_records import record
 from lib.random_traces import trace
 from second.drawn_windows import GREATEST, Window, story_of_record, story_of_run, story_of_trace
 from second.record_files import read_record
-from second.runs import texts_of
+from second.runs import Run, texts_of
 from second.scenario_files import Fault, read_scenario
 from second.trace_files import read_trace
 from window_faults import content_faults, drawn, frame_faults, mark_faults, page_faults, store_faults
@@ -56,12 +56,16 @@ class File(NamedTuple):
     story: Callable
 
 
+def run_of(text):
+    return Run(read_scenario(text))
+
+
 def of_run(read, told):
     return story_of_run(read)
 
 
 # how each kind of file is read, and its story
-KINDS = {"run": (read_scenario, of_run), "record": (read_record, story_of_record), "trace": (read_trace, story_of_trace)}
+KINDS = {"run": (run_of, of_run), "record": (read_record, story_of_record), "trace": (read_trace, story_of_trace)}
 
 
 def file_of(name, kind, text):

@@ -31,6 +31,7 @@ from lib.places import PROGRAM, TOP, WORKED
 from lib.random_scenarios import scenario
 from lib.running import runner, workers
 from second.calls import HEADER, Entries, calls_text, sums_of
+from second.runs import Run
 from second.scenario_files import Fault, read_scenario, told_lines
 from second.states import state_text
 
@@ -88,7 +89,7 @@ def compare_state(name, text, at):
         wanted = (replayed[0], b"", replayed[2])
         return (None if told == wanted else f"{name} at {at}: {told}, and replay has {wanted}"), collections.Counter()
     numbers = [number for number, words in told_lines(text) if words][-len(said.lines) :] if said.lines else []
-    wanted = (0, state_text(said, numbers, at), b"")
+    wanted = (0, state_text(Run(said), numbers, at), b"")
     if told != wanted:
         return f"{name} at {at}: {told}, and the second reading has {wanted}", collections.Counter()
     lines = told[1].decode().splitlines()

@@ -35,6 +35,8 @@ from lib.random_scenarios import scenario
 SHOWN = TOP / "docs" / "run.svg"
 SHOWN_RUN = TOP / "examples" / "torn-commit.bakery"
 SVG = "{http://www.w3.org/2000/svg}"
+TEXT = SVG + "text"
+MOVED, IDLE, BRACKET = map(re.compile, [r"translate\(0,(\d+)\)", r"M(\d+) \d+L(\d+) \d+", r"M(\d+) \d+V\d+H(\d+)V\d+"])
 # the size of a word by its class, in pixels
 SIZES = {
     **dict.fromkeys(["verb", "rest", "store", "saw", "of-what", "move", "cell"], 11),
@@ -48,6 +50,8 @@ STAGES = {
     **{"answer": "idle", "fail": "settling", "down": "down", "restart": "idle"},
 }
 LEFT = 52
+# the height of a row, in which words are compared
+ROW = 16
 # of the reads that end between two lines of the run, so many are shown
 MOST_SHOWN = 3
 # an entry of a record with an access: process, owner, field, bit, reader, move, value
@@ -194,9 +198,10 @@ def page_faults(page, run):
 
 def words_of(element, down):
     """The words of a picture: the box of each, and what it says."""
-    moved = re.fullmatch(r"translate\(0,(\d+)\)", element.get("transform", ""))
-    down += int(moved.group(1)) if moved else 0
-    if element.tag == SVG + "text":
+    moved = element.get("transform")
+    moved = moved and MOVED.fullmatch(moved)
+    down += int(moved[1]) if moved else 0
+    if element.tag == TEXT:
         style = element.get("class").split()[0]
         size = SIZES[style]
         width = len(element.text) * size * 0.603
@@ -209,13 +214,20 @@ def words_of(element, down):
 
 def word_faults(root):
     """Words that stand outside of a picture, or on another one."""
-    words = sorted(words_of(root, 0))
-    for place, (left, top, right, bottom, text) in enumerate(words):
-        if left < 0 or right > int(root.get("width")) or bottom > int(root.get("height")):
+    # of each row of a picture the words before a word that may reach up to it, from the left
+    rows, width, height = collections.defaultdict(list), int(root.get("width")), int(root.get("height"))
+    for word in sorted(words_of(root, 0)):
+        left, top, right, bottom, text = word
+        if left < 0 or right > width or bottom > height:
             yield f"{text} stands outside"
-        for other in itertools.takewhile(lambda word: word[0] < right, words[place + 1 :]):
+        before = {}
+        for row in range(int(top // ROW), int(bottom // ROW) + 1):
+            rows[row] = [other for other in rows[row] if other[2] > left]
+            before |= dict.fromkeys(rows[row])
+            rows[row].append(word)
+        for other in before:
             if other[1] < bottom - 0.5 and top < other[3] - 0.5:
-                yield f"{text} stands on {other[4]}"
+                yield f"{other[4]} stands on {text}"
 
 
 def title(mark):
@@ -233,10 +245,10 @@ def bars_of(band):
     lanes = []
     for shape in band:
         style = shape.get("class", "")
-        if shape.tag == SVG + "text" and style in ("lane", "thin"):
+        if shape.tag == TEXT and style in ("lane", "thin"):
             lanes.append([])
         elif style == "idle":
-            ends = re.fullmatch(r"M(\d+) \d+L(\d+) \d+", shape.get("d")).groups()
+            ends = IDLE.fullmatch(shape.get("d")).groups()
             lanes[-1].append((*map(int, ends), style))
         elif style in STAGES.values():
             lanes[-1].append((*width_of(shape), style))
@@ -290,7 +302,7 @@ def bracket_faults(bands):
     """What is wrong with the brackets of reads: each ends at the column of its read, and begins before it."""
     for band in bands:
         brackets = [shape.get("d") for shape in band if shape.get("class") == "open"]
-        ends = [re.fullmatch(r"M(\d+) \d+V\d+H(\d+)V\d+", bracket).groups() for bracket in brackets]
+        ends = [BRACKET.fullmatch(bracket).groups() for bracket in brackets]
         columns = [int(word.get("x")) - 3 for word in band.iter(SVG + "text") if word.get("class") == "saw"]
         if [int(end) for _, end in ends] != columns or any(int(begin) > int(end) for begin, end in ends):
             yield f"brackets {brackets} of reads at {columns}"

@@ -29,7 +29,8 @@ SLIDER = re.compile(r'<input id="at"[^>]* data-s="([^"]*)"')
 
 
 class Drawn(NamedTuple):
-    """A picture that is read: its bands, and the groups of each that are marks in a column; and the parts of its title and its legend."""
+    """A picture that is read: its bands, and the groups of each that are marks in a column; and what the elements of its title and its
+    legend say, each before its children."""
 
     root: tree.Element
     bands: list
@@ -42,7 +43,8 @@ def drawn(picture):
     bands = bands_in(root)
     marks = [[mark for mark in groups_of(band, "m") if not is_in_box(mark, band)] for band in bands]
     frame = [part for part in root if part.tag in (SVG + "title", SVG + "desc", SVG + "text")]
-    return Drawn(root, bands, marks, [*frame, *[part for part in root if part.get("transform")][-1]])
+    frame = [*frame, *[part for part in root if part.get("transform")][-1]]
+    return Drawn(root, bands, marks, [(it.tag, it.attrib, it.text, it.tail, len(it)) for part in frame for it in part.iter()])
 
 
 def groups_of(band, *styles):
@@ -233,15 +235,14 @@ def shape_of(mark):
 def mark_faults(picture, whole):
     """What is wrong with the marks of a window: they follow one another in the whole picture, where they show the same."""
     own, all_own = ([shape_of(mark) for marks in it.marks for mark in marks] for it in (picture, whole))
-    begins = [at for at in range(len(all_own) - len(own) + 1) if all_own[at : at + len(own)] == own]
-    if not begins:
+    if not any(all_own[at : at + len(own)] == own for at in range(len(all_own) - len(own) + 1)):
         other = next((shape for shape in own if shape not in all_own), own)
         yield f"the marks are not those of the whole picture: {other}"
 
 
 def frame_faults(picture, whole):
     """What is wrong with the title and the legend, which are those of the whole picture."""
-    if [tree.tostring(it) for it in picture.frame] != [tree.tostring(it) for it in whole.frame]:
+    if picture.frame != whole.frame:
         yield "the title or the legend is not that of the whole picture"
 
 

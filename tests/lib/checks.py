@@ -2,6 +2,7 @@
 file, so a file that fails it can be shortened.
 """
 
+import functools
 import traceback
 from typing import Callable, NamedTuple
 
@@ -114,18 +115,26 @@ def faults_told(faults):
 
 def file_of(kind, text):
     """The file to draw, or None if it is of another kind, has a fault or is too long."""
-    word = {"run": "bakery"}.get(kind, kind)
-    if kind_of(text) != word or kind == "run" and (events_of(text) or MOST_DRAWN + 1) > MOST_DRAWN:
+    if kind_of(text) != {"run": "bakery"}.get(kind, kind):
         return None
+    if kind == "run":
+        return drawn_windows.File("a run", kind, text, run_of(text)[1], drawn_windows.of_run) if events_of(text, MOST_DRAWN) else None
     return drawn_windows.file_of(f"a {kind}", kind, text)
+
+
+@functools.lru_cache(maxsize=1)
+def drawing_of(kind, text, options):
+    """The drawing of a file with some options, or None if the file is not drawn. Several windows of it are checked."""
+    file = file_of(kind, text)
+    return drawn_windows.Drawing(file, list(options)) if file else None
 
 
 def window_check(kind, options, window):
     """The check of a page and a picture of a part of a file, read back by parsers of HTML and of XML."""
 
     def differs(text):
-        file = file_of(kind, text)
-        return faults_told(drawn_windows.Drawing(file, options).faults(window)) if file else None
+        drawing = drawing_of(kind, text, tuple(options))
+        return faults_told(drawing.faults(window)) if drawing else None
 
     return Check(" ".join(["draw, draw-svg", *options, *window.options()]), 2, caught(differs))
 

@@ -18,11 +18,13 @@ from second.record_files import read_record
 from second.scenario_files import Fault, read_scenario
 from second.trace_files import read_trace
 
-# a scenario of more events is run by `plain` alone, and by the kind of long ones; `state` and records have fewer
-MOST_EVENTS, MOST_OF_STATE, MOST_OF_LONG = 5_000, 2_500, 100_000
+# a scenario of more events is run by `plain` alone, and by the kind of long ones
+MOST_EVENTS, MOST_OF_LONG = 2_500, 100_000
 MOST_OF_A_PICTURE = 1_500
 # the independent judge of any lock looks back from each entry, so it judges no record of more lines
 MOST_OF_ANY_LOCK = 600
+# one of so many records of this lock is longer
+LONGER = 4
 JUDGES = [("judge",), ("judge", "--why"), ("judge", "--any-lock"), ("judge", "--any-lock", "--why")]
 QUIET = 0.05
 
@@ -48,9 +50,7 @@ def scenario_checks(number, text):
     draws, events = random.Random(f"scenario {number}"), events_of(text, MOST_EVENTS)
     words = [("plain",)]
     if events is not None:
-        words += [("replay",), ("record",), ("audit",), ("calls",)]
-    if events is not None and events <= MOST_OF_STATE:
-        words.append(("state", "--at", random_place(draws, events)))
+        words += [("replay",), ("record",), ("audit",), ("calls",), ("state", "--at", random_place(draws, events))]
     return [chosen(draws, each) for each in words]
 
 
@@ -80,11 +80,9 @@ def bits_checks(number, text):
 
 
 def own_record(number):
-    """The record of a scenario's run, mostly with some entries changed; None if it is too long."""
+    """The record of a scenario's run or of its first events, mostly with some entries changed."""
     draws, text = random.Random(f"own record {number}"), scenario_file(number)
-    if events_of(text, MOST_OF_STATE) is None:
-        return None
-    lines = record_of(text, MOST_OF_STATE).decode().splitlines()
+    lines = record_of(text, MOST_EVENTS if number % LONGER == 0 else MOST_OF_ANY_LOCK)
     lines = changed(draws, lines) if draws.random() < 0.8 else lines
     return "".join(f"{line}\n" for line in lines).encode()
 
@@ -175,7 +173,7 @@ def spoiled_checks(number, text):
         words = [("bits",)]
     if not words:
         words = [("plain",), ("replay",), ("audit",), ("record",), ("calls",), ("state", "--at", random_place(draws, 100))]
-        words = words if events_of(text, MOST_OF_STATE) is not None else words[:1]
+        words = words if events_of(text, MOST_EVENTS) is not None else words[:1]
     checks = [chosen(draws, each) for each in [*words, (words[0][0], "--explain")]]
     for other in draws.sample(COMMANDS, 3):
         checks += other_check(other.split(), text)
@@ -186,16 +184,17 @@ def other_check(words, text):
     """The check of a command that may read files of another kind, unless it takes long."""
     if words[0] in ("sweep", "race", "draw", "draw-svg"):
         return [fault_check(*words)]
-    return [output_check(*words)] if not is_scenario(text) or events_of(text, MOST_OF_STATE) is not None else []
+    return [output_check(*words)] if not is_scenario(text) or events_of(text, MOST_EVENTS) is not None else []
 
 
-# Each kind: the bytes of the file of a number, or None if it has none, and its checks; and its share of the time.
+# Each kind: the bytes of the file of a number, or None if it has none, and its checks; and its share of the time. A bits file is checked
+# many times faster than any other, so a small share gives many of them.
 KINDS = {
     "scenario": (scenario_file, scenario_checks, 18),
     "long-scenario": (long_file, long_checks, 3),
     "sweep": (short_file, sweep_checks, 4),
-    "bits": (bits, bits_checks, 3),
-    "own-record": (own_record, record_checks, 12),
+    "bits": (bits, bits_checks, 1),
+    "own-record": (own_record, record_checks, 14),
     "record": (record, record_checks, 14),
     "trace": (trace, trace_checks, 10),
     "spoiled": (spoiled_file, spoiled_checks, 12),

@@ -12,9 +12,10 @@ from typing import NamedTuple
 from byhand import soak_boards, soak_races
 from hostile import failing_streams, long_runs, refused_memory
 from lib.drawn_files import JUDGES, KINDS
-from lib.places import PROGRAM, WORKLOADS
+from lib.places import PROGRAM, TOP, WORKLOADS
+from lib.preloading import built
 from lib.refusing import Refuser
-from lib.running import Ran
+from lib.running import Ran, Runner
 from lib.wanted import events_of, kind_of
 
 # a scenario of more events, or a file of more bytes, is not run with failures
@@ -151,6 +152,21 @@ def stream_fault(spoiler, whole, job):
 def counts_allocations(folder):
     """Whether a run of the program meets allocations that can fail. One that is built without proof does not."""
     return refuser_in(folder).run([PROGRAM, "--version"])[1].growths > 0
+
+
+def starting_library(folder):
+    """The library under which one process starts the program again and again, built in a folder; or None, and why it is not used."""
+    if not shutil.which("cc"):
+        return None, "`cc` is not installed"
+    if not counts_allocations(folder):
+        return None, "the program is built without proof, so that copying it takes longer"
+    library = built("start", folder)
+    files = [sorted((TOP / "examples").glob(name))[0].read_bytes() for name in ("*.bakery", "*.record")]
+    calls = [(["--version"], b""), *(([command, "-"], text) for command in ("plain", "judge") for text in files)]
+    plain, fast = Runner(), Runner(library=library)
+    is_good = all(plain.run(*call) == fast.run(*call) for call in calls)
+    fast.end_starter()
+    return (library, None) if is_good else (None, "the program ends otherwise under `tests/preload/start.c`")
 
 
 def plays(folder):

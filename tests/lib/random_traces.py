@@ -8,8 +8,8 @@ is a trace of one of these sorts in which a word is left out, doubled or exchang
 import random
 
 from lib.places import TOP
-from second.scenario_files import Fault
-from second.trace_files import read_trace
+from second.scenario_files import Fault, words_of
+from second.trace_files import Reader, read_trace
 from second.traces import Past, broken_law
 
 WIDTHS, NAMES = [1, 1, 1, 2, 3, 8, 32], ["flag", "turn", "next", "want", "q_1"]
@@ -95,11 +95,11 @@ def drawn(draws):
     """Returns the lines of a trace that is drawn entry by entry; all entries but the last few keep the laws."""
     head, left = any_head(draws), draws.randint(1, MOST_ENTRIES)
     spoiled = draws.choice([0, 1, 1, 2])
-    past, lines = Past(read_trace("\n".join(head).encode())), []
+    past, lines = Past(setup_of(head)), []
     for at in range(left):
         for _ in range(TRIES if at < left - spoiled else 1):
             line = any_entry(draws, past.trace, past)
-            entry = entry_of(head, line, len(past.entries))
+            entry = entry_of(past.trace, line, len(past.entries), len(head) + 1)
             if at >= left - spoiled or broken_law(past, entry) is None:
                 lines.append(line)
                 past.entries.append(entry)
@@ -107,10 +107,24 @@ def drawn(draws):
     return [*head, *lines]
 
 
-def entry_of(head, line, number):
-    """Returns the entry of a line below some headings, as the entry of this number."""
-    entry = read_trace("\n".join([*head, line]).encode()).entries[0]
-    return entry._replace(number=number, line=entry.line + number)
+def setup_of(head):
+    """Returns what the headings of a trace say, which have no fault."""
+    reader = Reader()
+    for at, line in enumerate(head[1:], 2):
+        take(reader, line, at)
+    return reader
+
+
+def entry_of(reader, line, number, first):
+    """Returns the entry of a line below some headings, as the entry of this number; the first entry is in the line `first`."""
+    take(reader, line, first + number)
+    return reader.entries.pop()._replace(number=number)
+
+
+def take(reader, line, at):
+    kind = reader.take(words_of(line.encode()), at)
+    if kind:
+        raise Fault(at, kind)
 
 
 def changed(draws):

@@ -1,6 +1,7 @@
 """Plays the kinds of a soak by workers, each for its share of the time, and keeps what differs."""
 
 import contextlib
+import gc
 import multiprocessing
 import queue
 import signal
@@ -23,6 +24,8 @@ SAVED_EACH, TOLD_EACH, WAITS = 5, 600, 0.5
 MOST_WAITED = 900
 # so many files that differ are made shorter by one part
 MOST_SHRUNK = 3
+# a worker looks for garbage after so many new objects
+MOST_NEW_OBJECTS = 100_000
 
 
 class Played(NamedTuple):
@@ -93,10 +96,13 @@ def play_part(part):
 
 
 def begin_worker():
-    """A worker ends when the soak ends it, and not by the Ctrl-C that its terminal sends to all."""
+    """A worker ends when the soak ends it, and not by the Ctrl-C that its terminal sends to all. It looks for garbage seldom, and not
+    among what it has from its parent."""
     signal.signal(signal.SIGINT, signal.SIG_IGN)
     signal.signal(signal.SIGTERM, signal.SIG_DFL)
     runner.cache_clear()
+    gc.freeze()
+    gc.set_threshold(MOST_NEW_OBJECTS)
 
 
 class Soak:

@@ -1,10 +1,12 @@
 """What each command must write for a file, by the independent implementations of second/.
 
 Some commands run whole scenarios. A scenario whose run has more than so many events raises `TooLong`, so that a caller chooses
-how long it waits. Pictures are not written a second time; `lib/picture_checks.py` reads them back.
+how long it waits. Several commands read each file, so this module keeps what the last files contain, and their runs. Pictures are not
+written a second time; `lib/checks.py` reads them back.
 """
 
 import functools
+from dataclasses import dataclass
 
 from lib.running import Ran
 from second.any_lock import any_lock
@@ -13,7 +15,7 @@ from second.engines import bits_text, plain_text
 from second.reasons import judge_record
 from second.recorded_calls import recorded_calls
 from second.recorded_states import recorded_state
-from second.runs import Run, whole
+from second.runs import Run, TooLong, whole
 from second.scenario_files import Fault, is_skipped, lines_of, read_bits, read_scenario, told_lines, words_of
 from second.states import state_text
 from second.sweeps import sweep
@@ -23,36 +25,43 @@ from second.traces import judge_trace
 
 # the most events of a scenario that is run
 MOST_EVENTS = 10_000
+# the number of files of which this module keeps what it has found
+KEPT = 4
 
 
-class TooLong(Exception):
-    """A run has more events than are wanted here."""
+@dataclass
+class Known:
+    """What is known of the run of a file: the run, if it was made to its end, and the greatest number of events for which it is too
+    long."""
+
+    run: Run | None = None
+    passed: int = -1
 
 
-class Bounded(Run):
-    """A run of at most so many events."""
-
-    def __init__(self, scenario, most):
-        self.most = most
-        super().__init__(scenario)
-
-    def add(self, process, access, marks):
-        if self.events == self.most:
-            raise TooLong
-        super().add(process, access, marks)
-
-
+@functools.lru_cache(maxsize=KEPT)
 def kind_of(text):
     """The first word of the first line that is not skipped, which decides what some commands read a file as."""
     said = (words for line in lines_of(text) if not is_skipped(words := words_of(line)))
     return next(said, [b""])[0].decode("latin1")
 
 
-@functools.lru_cache(maxsize=4)
+@functools.lru_cache(maxsize=KEPT)
+def known_of(_):
+    """What is known of the run of a file with this text. The caller adds what it finds out."""
+    return Known()
+
+
 def run_of(text, most=MOST_EVENTS):
-    """The scenario of a file, and its run."""
-    scenario = read_scenario(text)
-    return scenario, Bounded(scenario, most)
+    """The scenario of a file, and its run of at most so many events."""
+    scenario, known = read_scenario(text), known_of(text)
+    if known.run is None and known.passed < most:
+        try:
+            known.run = Run(scenario, most)
+        except TooLong:
+            known.passed = most
+    if known.run is None or known.run.events > most:
+        raise TooLong
+    return scenario, known.run
 
 
 def events_of(text, most=MOST_EVENTS):
@@ -65,16 +74,19 @@ def events_of(text, most=MOST_EVENTS):
         return 0
 
 
-def record_of(text, most=MOST_EVENTS):
-    """The record of a scenario's run."""
-    return whole(run_of(text, most)[1].record)
+def record_of(text, most):
+    """The lines of the record of a scenario's run, or of so many first events if it has more."""
+    try:
+        return Run(read_scenario(text), most).record
+    except TooLong as stopped:
+        return stopped.run.record
 
 
 def state_of_run(text, at):
     """What `state` writes of a scenario."""
-    scenario, _ = run_of(text)
+    scenario, run = run_of(text)
     numbers = [number for number, words in told_lines(text) if words]
-    return state_text(scenario, numbers[len(numbers) - len(scenario.lines) :], at)
+    return state_text(run, numbers[len(numbers) - len(scenario.lines) :], at)
 
 
 def of_scenario(command, options, text, most):
@@ -99,7 +111,7 @@ def place(options):
     return None if at == "end" else int(at)
 
 
-@functools.lru_cache(maxsize=4)
+@functools.lru_cache(maxsize=KEPT)
 def judged_with_reasons(kind, text):
     """What a judge writes of a file with `--why`: that of traces, that of any lock, or that of this lock."""
     return {"trace": judge_trace, "any lock": any_lock, "this lock": judge_record}[kind](text, why=True)

@@ -6,7 +6,6 @@ access is open from the entry that begins it up to the next access of its proces
 
 from second.any_lock import entry_from
 from second.drawn_accesses import MOST_WAVES, Change, Shown
-from second.looking_back import Past
 from second.programs import Setup
 
 STEPS = {"write": "begin", "end": "end", "read": "begin", "value": "end"}
@@ -18,11 +17,14 @@ class Bits:
     the bits that were written."""
 
     def __init__(self, setup, limit):
-        self.opens_at, self.limit = Past(setup).opens_at, limit
-        self.begun, self.written, self.writer, self.rows = {}, {}, {}, []
+        self.setup, self.limit = setup, limit
+        self.begun, self.written, self.writer, self.rows = {}, {}, {}, {}
+
+    def opens_at(self, bit):
+        return self.setup.opens(*bit[:3])
 
     def value(self, bit):
-        return self.written.get(bit, self.opens_at(bit))
+        return self.written[bit] if bit in self.written else self.opens_at(bit)
 
     def take(self, bit, process, words):
         """Makes a move, and returns the change of a wave, if it makes one."""
@@ -37,8 +39,8 @@ class Bits:
         if bit not in self.rows:
             if move == "end":
                 return None
-            self.rows.append(bit)
-        row = self.rows.index(bit)
+            self.rows[bit] = len(self.rows)
+        row = self.rows[bit]
         if self.limit is not None and row >= self.limit:
             return None
         return Change(row, old, self.value(bit), self.writer[bit] is not None)

@@ -4,11 +4,11 @@ docs/PICTURE.md explains what it computes. It shares no code with the program th
 A story is what a file contains, whether it is a run, a record or a trace; it ends with the last entry that is drawn.
 """
 
+import functools
 from typing import Callable, NamedTuple
 
 from second import drawn_accesses, drawn_record_accesses
 from second.programs import Setup
-from second.runs import Run
 from second.store import Call
 
 GREATEST = 2**64 - 1
@@ -186,34 +186,11 @@ def with_waves(story, window, limit):
 # The stories.
 
 
-class PlacedRun(Run):
-    """A run that notes after how many entries each line is that is not a mark."""
-
-    def __init__(self, scenario):
-        self.after = {}
-        super().__init__(scenario)
-
-    def note(self):
-        self.after[len(self.text)] = self.events
-
-    def refuse(self, process, why):
-        self.note()
-        super().refuse(process, why)
-
-    def show(self):
-        self.note()
-        super().show()
-
-    def go(self, process, goal):
-        before = len(self.text)
-        super().go(process, goal)
-        if self.text[before:] and self.text[-1].endswith(" turns"):
-            self.after[len(self.text) - 1] = self.events
-
-    def lines(self):
-        for place, text in enumerate(self.text[:-1]):
-            is_mark = place not in self.after
-            yield Line(int(text.split()[0]) if is_mark else self.after[place], text, is_mark)
+def lines_of_run(run):
+    """The lines of a run but the last one."""
+    for place, text in enumerate(run.text[:-1]):
+        is_mark = place not in run.after
+        yield Line(int(text.split()[0]) if is_mark else run.after[place], text, is_mark)
 
 
 def entry_parts(line):
@@ -249,7 +226,7 @@ def drawn_count(count, told):
 
 
 def accesses_of_record(head, lines):
-    return lambda: list(drawn_record_accesses.shown_accesses(head, lines, None))
+    return functools.cache(lambda: list(drawn_record_accesses.shown_accesses(head, lines, None)))
 
 
 def story_of_record(read, told=()):
@@ -262,13 +239,12 @@ def story_of_record(read, told=()):
     return Story(Setup(head).processes, len(lines), marks, list(told), end, accesses_of_record(head, lines), before, [*head, *lines])
 
 
-def story_of_run(scenario):
-    """The story of a run, of which the scenario is read."""
-    run = PlacedRun(scenario)
+def story_of_run(run):
+    """The story of a run."""
     lines = [line for line in run.record if line[0].isdigit()]
     head = run.record[: len(run.record) - len(lines)]
     before = lambda first: pairs_before(head, lines, first)
-    marks, end = list(run.lines()), run.text[-1]
+    marks, end = list(lines_of_run(run)), run.text[-1]
     return Story(Setup(head).processes, run.events, marks, [], end, accesses_of_record(head, lines), before, run.record, True)
 
 
@@ -277,6 +253,7 @@ def story_of_trace(read, told=()):
     entries = read.entries[: drawn_count(len(read.entries), told)]
     marks = [Line(entry.number, f"{entry.number} {entry.process} {mark}") for entry in entries for mark in entry.marks]
 
+    @functools.cache
     def accesses():
         return [access for access in drawn_accesses.shown_accesses(read, None) if access.event < len(entries)]
 

@@ -3,11 +3,18 @@
 It is written from what docs/MODEL.md and docs/RECORDS.md say, and shares nothing with the programs that it is held against.
 """
 
+import functools
 import re
 
-from second.programs import OpenCall, Setup, Steps, image_of, leaving, program, unit
+from second.programs import OpenCall, Setup, Steps, leaving, program, unit
 
 EVENTS = ("call", "fail", "withdraw", "restart")
+# the word and the value of each move
+MOVES = {f"{word} {value}": (word, value) for word in ("write", "settle", "value") for value in (0, 1)}
+MOVES |= {"end": ("end", None), "read": ("read", None)}
+PLACE = re.compile(r"^taken \d+ ")
+# many records have the same entries, so the entries of this many lines are kept
+MOST_LINES = 2**16
 
 
 class Bit:
@@ -22,7 +29,7 @@ class Bit:
         return self.value if self.met is False else None
 
     def note(self, move):
-        word, value = move.split(" ")[0], int(move[-1]) if move[-1].isdigit() else None
+        word, value = MOVES[move]
         if word == "write":
             self.writing, self.met = value, None if self.met is None else True
         elif word in ("end", "settle"):
@@ -48,7 +55,6 @@ class Judge:
         self.bits = {}
         self.seats = [Seat() for _ in range(setup.processes)]
         self.taken, self.store = 0, setup.opening
-        self.opening = image_of(setup.opening)
 
     def hear(self, number, process, access, marks):
         """The law that an entry breaks, if it breaks one; else it is the next entry."""
@@ -64,30 +70,33 @@ class Judge:
         law = self.wrong(process, access, marks)
         if law:
             return law
-        if "enter" in marks and any(seat.inside for j, seat in enumerate(self.seats) if j != process):
-            return "together"
-        began = self.seats[process].began
-        waiting = [seat for j, seat in enumerate(self.seats) if j != process and seat.stage == "waiting"]
-        if "enter" in marks and any(seat.ended < began for seat in waiting):
-            return "overtaken"
+        if "enter" in marks:
+            others, began = [seat for j, seat in enumerate(self.seats) if j != process], self.seats[process].began
+            if any(seat.inside for seat in others):
+                return "together"
+            if any(seat.ended < began for seat in others if seat.stage == "waiting"):
+                return "overtaken"
         return None if self.takes_its_place(process, marks) else "history"
 
     # The safe rule.
 
     def bit(self, access):
         """The bit of an access, as its moves have left it."""
-        if access[:4] not in self.bits:
-            self.bits[access[:4]] = Bit(self.opens(access))
-        return self.bits[access[:4]]
+        place = access[:4]
+        found = self.bits.get(place)
+        if found is None:
+            found = self.bits[place] = Bit(self.setup.opens(*access[:3]))
+        return found
 
     def is_unsafe(self, access):
         if access is None or not access[4].startswith("value") or access[:4] not in self.bits:
             return False
         return self.bit(access).read_now() not in (None, int(access[4][-1]))
 
-    def opens(self, access):
-        owner, field, bit, _, _ = access
-        return self.opening >> bit & 1 if owner == 0 and field == "image0" else 0
+    def has_flick(self, access):
+        """Whether the flick decides the value of an access of a program, which is then None in its move."""
+        move = access[4]
+        return move.endswith("None") and not (move.startswith("value") and self.bit(access).read_now() is not None)
 
     # The program and the failure rule.
 
@@ -121,7 +130,7 @@ class Judge:
         if words[0] != move or told not in ("None", words[-1]):
             return False
         made = seat.steps.marks(int(words[-1]) if told == "None" else None)
-        return made == [re.sub(r"^taken \d+ ", "taken ? ", mark) for mark in marks]
+        return made == [PLACE.sub("taken ? ", mark) for mark in marks]
 
     def takes_its_place(self, process, marks):
         for mark in marks:
@@ -139,16 +148,16 @@ class Judge:
         if access:
             seat.steps.go_on()
             self.bit(access).note(access[4])
-            self.note_write(seat, process, access)
+            if access[0] == process and seat.stage != "settling":
+                self.note_write(seat, access)
             if seat.began is None:
                 seat.began = number
         for mark in marks:
             self.note_mark(seat, process, mark.split(), number)
 
-    def note_write(self, seat, process, access):
-        owner, field, bit, reader, move = access
-        if owner != process or seat.stage == "settling":
-            return
+    def note_write(self, seat, access):
+        """Notes the write of an own bit that is open, or was begun on some copies and not on all."""
+        _, field, bit, reader, move = access
         if move.startswith("write"):
             seat.torn = (field, bit, reader, int(move[-1]))
         elif move == "end":
@@ -182,14 +191,15 @@ class Judge:
             seat.stage = "down"
 
 
+@functools.lru_cache(maxsize=MOST_LINES)
 def entry_of(line):
     """An entry by its line, whose words have single spaces."""
     place, *marks = line.split(" : ")
     words = place.split(" ")
     if len(words) == 1:
-        return int(words[0]), None, marks
+        return int(words[0]), None, tuple(marks)
     owner, field, bit, reader = words[1].split(".")
-    return int(words[0]), (int(owner), field, int(bit), int(reader), " ".join(words[2:])), marks
+    return int(words[0]), (int(owner), field, int(bit), int(reader), " ".join(words[2:])), tuple(marks)
 
 
 def judged(setup, lines):

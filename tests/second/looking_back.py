@@ -1,13 +1,13 @@
 """What is found by looking back over the entries of a record, for the laws that name no algorithm.
 
-Nothing is kept of the entries but where those of a process stand, and those of a bit. Each thing is looked up in them from the newest
-one back, as the page on records says it. It shares nothing with the programs that it is held against.
+The past keeps lists of the entries: those of a process and of a bit, and the marks, the calls and the failures of a process. Each thing
+is looked up in these lists from the newest entry back, as the page on records states it. It shares nothing with the programs that it is
+held against.
 """
 
 import collections
 from typing import NamedTuple
 
-from second.programs import image_of
 from second.store import Call
 
 RUNNING = ("doorway", "waiting", "inside", "leaving")
@@ -36,17 +36,22 @@ class Past:
 
     def __init__(self, setup):
         self.setup = setup
-        self.of_process, self.of_bit = collections.defaultdict(list), collections.defaultdict(list)
-        self.calls, self.taken = collections.defaultdict(list), []
+        self.of_process, self.marks, self.of_bit = (collections.defaultdict(list) for _ in range(3))
+        # where the calls and the failures of a process are among its parts
+        self.calls, self.failures, self.taken = collections.defaultdict(list), collections.defaultdict(list), []
 
     def add(self, part):
         own = self.of_process[part.process]
         if part.bit:
             self.of_bit[part.bit].append(part)
-        elif part.is_mark("call"):
-            self.calls[part.process].append(len(own))
-        elif part.is_mark("taken"):
-            self.taken.append((self.call_made(part.process), " ".join(part.words[2:])))
+        else:
+            self.marks[part.process].append(part)
+            if part.is_mark("call"):
+                self.calls[part.process].append(len(own))
+            elif part.is_mark("fail"):
+                self.failures[part.process].append(len(own))
+            elif part.is_mark("taken"):
+                self.taken.append((self.call_made(part.process), " ".join(part.words[2:])))
         own.append(part)
 
     def drop(self, part):
@@ -54,57 +59,59 @@ class Past:
         self.of_process[part.process].pop()
         if part.bit:
             self.of_bit[part.bit].pop()
-        elif part.is_mark("call"):
-            self.calls[part.process].pop()
-        elif part.is_mark("taken"):
-            self.taken.pop()
+        else:
+            self.marks[part.process].pop()
+            lists = {"call": self.calls[part.process], "fail": self.failures[part.process], "taken": self.taken}
+            lists.get(part.words[0], [part]).pop()
 
     # Of a process.
 
     def stage(self, process):
         has_left = False
-        for part in reversed(self.of_process[process]):
-            if part.is_mark("leave"):
+        for part in reversed(self.marks[process]):
+            word = part.words[0]
+            if word == "leave":
                 has_left = True
-            elif part.bit is None and part.words[0] in STAGES:
-                stage = STAGES[part.words[0]]
+            elif word in STAGES:
+                stage = STAGES[word]
                 return "leaving" if has_left and stage != "settling" else stage
         return "idle"
 
     def inside(self, process):
         """The entry with which it has entered, if it has not left since."""
-        for part in reversed(self.of_process[process]):
-            if part.is_mark("leave"):
+        for part in reversed(self.marks[process]):
+            if part.words[0] == "leave":
                 return None
-            if part.is_mark("enter"):
+            if part.words[0] == "enter":
                 return part.entry
         return None
 
-    def call(self, process):
-        """What there is of its call: its parts behind its last `call`."""
-        calls = self.calls[process]
-        return self.of_process[process][calls[-1] + 1 :] if calls else []
-
     def in_call(self, process, mark):
-        return next((part for part in self.call(process) if part.is_mark(mark)), None)
+        """The first such mark behind its last `call`, if there is one."""
+        found = None
+        for part in reversed(self.marks[process]):
+            if part.words[0] == "call":
+                return found
+            if part.words[0] == mark:
+                found = part
+        return None
 
     def open(self, process):
         return open_in(reversed(self.of_process[process]))
 
     def torn(self, process):
         """The write that was open as it last failed, if it has settled nothing since."""
-        back = reversed(self.of_process[process])
-        for part in back:
-            if part.is_move("settle"):
-                return None
-            if part.is_mark("fail"):
-                cut = open_in(back)
-                return cut if cut and cut.is_move("write") else None
-        return None
+        own, failures = self.of_process[process], self.failures[process]
+        if not failures or any(part.is_move("settle") for part in own[failures[-1] :]):
+            return None
+        cut = open_in(reversed(own[: failures[-1]]))
+        return cut if cut and cut.is_move("write") else None
 
     def doorway(self, process):
         """The entry of the first access of its call."""
-        return next((part.entry for part in self.call(process) if part.bit), None)
+        own, calls = self.of_process[process], self.calls[process]
+        behind = range(calls[-1] + 1, len(own)) if calls else []
+        return next((own[at].entry for at in behind if own[at].bit), None)
 
     def waits(self, process):
         """The entry of its `wait`, while it waits."""
@@ -139,10 +146,6 @@ class Past:
 
     # The safe rule.
 
-    def opens_at(self, bit):
-        owner, field, at, _ = bit
-        return image_of(self.setup.opening) >> at & 1 if (owner, field) == (0, "image0") else 0
-
     def read_value(self, bit):
         """The value with which the read of a bit that has begun last must end; none, if it may end with either or none has begun."""
         moves = self.of_bit[bit]
@@ -153,7 +156,7 @@ class Past:
         if writes and writes[-1].is_move("write"):
             return None
         # a write has ended last, or was settled
-        return int(next((move.words[1] for move in reversed(writes) if len(move.words) == 2), self.opens_at(bit)))
+        return int(next((move.words[1] for move in reversed(writes) if len(move.words) == 2), self.setup.opens(*bit[:3])))
 
 
 def open_in(back):

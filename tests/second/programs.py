@@ -4,6 +4,8 @@ It is written from what docs/MODEL.md, docs/FORMATS.md and docs/RECORDS.md say, 
 against. The one-thread store is that of `store.py`.
 """
 
+import functools
+
 from second.store import SLOT, Call, Store
 
 
@@ -23,6 +25,7 @@ class Setup:
         self.processes, self.tickets, self.stamps, self.slots = said.values()
         self.callers = self.processes if self.version == 2 else 0
         self.image_bits = 8 * (SLOT * self.slots + 2 * self.callers)
+        self.widths = {"choosing": 1, "commit": 1, "ticket": self.tickets, "stamp0": self.stamps, "stamp1": self.stamps}
         self.opening = self.store_of(pairs)
 
     def store_of(self, pairs):
@@ -32,10 +35,16 @@ class Setup:
     def empty(self):
         return self.store_of([])
 
+    @functools.cached_property
+    def opening_image(self):
+        return image_of(self.opening)
+
     def width(self, field):
-        return {"choosing": 1, "commit": 1, "ticket": self.tickets}.get(
-            field, self.stamps if field.startswith("stamp") else self.image_bits
-        )
+        return self.widths.get(field, self.image_bits)
+
+    def opens(self, owner, field, bit):
+        """What a bit of a register opens at."""
+        return self.opening_image >> bit & 1 if owner == 0 and field == "image0" else 0
 
 
 def image_of(store):
@@ -73,8 +82,9 @@ def written(setup, process, field, value, first=(), last=lambda: ()):
     """A whole write of an own register: of each bit each reader's copy, begun and ended."""
     width, readers = setup.width(field), setup.processes
     for bit in range(width):
+        move = f"write {value >> bit & 1}"
         for reader in range(readers):
-            yield (process, field, bit, reader, f"write {value >> bit & 1}")
+            yield (process, field, bit, reader, move)
             yield tuple(first) if bit == reader == 0 else ()
             yield (process, field, bit, reader, "end")
             yield tuple(last()) if (bit, reader) == (width - 1, readers - 1) else ()

@@ -24,11 +24,20 @@ def heard(head, entries):
     return judge
 
 
-def next_entry(judge, process, flick):
-    """The entry that the next step of a process adds, or None if it has no step to make."""
+def next_entries(judge, process, again):
+    """The entries that the next step of a process may add, with either flick. A program is told one value of its access only, so
+    `again` gives the same judge once more if the flick decides the value."""
     seat = judge.seats[process]
-    if seat.stage in ("idle", "down"):
-        return None
+    if seat.stage not in ("idle", "down"):
+        has_flick = judge.has_flick(seat.steps.wanted())
+        yield next_entry(judge, process, 0)
+        if has_flick:
+            yield next_entry(again(), process, 1)
+
+
+def next_entry(judge, process, flick):
+    """The entry that the next step of a process adds."""
+    seat = judge.seats[process]
     *place, move = seat.steps.wanted()
     value = None
     if move.endswith("None"):
@@ -63,16 +72,15 @@ def reasons(head, entries, bad, line):
     process, access, marks = entry_of(entries[bad])
     yield f"line {line}"
     yield f"is {entries[bad]}"
-    # (a program is told one value of an access only, so each flick has a judge of its own)
-    judges = [heard(head, entries[:bad]) for _ in range(2)]
-    exists = process < judges[0].setup.processes
-    others = [next_entry(judge, process, flick) for flick, judge in enumerate(judges)] if exists else []
-    yield from (f"may {other}" for other in dict.fromkeys(others) if other)
-    why = refusal(judges[0], process, access, marks)
+    judge = heard(head, entries[:bad])
+    exists = process < judge.setup.processes
+    others = next_entries(judge, process, lambda: heard(head, entries[:bad])) if exists else []
+    yield from (f"may {other}" for other in dict.fromkeys(others))
+    why = refusal(judge, process, access, marks)
     if why:
         yield f"refused {why}"
     if exists:
-        yield f"stage {judges[0].seats[process].stage}"
+        yield f"stage {judge.seats[process].stage}"
 
 
 def judge_record(text, why=False):

@@ -4,10 +4,14 @@ It is written from the tables of docs/RECORDS.md and the order of faults of docs
 programs that it is held against.
 """
 
-from second.scenario_files import HEADINGS, MOST_BYTES, RANGES, Fault, is_number, is_skipped, lines_of, operand_fault, words_of
+import functools
+
+from second.scenario_files import HEADINGS, MOST_BYTES, RANGES, Fault, is_number, is_skipped, lines_of, operand_fault, remembered, words_of
 
 ORDER = ["unknown", "not-first", "words", "number", "bad-name", "bad-value", "bad-setup"]
 MOST_MARKS = 3
+# many records have the same entries, so the entries of this many lines are kept
+MOST_LINES = 2**16
 # the greatest number of each sort; the others are those of scenario files
 GREATEST = {"bit": 65_535, "ticket": 2**32 - 1, "place": 2**64 - 1, "small": 255, "last": 65_535, "flag": 1}
 FIELDS = [b"choosing", b"ticket", b"commit", b"stamp0", b"stamp1", b"image0", b"image1"]
@@ -101,6 +105,17 @@ def entry_faults(words):
     return kinds + ["words"] * (len(marks) > MOST_MARKS)
 
 
+@functools.lru_cache(maxsize=MOST_LINES)
+def entry_in(line):
+    """The kind of fault of a line that is an entry, or None, and the entry with single spaces if it has no fault; None of another
+    line."""
+    words = words_of(line)
+    if is_skipped(words) or not words[0][:1].isdigit():
+        return None
+    kinds = entry_faults(words)
+    return (min(kinds, key=ORDER.index), None) if kinds else (None, b" ".join(words).decode())
+
+
 class Reader:
     """What is said so far, behind the first line of a record file."""
 
@@ -111,10 +126,8 @@ class Reader:
         self.entries = []
 
     def faults(self, words):
-        """The kinds of fault of a line, of which the first in the order is told."""
+        """The kinds of fault of a line that is not an entry, of which the first in the order is told."""
         first = words[0].decode("latin1")
-        if first[0].isdigit() and first[0].isascii():
-            return entry_faults(words)
         if first in HEADINGS:
             late = first in self.said or self.opening or self.entries
             return ["not-first"] * bool(late) + (word_faults(words[1:], ["small"]) or self.heading_faults(first, int(words[1])))
@@ -134,20 +147,30 @@ class Reader:
         return {**HEADINGS, **self.said}
 
     def take(self, words):
-        """Takes a line; the kind of its fault, or None."""
+        """Takes a line that is not an entry; the kind of its fault, or None."""
         kinds = self.faults(words)
         if kinds:
             return min(kinds, key=ORDER.index)
         first = words[0].decode()
         if first in HEADINGS:
             self.said[first] = int(words[1])
-        elif first == "open":
-            self.opening.append((words[1], words[2]))
         else:
-            self.entries.append(b" ".join(words).decode())
+            self.opening.append((words[1], words[2]))
         return None
 
+    def take_line(self, line):
+        """Takes a line, which may be an entry or one that is skipped; the kind of its fault, or None."""
+        entry = entry_in(line)
+        if entry is None:
+            words = words_of(line)
+            return None if is_skipped(words) else self.take(words)
+        kind, text = entry
+        if kind is None:
+            self.entries.append(text)
+        return kind
 
+
+@remembered
 def read_record(text):
     """The lines of the setup of a record file, the first among them, and those of its entries, with single spaces; a `Fault` is
     raised where it says nothing."""
@@ -155,16 +178,14 @@ def read_record(text):
     for number, line in enumerate(lines, 1):
         if len(line) > MOST_BYTES:
             raise Fault(number, "too-long")
-        words = words_of(line)
-        if is_skipped(words):
-            continue
         if reader is None:
+            words = words_of(line)
+            if is_skipped(words):
+                continue
             if words not in ([b"record", b"1"], [b"record", b"2"]):
                 raise Fault(number, "not-first")
             reader = Reader(int(words[1]))
-            continue
-        kind = reader.take(words)
-        if kind:
+        elif kind := reader.take_line(line):
             raise Fault(number, kind)
     if reader is None:
         raise Fault(len(lines) + 1, "not-first")

@@ -45,15 +45,28 @@ class Generator:
         return word
 
 
-class Run:
-    """The run of a scenario: the lines of its text, and those of its record."""
+class TooLong(Exception):
+    """A run has more events than it may have. `run` has made those that it may have, if it was made just now."""
 
-    def __init__(self, scenario):
+    def __init__(self, run=None):
+        super().__init__()
+        self.run = run
+
+
+class Run:
+    """The run of a scenario: the lines of its text, and those of its record. A run of more than `most` events raises `TooLong`.
+
+    It notes of each event the index of the line that made it, and of each line of its text that is not a mark after how many events
+    it comes.
+    """
+
+    def __init__(self, scenario, most=None):
+        self.scenario, self.most, self.made_by, self.after = scenario, most, [], {}
         self.text, self.record = [], head_of(scenario).decode().splitlines()
         self.judge = Judge(Setup(self.record))
         self.generator, self.constant = Generator(0), 0
         self.events = self.refused = 0
-        for words in scenario.lines:
+        for self.index, words in enumerate(scenario.lines):
             getattr(self, words[0])(*words[1:])
         self.text.append(f"end events {self.events} taken {self.judge.taken} refused {self.refused}")
 
@@ -67,16 +80,29 @@ class Run:
 
     def add(self, process, access, marks):
         """One entry more."""
-        place = self.judge.taken
-        marks = [mark.replace("?", str(place)) for mark in marks]
+        if self.events == self.most:
+            raise TooLong(self)
+        line = str(process)
+        if access:
+            owner, field, bit, reader, move = access
+            line = f"{process} {owner}.{field}.{bit}.{reader} {move}"
+        if marks:
+            place = str(self.judge.taken)
+            marks = [mark.replace("?", place) for mark in marks]
+            self.text += [f"{self.events} {process} {mark}" for mark in marks]
+            line = " : ".join([line, *marks])
         self.judge.note(self.events, process, access, marks)
-        self.text += [f"{self.events} {process} {mark}" for mark in marks]
-        bit = [] if access is None else [".".join(map(str, access[:4])), access[4]]
-        self.record.append(" : ".join([" ".join([str(process), *bit]), *marks]))
+        self.record.append(line)
+        self.made_by.append(self.index)
         self.events += 1
 
+    def say(self, line):
+        """One line more of the text, which is not a mark."""
+        self.after[len(self.text)] = self.events
+        self.text.append(line)
+
     def refuse(self, process, why):
-        self.text.append(f"- {process} refused {why}")
+        self.say(f"- {process} refused {why}")
         self.refused += 1
 
     def happens(self, process, event, mark):
@@ -105,13 +131,14 @@ class Run:
         if seat is None or seat.stage in ("idle", "down"):
             self.refuse(process, "not-running" if seat else "no-process")
             return False
-        *place, move = seat.steps.wanted()
-        value = None
+        steps = seat.steps
+        access, value = steps.wanted(), None
+        move = access[4]
         if move.endswith("None"):
-            bit = self.judge.bit((*place, move))
-            value = bit.read_now() if move.startswith("value") and bit.read_now() is not None else flick
-            move = move.replace("None", str(value))
-        self.add(process, (*place, move), seat.steps.marks(value))
+            known = self.judge.bit(access).read_now() if move == "value None" else None
+            value = flick if known is None else known
+            access = (*access[:4], f"{move[:-4]}{value}")
+        self.add(process, access, steps.marks(value))
         return True
 
     # Lines.
@@ -141,7 +168,7 @@ class Run:
         made = 0
         while self.stage(process) not in GOALS[goal]:
             if made == MOST_STEPS:
-                self.text.append(f"- {process} turns")
+                self.say(f"- {process} turns")
                 return
             if not self.makes_step(process):
                 return
@@ -161,7 +188,7 @@ class Run:
 
     def show(self):
         is_busy = any(seat.inside for seat in self.judge.seats)
-        self.text.append("show busy" if is_busy else self.judge.store.shown())
+        self.say("show busy" if is_busy else self.judge.store.shown())
 
 
 def whole(lines):

@@ -4,6 +4,7 @@ It is written from the tables of docs/FORMATS.md and the order of faults of docs
 programs that it is held against. A text is bytes, and so is each word.
 """
 
+import functools
 import re
 from typing import NamedTuple
 
@@ -23,6 +24,9 @@ KINDS = {"name": "bad-name", "value": "bad-value"}
 NAME = re.compile(rb"[a-z0-9_]{1,8}")
 NUMBER = re.compile(rb"0|[1-9][0-9]*")
 TEXT = re.compile(rb"[\x21-\x7e]{0,12}")
+WORD = re.compile(rb"[^ \t]+")
+# a reading keeps the contents of this many texts
+MOST_KEPT = 4
 
 
 class Fault(Exception):
@@ -36,6 +40,26 @@ class Fault(Exception):
         return f"line {self.line}: {self.kind}"
 
 
+def remembered(reading):
+    """The same reading, which keeps the contents of the last texts, or their faults, because several commands read each text."""
+
+    @functools.lru_cache(maxsize=MOST_KEPT)
+    def outcome(text):
+        try:
+            return reading(text), None
+        except Fault as fault:
+            return None, (fault.line, fault.kind)
+
+    @functools.wraps(reading)
+    def read(text):
+        said, fault = outcome(text)
+        if fault:
+            raise Fault(*fault)
+        return said
+
+    return read
+
+
 class Scenario(NamedTuple):
     """What a scenario file says: its version, its headings, what it opens with, and the words of its other lines."""
 
@@ -47,12 +71,12 @@ class Scenario(NamedTuple):
 
 def lines_of(text):
     """The lines of a text without their ends. The last one may lack its end."""
-    *ended, last = text.split(b"\n")
-    return [line.removesuffix(b"\r") for line in ended] + ([last] if last else [])
+    *ended, last = text.replace(b"\r\n", b"\n").split(b"\n")
+    return ended + ([last] if last else [])
 
 
 def words_of(line):
-    return [word for word in re.split(rb"[ \t]+", line) if word]
+    return WORD.findall(line)
 
 
 def is_skipped(words):
@@ -177,6 +201,7 @@ class Reader:
         return {**HEADINGS, **self.said}
 
 
+@remembered
 def read_scenario(text):
     """What a scenario file says; a `Fault` is raised where it says nothing."""
     reader = None
@@ -211,6 +236,7 @@ def bit_fault(words, before):
     return "too-long" if before == MOST_SAID else None
 
 
+@remembered
 def read_bits(text):
     """The words of the lines of a bits file behind its first; a `Fault` is raised where it says nothing."""
     lines = None

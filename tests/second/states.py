@@ -4,35 +4,18 @@ What a process does next is told by the programs of `programs.py`; the rest is l
 program that it is held against.
 """
 
+import functools
+
 from second import programs
 from second.calls import first_access, first_with
 from second.judge import Judge, entry_of
 from second.programs import Setup, image_of, pairs_in
-from second.runs import Run
 from second.scenario_files import NAME, is_value
 from second.store import SLOT, Store
 
 FIELDS = ["choosing", "ticket", "commit", "stamp0", "stamp1", "image0", "image1"]
 STAGES = {"call": "doorway", "wait": "waiting", "enter": "inside", "leave": "leaving", "answer": "idle", "fail": "settling"}
 STAGES |= {"down": "down", "withdraw": "leaving", "restart": "idle"}
-
-
-class Told(Run):
-    """A run that notes of each event the line that made it, and how many events that line had made."""
-
-    def __init__(self, scenario):
-        self.made_by = []
-        super().__init__(scenario._replace(lines=self.noted(scenario.lines)))
-
-    def noted(self, lines):
-        for index, words in enumerate(lines):
-            self.index, self.made = index, 0
-            yield words
-
-    def add(self, process, access, marks):
-        super().add(process, access, marks)
-        self.made += 1
-        self.made_by.append((self.index, self.made))
 
 
 class State:
@@ -43,11 +26,14 @@ class State:
         self.setup, self.lines = Setup(head), record[len(head) :][:many]
         self.entries = [entry_of(line) for line in self.lines]
         self.own = [[] for _ in range(self.setup.processes)]
-        self.of_bit = {}
+        # the moves of each bit, and the bits of each register that were written
+        self.of_bit, self.written = {}, {}
         for number, (process, access, marks) in enumerate(self.entries):
             self.own[process].append((number, access, marks))
             if access:
                 self.of_bit.setdefault(access[:4], []).append((number, process, access[4]))
+                if access[4].startswith("write"):
+                    self.written.setdefault(access[:2], set()).add(access[:4])
 
     def stage(self, process):
         has_left = False
@@ -66,6 +52,11 @@ class State:
         its = own[calls[-1] + 1 :] if calls else []
         has_ended = not calls or first_with(its, "answer") or first_with(its, "down")
         return len(calls), None if has_ended else own[calls[-1]], its
+
+    @functools.cached_property
+    def aheads(self):
+        """What is ahead, twice, because a program is told one value of its next access only; the second time is seldom needed."""
+        return [functools.cache(self.ahead) for _ in range(2)]
 
     def ahead(self):
         """Of each process the access that it makes next, and what it or its unit writes or reads then; and the judge that knows."""
@@ -99,9 +90,7 @@ class State:
 
     def bit(self, bit):
         """The value of a bit, and the write that is open on it, if one is."""
-        owner, field, at, _ = bit
-        value = image_of(self.setup.opening) >> at & 1 if (owner, field) == (0, "image0") else 0
-        writing = None
+        value, writing = self.setup.opens(*bit[:3]), None
         for _, _, move in self.of_bit.get(bit, []):
             word, *told = move.split(" ")
             if word == "write":
@@ -126,15 +115,23 @@ class State:
             is_image = False
         return shown_store(store) if is_image else "no-image"
 
+    def copies(self, owner, field, opening):
+        """Of each reader of a register the number that its copies hold, and whether a write of one of them is open."""
+        numbers, flickers = [opening] * self.setup.processes, [False] * self.setup.processes
+        for bit in self.written[owner, field]:
+            _, _, at, reader = bit
+            value, writing = self.bit(bit)
+            numbers[reader] = numbers[reader] & ~(1 << at) | value << at
+            flickers[reader] = flickers[reader] or writing is not None
+        return zip(numbers, flickers)
+
     def register_lines(self):
-        readers = range(self.setup.processes)
-        for owner in readers:
-            for field in FIELDS:
-                opening = image_of(self.setup.opening) if (owner, field) == (0, "image0") else 0
+        for owner in range(self.setup.processes):
+            # (a register that was not written holds what it opened with, and is not shown)
+            for field in (field for field in FIELDS if (owner, field) in self.written):
+                opening = self.setup.opening_image if (owner, field) == (0, "image0") else 0
                 texts, is_shown = {}, False
-                for reader in readers:
-                    bits = [self.bit((owner, field, k, reader)) for k in range(self.setup.width(field))]
-                    number, flickers = sum(value << k for k, (value, _) in enumerate(bits)), any(w is not None for _, w in bits)
+                for reader, (number, flickers) in enumerate(self.copies(owner, field, opening)):
                     is_shown = is_shown or flickers or number != opening
                     texts.setdefault("flickers" if flickers else self.shown(field, number), []).append(str(reader))
                 if is_shown and len(texts) == 1:
@@ -144,9 +141,9 @@ class State:
 
     # Processes.
 
-    def process_lines(self, process, ahead):
+    def process_lines(self, process):
         """What is told of a process that runs or whose unit settles."""
-        _, wanted, busy = ahead[0]
+        heard, wanted, busy = self.aheads[0]()
         stage = self.stage(process)
         number, call, its = self.its_call(process)
         yield stage
@@ -159,7 +156,8 @@ class State:
         yield from self.ticket_lines(process, stage, its, busy, wanted)
         yield from self.busy_lines(process, stage, wanted[process], busy.get(process), failed)
         yield from self.open_lines(process)
-        texts = [self.next_text(process, flick, ahead[flick]) for flick in (0, 1)]
+        flicks = (0, 1) if heard.has_flick(wanted[process]) else (0,)
+        texts = [self.next_text(process, flick, self.aheads[flick]()) for flick in flicks]
         yield from (f"next {text}" for text in dict.fromkeys(texts))
 
     def numbers_read(self, its):
@@ -257,16 +255,16 @@ class State:
         return " : ".join([f"{'.'.join(map(str, place))} {move}", *marks])
 
     def all_lines(self):
-        ahead = [self.ahead(), self.ahead()]
         for process in range(self.setup.processes):
             stage, (number, _, _) = self.stage(process), self.its_call(process)
             if stage in ("idle", "down"):
                 yield f"process {process} {stage}{f' calls {number}' if number else ''}"
             else:
-                yield from (f"process {process} {line}" for line in self.process_lines(process, ahead))
+                yield from (f"process {process} {line}" for line in self.process_lines(process))
         yield from self.register_lines()
-        yield f"history {ahead[0][0].taken}"
-        yield f"store {shown_store(ahead[0][0].store)}"
+        heard, *_ = self.aheads[0]()
+        yield f"history {heard.taken}"
+        yield f"store {shown_store(heard.store)}"
 
 
 def shown_store(store):
@@ -290,13 +288,14 @@ def call_lines(its):
         yield f"withdrew at {ends['withdraw']}"
 
 
-def state_text(scenario, numbers, at):
-    """What `state --at` writes of a scenario, of whose lines these are the numbers in the file; `at` is a number, or None for the end."""
-    run = Told(scenario)
-    events = len(run.made_by) if at is None else min(at, len(run.made_by))
+def state_text(run, numbers, at):
+    """What `state --at` writes of a run, of whose scenario's lines these are the numbers in the file; `at` is a number, or None for the
+    end."""
+    events = run.events if at is None else min(at, run.events)
     state = State(run.record, events)
     head = [f"events {events}"]
     if events:
-        index, made = run.made_by[events - 1]
-        head += [f"last {state.lines[-1]}", f"line {numbers[index]} made {made} {' '.join(scenario.lines[index])}"]
+        index = run.made_by[events - 1]
+        made, words = run.made_by[:events].count(index), run.scenario.lines[index]
+        head += [f"last {state.lines[-1]}", f"line {numbers[index]} made {made} {' '.join(words)}"]
     return "".join(f"{line}\n" for line in [*head, *state.all_lines()]).encode()

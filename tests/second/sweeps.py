@@ -46,12 +46,14 @@ class Swept(Run):
                 self.calls_again(int(words[1]), words[2:])
 
     def add(self, process, access, marks):
-        super().add(process, access, marks)
+        """One entry more, of which no line is written, because a sweep only counts."""
+        self.judge.note(self.events, process, access, marks)
+        self.events += 1
         if self.events == self.cut:
             raise Cut
 
     def is_over(self, process):
-        return self.stage(process) in OVER
+        return self.judge.seats[process].stage in OVER
 
     def makes_steps(self, process):
         """The steps of a process, up to the limit."""

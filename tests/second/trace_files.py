@@ -3,7 +3,7 @@
 import re
 from typing import NamedTuple
 
-from second.scenario_files import MOST_BYTES, Fault, is_number, is_skipped, lines_of, words_of
+from second.scenario_files import MOST_BYTES, Fault, is_number, is_skipped, lines_of, remembered, words_of
 
 ORDER = ["unknown", "not-first", "words", "number", "bad-name", "bad-setup"]
 HEADINGS = ("trace", "processes", "memory", "register", "shared")
@@ -171,6 +171,7 @@ def parts_of(words):
     return parts
 
 
+@remembered
 def read_trace(text):
     """What a trace file says; a `Fault` is raised where it says nothing."""
     reader, lines = None, lines_of(text)
