@@ -17,7 +17,7 @@ from lib.places import TOP
 
 SCRIPTS = [
     *["api", "names", "claims", "quotes", "layers", "links", "worked", "picture_parts", "pictures", "drawn_records", "drawn_traces", "drawn_windows"],
-    *["cut_file", "command_line", "terminal", "kept_build"],
+    *["cut_file", "command_line", "small_stack", "terminal", "kept_build"],
     *["record_files", "changed_records", "short_files", "other_locks", "fault_places", "any_lock_second", "reasons_and_sweeps", "traces", "trace_tools", "lock_search", "lock_atlas", "run_script", "readme", "release"],
     *["lessons", "lesson_pages", "grading", "races", "boards", "refused_threads", "inspected", "recorded_calls", "trace_calls", "recorded_states"],
 ]
