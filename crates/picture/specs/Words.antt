@@ -12,15 +12,15 @@ abbrev pub listed_with : List ℕ → List ℕ → List ℕ
 listed_with = join_by decimal
 
 -- some processes: up to three by their numbers, and more by how many there are
-abbrev pub group_text : List ℕ → ProcessGroup → List ℕ
-group_text others group = cond (nat_lt 3 group.count) (decimal group.count ++ others) (listed_with (codes ",") (take group.count group.first))
+abbrev pub group_text : ProcessGroup → List ℕ
+group_text group = cond (nat_lt 3 group.count) (decimal group.count ++ codes " others") (listed_with (codes ",") (take group.count group.first))
 
 -- the word in the bar of a process, if it has one
 abbrev pub word_text : BarWord → Option (List ℕ)
 word_text word.Nothing = None
 word_text (word.Is stage) = Some (stage_word stage)
-word_text (word.Behind group) = Some (codes "behind " ++ group_text (codes " others") group)
-word_text (word.Awaits group) = Some (group_text [] group ++ codes " choosing")
+word_text (word.Behind group) = Some (codes "behind " ++ group_text group)
+word_text (word.Awaits group) = Some (group_text group ++ codes " choosing")
 
 -- the processes in the line of tickets, with single spaces
 abbrev pub queue_text : State → List ℕ

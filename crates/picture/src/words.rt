@@ -141,30 +141,30 @@ fn words_of(alloc: Global, word: &BarWord) -> Result<Option<String>, AllocError>
 
 fn behind(alloc: Global, group: &ProcessGroup) -> Result<String, AllocError>
     ensures { IfOk result
-        (λ text. string_bytes text ≡ codes "behind " ++ group_text (codes " others") group.now) }
+        (λ text. string_bytes text ≡ codes "behind " ++ group_text group.now) }
 {
     let mut text = String::from_str(alloc, "behind ")?;
-    let group = group_words(alloc, group, " others")?;
+    let group = group_words(alloc, group)?;
     text.push_str(group.as_str())?;
     Ok(text)
 }
 
 fn awaits(alloc: Global, group: &ProcessGroup) -> Result<String, AllocError>
     ensures { IfOk result
-        (λ text. string_bytes text ≡ group_text [] group.now ++ codes " choosing") }
+        (λ text. string_bytes text ≡ group_text group.now ++ codes " choosing") }
 {
-    let mut text = group_words(alloc, group, "")?;
+    let mut text = group_words(alloc, group)?;
     text.push_str(" choosing")?;
     Ok(text)
 }
 
-/// Returns the numbers of up to three processes, and how many more there are.
-fn group_words(alloc: Global, group: &ProcessGroup, others: &str) -> Result<String, AllocError>
-    ensures { IfOk result (λ text. string_bytes text ≡ group_text others.now group.now) }
+/// Returns the numbers of up to three processes, or how many there are.
+fn group_words(alloc: Global, group: &ProcessGroup) -> Result<String, AllocError>
+    ensures { IfOk result (λ text. string_bytes text ≡ group_text group.now) }
 {
     let count = group.count;
     if count > 3 {
-        format!(in alloc; "{count}{others}")
+        format!(in alloc; "{count} others")
     } else {
         listed(alloc, &group.first[..usize::from(count)], ",")
     }
