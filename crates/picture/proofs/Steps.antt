@@ -3,7 +3,7 @@ use Rattle.std.proofs.Common.{◌≡◌, ℕ, ◌+◌, add-one, ◌<◌, Bool, t
 use Rattle.markup.specs.{Point, Shape, drawings}
 use Rattle.model.specs.{Stage}
 use Rattle.picture_layout.specs.{Column, Lane, Layout, UnendedAccess, RunLine, Seen, ShownAccess, Wave, change_in, open_next, seen, seen_wave, stage_among}
-use Rattle.picture.specs.{SeenBand, Stretch, Subject, accesses_from, axis, axis_up_to, bar, bars, change_if, change_shapes, ends_at, for_each, free_left, from_next, inside_since, is_stage, line_shapes, lines_shapes, made_by, next_change, next_stretch, shade_up_to, shades, shapes_if, stretch_word, tie_to, ties_to, wave_from, wave_shapes, waves_from, words_from}
+use Rattle.picture.specs.{SeenBand, Stretch, Subject, accesses_from, axis, axis_up_to, bar, bars, change_if, change_shapes, ends_at, for_each, free_left, from_next, inside_since, is_stage, line_shapes, lines_shapes, made_by, next_change, next_stretch, note_shapes, notes_shapes, shade_up_to, shades, shapes_if, stretch_word, tie_to, ties_to, wave_from, wave_shapes, waves_from, words_from}
 use Rattle.picture.proofs.Drawn.{drop_next, then_drawn}
 
 module _ (columns : List Column) (k : ℕ) (column : Column) (within : k < length columns) (here : column ≡ get_or columns k column) where
@@ -76,8 +76,8 @@ module _ (lines : List RunLine) (k : ℕ) (line : RunLine) (within : k < length 
   pub lines_next : (band : SeenBand) (column : Seen) (head foot : Point) → lines_shapes band column head foot k (drop k lines) ≡ line_shapes band column head foot k line ++ lines_shapes band column head foot (k + 1) (drop (k + 1) lines)
   lines_next band column head foot = ap (lines_shapes band column head foot k) (drop_next lines k line within here)
 
-  pub notes_next : (shapes : RunLine → List Shape) → flat_map shapes (drop k lines) ≡ shapes line ++ flat_map shapes (drop (k + 1) lines)
-  notes_next shapes = ap (flat_map shapes) (drop_next lines k line within here)
+  pub notes_next : (band : SeenBand) (column : Seen) → notes_shapes band column k (drop k lines) ≡ note_shapes band column k line ++ notes_shapes band column (k + 1) (drop (k + 1) lines)
+  notes_next band column = ap (notes_shapes band column k) (drop_next lines k line within here)
 
 -- the processes, ascending: one more
 module _ (shapes : ℕ → List Shape) (p : ℕ) (old now : List ℕ) (before : now ≡ old ++ drawings (for_each shapes p)) where

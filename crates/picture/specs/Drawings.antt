@@ -270,10 +270,15 @@ head_shapes column head foot =
     ++ read_words column.read (rows_place head))
 
 -- the group of a line in the lane of the history
-abbrev pub note_shapes : SeenBand → Seen → RunLine → List Shape
-note_shapes band column line =
-    mark_shape column line true ∷ line_from (codes "pole") (point column.x (knot_of band.layout)) (down_by (point column.x (knot_of band.layout)) 36)
-    ∷ (sign line.line_content (point column.x (knot_of band.layout)) ++ rows_of_line column 0 false (point (column.x + 4) (knot_of band.layout + 23)) ++ End ∷ [])
+abbrev pub note_shapes : SeenBand → Seen → ℕ → RunLine → List Shape
+note_shapes band column place line =
+    mark_shape column line (place == length column.lines - 1) ∷ line_from (codes "pole") (point column.x (knot_of band.layout)) (down_by (point column.x (knot_of band.layout)) 36)
+    ∷ (sign line.line_content (point column.x (knot_of band.layout)) ++ rows_of_line column place false (point (column.x + 4) (knot_of band.layout + 23)) ++ End ∷ [])
+
+-- the groups of such lines, numbered from `place`
+abbrev pub notes_shapes : SeenBand → Seen → ℕ → List RunLine → List Shape
+notes_shapes band column place [] = []
+notes_shapes band column place (line ∷ lines) = note_shapes band column place line ++ notes_shapes band column (place + 1) lines
 
 -- a column, in the lane of its process or in the lane of the history
 abbrev pub column_in : SeenBand → Seen → Lane → List Shape
@@ -282,7 +287,7 @@ column_in band column lane =
     ++ lines_shapes band column (point column.x lane.top) (point column.x (bar_of lane)) 0 column.lines
 
 abbrev pub column_by : SeenBand → Seen → Option ℕ → List Shape
-column_by band column None = flat_map (note_shapes band column) column.lines
+column_by band column None = notes_shapes band column 0 column.lines
 column_by band column (Some p) = column_in band column (lane_in band.layout p)
 
 abbrev pub column_shapes : SeenBand → Seen → List Shape

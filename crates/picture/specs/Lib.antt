@@ -19,7 +19,7 @@ pub mod Words
 pub use AccessShapes.{access_box, access_shapes, accesses_from, begins_overlapped, begun, begun_if, begun_shapes, begun_words, box_style, dot, ended_box, ended_shapes, from_next, guide, made_by, move_words, open_box, open_style, shapes_if, styled_words, tie, tie_between, tie_to, ties, ties_of, ties_to, titled, unended_box, value_by, value_style, value_words, whole_box, whole_shapes, whole_style}
 pub use Bandings.{Accesses, Bands, Item, Judges, Plan, Reads, Reports, accesses_behind, accesses_in, bands_drawn, bands_of, begun_by, behind_columns, columns_of, filled, framed, full_bytes, full_drawn, heights, heights_drawn, heights_of, judged_with, layout_in, layout_of_band, line_by, newest, newest_at, older, placing_before, placing_in, room_by, state_after, verdict_in, whole_bytes, with_line, with_placed, with_put, with_room}
 pub use Bars.{bar, bars, ends_at, free_left, is_stage, is_word, next_stretch, says_word, stretch_at, stretch_word, words_from}
-pub use Drawings.{SeenBand, axis, axis_up_to, band_shapes, chain_shapes, column_shapes, first_inside, for_each, inside_since, lane_accesses, lane_shapes, lane_words, line_shapes, lines_shapes, links, mark_said, note_shapes, queue_said, rows_shapes, seen_band, shade_up_to, shades, store_said, words_of_lane}
+pub use Drawings.{SeenBand, axis, axis_up_to, band_shapes, chain_shapes, column_shapes, first_inside, for_each, inside_since, lane_accesses, lane_shapes, lane_words, line_shapes, lines_shapes, links, mark_said, note_shapes, notes_shapes, queue_said, rows_shapes, seen_band, shade_up_to, shades, store_said, words_of_lane}
 pub use Pages.{BeginsColumn, DrawsBand, GivesLast, MakesRoom, Passes, Places, Puts, SeenPage, SetsOpening, TakesItem, accesses_left, band_text, held_back, lines_of, lines_of_band, opening_by, opening_reported, page_by, page_filled, page_holding, page_names, page_of, passed, picture_names, seen_page}
 pub use Sheets.{body_front, ground_of, held_in_64, item_of, page_back, page_begun, page_front, picture_back, picture_front, picture_height, counted_of, plural_of, says, setup_words, svg_front, titles_of, page_back_by, page_front_by, picture_front_by, picture_back_by, trace_page_back, trace_page_front, trace_picture_back, trace_picture_front, view_of}
 pub use BarsAndStages.{BarsAreStages, ShowsStages, items_taken, line_contents}

@@ -1,9 +1,9 @@
 //! The marks of a band: for each line of the run a group that has the line as its title.
-ghost use Rattle.std.specs.Prelude.{◌≡◌, [], ◌∷◌, flat_map, IfOk, OnOk, string_bytes};
+ghost use Rattle.std.specs.Prelude.{◌≡◌, [], ◌∷◌, IfOk, OnOk, string_bytes};
 ghost use Rattle.picture.specs.Adding.{Draws, ReportsLines};
 ghost use Rattle.markup.specs.{Mark, reading, with_mark};
 ghost use Rattle.picture_layout.specs.{change_reported, seen, text_of, texts};
-ghost use Rattle.picture.specs.Drawings.{column_shapes, foot_shapes, head_shapes, line_shapes, lines_shapes, mark_said, mark_shape, note_shapes, number_words, pair_words, place_of_row, right_by, rows_of_line, rows_place, seen_band};
+ghost use Rattle.picture.specs.Drawings.{column_shapes, foot_shapes, head_shapes, line_shapes, lines_shapes, mark_said, mark_shape, note_shapes, notes_shapes, number_words, pair_words, place_of_row, right_by, rows_of_line, rows_place, seen_band};
 ghost use Rattle.picture.specs.Words.{queue_text, row_class};
 
 use crate::bands::Band;
@@ -27,7 +27,7 @@ impl Band {
         ensures read { ReportsLines result markup.old markup.new (texts column.now.lines.items) }
     {
         let Some(process) = column.lane else {
-            return self.draw_note(column, markup);
+            return self.draw_notes(column, markup);
         };
         let lane = self.layout.lane(process);
         let foot = Point::at(u32::from(column.x), lane.bar());
@@ -100,36 +100,38 @@ impl Band {
         draw_pair(line, knot, markup)
     }
 
-    /// Draws a line in the lane of the history.
-    fn draw_note(&self, column: &Column, markup: &mut Markup) -> Result<(), AllocError>
+    /// Draws the lines of a column in the lane of the history.
+    fn draw_notes(&self, column: &Column, markup: &mut Markup) -> Result<(), AllocError>
         ensures draws { Draws result markup.old markup.new
-            (flat_map (note_shapes (seen_band self.now) (seen column.now)) column.now.lines.items) }
+            (notes_shapes (seen_band self.now) (seen column.now) 0 column.now.lines.items) }
         ensures read { ReportsLines result markup.old markup.new (texts column.now.lines.items) }
     {
-        for line in &column.lines {
-            self.draw_line_below(column, line, markup)?;
+        for (place, line) in column.lines.iter().enumerate() {
+            self.draw_note(column, place, line, markup)?;
         }
         Ok(())
     }
 
-    /// Draws the group of such a line.
-    fn draw_line_below(
+    /// Draws the group of such a line, by its index in the column.
+    fn draw_note(
         &self,
         column: &Column,
+        place: usize,
         line: &RunLine,
         markup: &mut Markup,
     ) -> Result<(), AllocError>
         ensures draws { Draws result markup.old markup.new
-            (note_shapes (seen_band self.now) (seen column.now) line.now) }
+            (note_shapes (seen_band self.now) (seen column.now) place line.now) }
         ensures read { ReportsLines result markup.old markup.new (text_of line.now ∷ []) }
     {
         let alloc = markup.alloc();
         let knot = Point::at(u32::from(column.x), self.layout.knot());
-        begin_mark(alloc, column, line, true, markup)?;
+        let last = column.lines.len().saturating_sub(1);
+        begin_mark(alloc, column, line, place == last, markup)?;
         markup.line("pole", knot, below(knot, 36))?;
         draw_sign(alloc, line, knot, markup)?;
         let at = Point::at(knot.x + 4, knot.y + 23);
-        draw_rows(column, 0, false, at, markup)?;
+        draw_rows(column, place, false, at, markup)?;
         markup.end_group()
     }
 }
