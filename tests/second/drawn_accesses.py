@@ -15,7 +15,6 @@ KINDS = {
 STEPS = {"write": "begin", "read": "begin", "end": "end", "value": "end"}
 # how many registers are drawn, unless all are asked for
 MOST_WAVES = 16
-MOST_PROCESSES = 16
 
 
 class Change(NamedTuple):
@@ -89,9 +88,9 @@ class Cells:
 
 
 def is_possible(read, entry):
-    """Whether the cell of an access exists. Other accesses are not shown."""
+    """Whether the process and the cell of an access exist. Other accesses are not shown."""
     register = read.registers.get(entry.access.register)
-    if register is None or entry.process >= MOST_PROCESSES:
+    if register is None or entry.process >= read.processes:
         return False
     index = entry.access.index
     return index is None if register.is_shared else index is not None and index < read.processes

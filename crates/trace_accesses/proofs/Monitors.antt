@@ -18,7 +18,7 @@ few-registers s good =
 -- An access that is possible.
 
 pub record IsPossible (s : TraceSetup) (p : ℕ) (a : CellAccess) : Type 0 where
-  pub process : p < 16
+  pub process : p < s.processes
   pub cell : has_cell s a.cell ≡ true
 
 pub possible-parts : (s : TraceSetup) (p : ℕ) (o : Option CellAccess) (a : CellAccess) → possible_access s p o ≡ Some a → IsPossible s p a
@@ -28,8 +28,8 @@ possible-parts s p (Some b) a h = by (is_possible s p b) refl h
     by : (t : Bool) → is_possible s p b ≡ t → cond t (Some b) None ≡ Some a → IsPossible s p a
     by true is h =
         let same : b ≡ a = cc in
-        let both = and_parts (nat_lt p 16) (has_cell s b.cell) is in
-        record { process = ltb-true p 16 both.0; cell = subst (λ (x : CellAccess). has_cell s x.cell ≡ true) same both.1 }
+        let both = and_parts (nat_lt p s.processes) (has_cell s b.cell) is in
+        record { process = ltb-true p s.processes both.0; cell = subst (λ (x : CellAccess). has_cell s x.cell ≡ true) same both.1 }
     by false is h = absurd (cc)
 
 -- where the row of its cell is kept

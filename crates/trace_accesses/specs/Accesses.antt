@@ -16,9 +16,9 @@ use Rattle.trace_accesses.specs.Words.{words_of}
 
 -- Which accesses are shown.
 
--- p is one of sixteen processes, and the cell of an access exists
+-- the process p and the cell of an access exist
 abbrev pub is_possible : TraceSetup → ℕ → CellAccess → Bool
-is_possible s p a = nat_lt p 16 && has_cell s a.cell
+is_possible s p a = nat_lt p s.processes && has_cell s a.cell
 
 -- an access of p, if it is possible
 abbrev pub possible_access : TraceSetup → ℕ → Option CellAccess → Option CellAccess

@@ -1,4 +1,4 @@
-//! Which accesses are shown: those of one of sixteen processes to a cell that exists.
+//! Which accesses are shown: those of a process that exists to a cell that exists.
 ghost use Rattle.std.specs.Prelude.{◌≡◌};
 ghost use Rattle.trace_accesses.specs.Accesses.{is_possible as is_possible_access, possible_access};
 
@@ -25,9 +25,9 @@ pub(crate) fn possible(
     }
 }
 
-/// Returns whether the process of an access is one of sixteen, and its cell exists.
+/// Returns whether the process of an access and its cell exist.
 fn is_possible(memory: &CellMemory, process: u8, access: &CellAccess) -> bool
     ensures { result ≡ is_possible_access memory.now.setup process access.now }
 {
-    process < 16 && memory.width_of(access.cell).is_some()
+    process < memory.processes() && memory.width_of(access.cell).is_some()
 }

@@ -136,8 +136,8 @@ fn first_other(
     Ok(None)
 }
 
-/// Process 1 reads while process 0 writes, and process 0 writes while process 1 reads. Two entries are impossible: there is
-/// no cell 2, and no process 16.
+/// Process 1 reads while process 0 writes, and process 0 writes while process 1 reads. Three entries are impossible: there is
+/// no cell 2, and neither a process 2 nor a process 16.
 const SAFE: [Case; 13] = [
     (
         0,
@@ -169,13 +169,8 @@ const SAFE: [Case; 13] = [
         CellMove::Get(1),
         "4 1 reads whole 4 [get → 1] flag[0]",
     ),
-    (2, Some(2), CellMove::Set(1), ""),
-    (
-        9,
-        Some(1),
-        CellMove::Set(1),
-        "6 9 writes whole 6 [set 1] flag[1] row 1 flag[1] 0 1",
-    ),
+    (1, Some(2), CellMove::Set(1), ""),
+    (2, Some(1), CellMove::Set(1), ""),
     (16, Some(1), CellMove::Set(0), ""),
     (
         1,
@@ -199,7 +194,7 @@ const SAFE: [Case; 13] = [
         1,
         Some(1),
         CellMove::Get(0),
-        "11 1 reads whole 11 [get → 0 ≠ 1] flag[1]",
+        "11 1 reads whole 11 [get → 0] flag[1]",
     ),
     (
         0,
