@@ -89,13 +89,13 @@ pub(super) fn turn_step<L: RunObserver>(
         *outcome = any_step(world, process, flicks.flick(), observer);
         return false;
     }
-    let before = flicks.twin();
-    let flick = flicks.twin().flick();
+    let mut before = flicks.twin();
     let made = world.run(process, flicks, 1);
     if !observer.observes_steps() {
         observer.pass(process, &before, 1, made.newest, made.overlapped);
         return true;
     }
+    let flick = before.flick();
     let observed = observer.step(UnmarkedStep {
         process,
         flick,

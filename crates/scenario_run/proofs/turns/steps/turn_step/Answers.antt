@@ -9,7 +9,7 @@ pub returns-clause-cut : goal.returns-clause-cut
 returns-clause-cut g c =
     let r = c.run-made in
     let w = c.args.world.now in
-    let flick = c.flick-flick.ensures.flick ∙ ap flick_of c.twin.ensures in
+    let flick = c.flick-flick.ensures.flick ∙ ap flick_of c.twin-before.ensures in
     let fault = c.in-Err.fault in
     let one = walks-one w r.new.self c.args.flicks.now r.new.flicks c.args.process c.flick-flick.result r.result.newest r.result.overlapped (sym flick) r.ensures.runs in
     subst (λ b. ObservesStep (StopsBy g.L.RunObserver.Stops fault) w c.args.process b r.new.self c.args.observer.now c.step-observed.new.self) flick
@@ -19,7 +19,7 @@ pub returns-in_default-clause-observed : goal.returns-in_default-clause-observed
 returns-in_default-clause-observed g c =
     let r = c.run-made in
     let w = c.args.world.now in
-    let flick = c.flick-flick.ensures.flick ∙ ap flick_of c.twin.ensures in
+    let flick = c.flick-flick.ensures.flick ∙ ap flick_of c.twin-before.ensures in
     let Observes = g.L.RunObserver.Observes in
     let one = walks-one w r.new.self c.args.flicks.now r.new.flicks c.args.process c.flick-flick.result r.result.newest r.result.overlapped (sym flick) r.ensures.runs in
     rw c.requires.none (subst (λ b. ObservesStep Observes w c.args.process b r.new.self c.args.observer.now c.step-observed.new.self) flick
