@@ -11,10 +11,11 @@ from pictures import LEFT, SVG, title, width_of
 from second.drawn_accesses import overlapped_reads, whole_style
 
 LINE = re.compile(r"M(\d+) (\d+)L(\d+) (\d+)")
+PROCESS = re.compile(r"P\d+")
 # the height of a box, and of a wave's line above its foot
 HIGH, WAVE = 28, 30
-# where a band has its names
-NAMES = 8
+# where a band has its names; and how far below the name of a process its boxes begin, by the style of the name
+NAMES, BELOW = 8, {"lane": 21, "thin": 9}
 
 
 class Box(NamedTuple):
@@ -27,13 +28,15 @@ class Box(NamedTuple):
 
 
 class Seen(NamedTuple):
-    """What a band shows of accesses: the titles of their groups, the places of the columns, the boxes, the ties, and the waves."""
+    """What a band shows of accesses: the titles of their groups, the places of the columns, the boxes, the ties, the waves, and where
+    the boxes of each process begin."""
 
     titles: list
     places: list
     boxes: list
     ties: list
-    waves: dict
+    waves: list
+    tops: dict
 
 
 def lines_of(band, style):
@@ -59,12 +62,19 @@ def waves_of(band):
         yield name.text, edges, levels, [width_of(box) for box in boxes if top <= int(box.get("y")) < top + WAVE]
 
 
+def tops_of(band):
+    """Where the boxes of each process begin."""
+    names = [word for word in band if word.tag == SVG + "text" and word.get("class") in BELOW and word.get("x") == str(NAMES)]
+    return {int(name.text[1:]): int(name.get("y")) + BELOW[name.get("class")] for name in names if PROCESS.fullmatch(name.text)}
+
+
 def seen_in(band):
     """What a band shows of accesses."""
     groups = [group for group in band if group.get("class") == "r"]
     rects = [shape for shape in band.iter(SVG + "rect") if is_box(shape)]
     boxes = [Box(box.get("class"), *width_of(box), int(box.get("y"))) for box in rects]
-    return Seen([title(group) for group in groups], [line[0] for line in lines_of(band, "guide")], boxes, lines_of(band, "tie"), [*waves_of(band)])
+    places = [line[0] for line in lines_of(band, "guide")]
+    return Seen([title(group) for group in groups], places, boxes, lines_of(band, "tie"), [*waves_of(band)], tops_of(band))
 
 
 def style_of(access, overlapped):
@@ -126,20 +136,11 @@ def wave_faults(seen, shown, places, waves, end):
 
 def band_faults(seen, wanted, shown):
     """What is wrong with the boxes and the ties of a band."""
-    tops = {}
-    # (two processes may have the same box; the lane of the lower one is above)
-    for process, style, begin, end in sorted(wanted.boxes, key=lambda box: box[0]):
-        free = [tops[process]] if process in tops else {box.top for box in seen.boxes} - set(tops.values())
-        own = [box for box in seen.boxes if box[:3] == (style, begin, end) and box.top in free]
-        if not own:
-            yield f"process {process} has no box {style} from {begin} to {end}; {seen.boxes[:9]}"
-            continue
-        tops[process] = min(box.top for box in own)
-    if len(seen.boxes) != len(wanted.boxes):
-        yield f"{len(seen.boxes)} boxes, not {len(wanted.boxes)}"
-    if sorted(tops.values()) != [tops[process] for process in sorted(tops)]:
-        yield f"the lanes of {tops} are in another order"
-    ties = [(x, tops.get(upper, 0) + HIGH, x, tops.get(lower, 0)) for x, upper, lower in wanted.ties]
+    boxes = [Box(style, begin, end, seen.tops[process]) for process, style, begin, end in wanted.boxes]
+    if sorted(boxes) != sorted(seen.boxes):
+        yield f"boxes {sorted(seen.boxes)[:9]}, not {sorted(boxes)[:9]}"
+    # (a tie may lead to a process that has no box here: a write that its failure interrupted has not ended, but its box has)
+    ties = [(x, seen.tops[upper] + HIGH, x, seen.tops[lower]) for x, upper, lower in wanted.ties]
     if sorted(ties) != sorted(seen.ties):
         yield f"ties {sorted(seen.ties)}, not {sorted(ties)}"
 
