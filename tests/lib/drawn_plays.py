@@ -138,15 +138,18 @@ def play_streams(folder, number):
 
 
 def stream_fault(spoiler, whole, job):
-    """What is wrong with a run of which a call was spoiled, or None. A page of a record or a trace may begin before a read fails."""
+    """What is wrong with a run of which a call was spoiled, or None. A page of a record or a trace may begin before a read fails, or
+    before a line is reached that has a fault. That fault is told even if a write fails then."""
     command, text, most, stream, call, how = job
     why = failing_streams.spoil(spoiler, job)[2]
-    if why is None or not command.startswith("draw") or stream != failing_streams.READS or how != "fail":
+    if why is None or not command.startswith("draw") or kind_of(text) not in ("record", "trace"):
         return f"{how} {why}" if why else None
-    ran, *_ = spoiler.run([*command.split(), "-"], text, MOST=most, STREAM=stream, CALL=call, HOW=how)
+    ran, _, writes, *_ = spoiler.run([*command.split(), "-"], text, MOST=most, STREAM=stream, CALL=call, HOW=how)
     is_begun = whole.output.startswith(ran.output) and b"</html>" not in ran.output
-    is_good = kind_of(text) in ("record", "trace") and is_begun and ran == Ran(1, ran.output, b"read fault\n")
-    return None if is_good else f"{how} {why}"
+    is_read = (stream, how) == (failing_streams.READS, "fail") and ran == Ran(1, ran.output, b"read fault\n")
+    is_last = stream == failing_streams.OUTPUT and how != "one" and writes == call and ran.output != whole.output
+    is_told = is_last and whole.errors.startswith(b"line ") and ran._replace(output=whole.output) == whole
+    return None if is_begun and (is_read or is_told) else f"{how} {why}"
 
 
 def counts_allocations(folder):
