@@ -1,5 +1,5 @@
-//! The engine `audit`: the verdict on the record of a scenario's run. An auditor observes each entry as the
-//! run makes it. No record is stored.
+//! The engine `audit`: the verdict on the record of a scenario's run. An auditor observes the entries as the run makes them,
+//! those within a register access at once. No record is stored.
 ghost use Rattle.std.specs.Prelude.{◌≡◌, ◌-◌, ◌^◌, ◌<◌, IfOk, OnOk};
 ghost use Rattle.judge.specs.safe_monitor.declared.verdicts.Verdict.TheVariants.{Good};
 ghost use Rattle.scenario.specs.files.Engines.{Ran, streams};
@@ -16,7 +16,7 @@ use scenario::{Fault, Scenario, Sink, Source, read_input, read_scenario};
 use scenario_run::{PlayLimit, RunAudit, ScenarioRun, Summary, WithAudit};
 use std::alloc::{AllocError, Global};
 
-/// Reads a whole file, makes its run, while an auditor observes each entry, and then writes the verdict on its
+/// Reads a whole file, makes its run, while an auditor observes its entries, and then writes the verdict on its
 /// record, on one line. Returns the exit status. However it ends, it takes at most `INPUT_LIMIT` bytes from the
 /// start of the input.
 /// `progress_observer` receives the progress; [`NoObserver`] ignores it.
@@ -64,7 +64,7 @@ fn audit_scenario<W: Sink, L: ProgressObserver>(
     Ok(status_of(&audited.verdict))
 }
 
-/// Makes the run of a file's scenario, while an auditor observes each entry. Fails only if an allocation fails.
+/// Makes the run of a file's scenario, while an auditor observes its entries. Fails only if an allocation fails.
 fn audit_run<L: ProgressObserver>(
     alloc: Global,
     scenario: &Scenario,
