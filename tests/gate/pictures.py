@@ -30,6 +30,7 @@ sys.path.insert(0, str(pathlib.Path(__file__).resolve().parents[1]))
 from lib.counting import Counter
 from lib.places import PROGRAM, TOP, WORKED
 from lib.random_scenarios import scenario
+from second.programs import Setup
 
 # the picture that README.md shows, and its run
 SHOWN = TOP / "docs" / "run.svg"
@@ -56,8 +57,6 @@ ROW = 16
 MOST_SHOWN = 3
 # an entry of a record with an access: process, owner, field, bit, reader, move, value
 ENTRY = re.compile(r"(\d+) (\d+)\.(\w+)\.(\d+)\.(\d+) (write|end|settle|read|value)(?: ([01]))?( :.*)?")
-# how many bits the registers have, by the heading of a record, or always
-WIDTHS = {"choosing": 1, "commit": 1, "ticket": "tickets", "stamp0": "stamps", "stamp1": "stamps"}
 
 
 class Group(NamedTuple):
@@ -132,15 +131,16 @@ def printed(file, command, *options):
 
 
 def overlapped_in(record):
-    """The reads of a record that a write of their bit overlapped: one was open as they began, or has begun since."""
+    """The reads of a record that a write of their bit overlapped: one was open as they began, or has begun since. A bad record may end
+    a read that was not the last one begun by its reader, or that has no bit; it is not among them."""
     entries = [line for line in record if line[0].isdigit()]
-    widths = dict(line.split(maxsplit=1) for line in record if not line[0].isdigit())
+    setup = Setup([line for line in record if not line[0].isdigit()])
     writing, begun, touched = set(), {}, set()
     for number, entry in enumerate(entries):
         parts = ENTRY.fullmatch(entry)
         if not parts:
             continue
-        process, *place, move, value, _ = parts.groups()
+        _, *place, move, value, _ = parts.groups()
         place = tuple(place)
         if move == "write":
             writing.add(place)
@@ -148,13 +148,12 @@ def overlapped_in(record):
         elif move in ("end", "settle"):
             writing.discard(place)
         elif move == "read":
-            begun[place] = number
+            begun[place[3]] = number, place
             (touched.add if place in writing else touched.discard)(place)
-        elif place in touched:
-            owner, field, bit, _ = place
-            width = WIDTHS.get(field)
-            is_wide = int(widths.get(width, width or 8)) > 1
-            yield Read(process, owner, field, bit, begun[place], number, value, is_wide)
+        elif place in touched and begun.get(place[3], (None, None))[1] == place:
+            owner, field, bit, reader = place
+            if max(int(owner), int(reader)) < setup.processes and int(bit) < setup.width(field):
+                yield Read(reader, owner, field, bit, begun[reader][0], number, value, setup.width(field) > 1)
 
 
 def read_faults(groups, reads):
