@@ -133,9 +133,9 @@ def waiting_words(lines, process):
     tickets, doorways, waits = {}, {}, {}
     for number, line in enumerate(lines):
         _, other, mark, *rest = line.split()
-        if mark in ("wait", "leave", "answer", "down", "fail"):
+        if mark not in ("taken", "settled"):
             doorways.pop(other, None)
-        if mark in ("leave", "answer", "down"):
+        if mark in ("wait", "leave", "answer", "down"):
             tickets.pop(other, None)
         if mark == "call":
             doorways[other] = number
