@@ -103,15 +103,23 @@ def stage_faults(picture, story, window):
             state = state.after(title(mark))
 
 
+def access_places(band):
+    """The process and the place of each access that has a column in a band."""
+    seen = seen_in(band)
+    said = sorted(seen.titles, key=lambda said: int(said.split()[0])) if seen.places else []
+    yield from ((int(words.split()[1]), x) for words, x in zip(said, seen.places))
+
+
 def waiting_faults(picture, story, window):
-    """What is wrong with the words of the bars of those that wait."""
+    """What is wrong with the words of the bars of those that wait. Words have room up to the next column of their process."""
     before = [line for line in second.lines_before(story, window) if is_own(story, line)]
     for band, marks in zip(picture.bands, picture.marks):
         own = [(number_of(mark, "data-x"), title(mark)) for mark in marks if is_own(story, title(mark))]
         words = [word for word in band.iter(SVG + "text") if word.get("class") == "stage"]
         for process, (middle, is_full) in drawn_verdicts.lanes_of(band).items():
             shown = sorted((number_of(word, "x"), word.text) for word in words if number_of(word, "y") - 3 == middle)
-            first = min(x for x, _ in [*own, *shown, (second.GREATEST, "")])
+            accesses = [(x, "") for its_process, x in access_places(band) if its_process == process]
+            first = min(x for x, _ in [*own, *shown, *accesses, (second.GREATEST, "")])
             if is_full and waits_until(band, process) >= LEFT + ROOM <= first:
                 yield f"the bar of process {process} has no words at the left edge"
             for x, text in shown:
