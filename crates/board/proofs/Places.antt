@@ -12,22 +12,18 @@ use Rattle.laws.specs.{Closes, Doing, Lies, Rests, Runs, call, cut_of, does_then
 use Rattle.history_laws.specs.{stamp_at, stamp_read}
 use Rattle.process.specs.{StepOutcome, changes_pending, changes_read, changes_reported, marks_reported}
 use Rattle.process.specs.declared.outcomes.StepOutcome.TheVariants as reported
+use Rattle.process.proofs.TakingSteps.{takes, takes_cases}
 use Rattle.board.specs.{IsPlace, Makes, OwnView, may_take}
 
 -- The marks of a taken command.
-
--- the marks begin with that of a taken command
-abbrev pub takes : List Mark → Bool
-takes (mark.Taken k r ∷ marks) = true
-takes _ = false
 
 -- the marks begin with that of a settled bit, followed by that of a taken command
 abbrev pub settles_taking : List Mark → Bool
 settles_taking (mark.Settled v ∷ mark.Taken k r ∷ marks) = true
 settles_taking _ = false
 
-pub takes_read : (s : Setup) (p : ℕ) (d : Doing) (flick v : Bool) → takes (marks_with s p d flick v) ≡ true → stamp_read d ≡ Some (changes_read d)
-takes_read s p d flick v h = grind arith
+takes_read : (s : Setup) (p : ℕ) (d : Doing) (flick v : Bool) → takes (marks_with s p d flick v) ≡ true → stamp_read d ≡ Some (changes_read d)
+takes_read = takes_cases (λ d. stamp_read d ≡ Some (changes_read d)) (λ command number run versions. refl) (λ command number run versions store. refl)
 
 -- no part settles a bit
 part-settles : (c : Call) (x : Part) (fresh last : Bool) (bits : List Bool) → settles_taking (cond fresh (first_marks x) [] ++ cond last (last_marks c x bits) []) ≡ true → ⊥

@@ -24,5 +24,6 @@ pub mod SeenMore
 pub mod Serves
 pub mod SettlesOn
 pub mod Shown
+pub mod TakingSteps
 pub mod UnitBegins
 pub mod VersionsSeen

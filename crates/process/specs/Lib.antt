@@ -23,7 +23,7 @@ pub use Places.{ProcessState, WantsNoMemory, called, changes_at, changes_pending
 pub use RegisterProgress.{last_access, last_of_read, last_of_run, last_of_write, progress}
 pub use ValuesRead.{Fit, HasRoom, Holds, IsCall, KeepsPart, all_from, call_of, others_of, part_at, tickets_seen, versions, versions_seen, waits_from}
 pub use Serving.{answered_at, answered_next, dropped, newest_of, next_at, overlapped_steps, overlaps_step, step_by, step_of, steps_of}
-pub use Reporting.{act_of, changes_reported, marks_of, marks_reported}
+pub use Reporting.{act_of, changes_of_event, changes_reported, marks_of, marks_reported}
 pub use Working.{AreMarksOn, HasMoved, IsOfCommit, IsStepped, KeepsPlace, SettlesAt, doing_at, value_for_next, is_torn_at, reply_taken, settling_at, state_at, taken_at, with_doing}
 pub use declared.newest_version.NewestVersion.{NewestVersion}
 pub use declared.outcomes.EventOutcome.{EventOutcome}

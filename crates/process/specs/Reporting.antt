@@ -34,6 +34,11 @@ marks_of Fails = mark.Failed ∷ []
 marks_of Withdraws = mark.Withdrew ∷ []
 marks_of Restarts = mark.Restarted ∷ []
 
+-- the number of changes that were taken before the command, as the event reports it
+abbrev pub changes_of_event : EventOutcome → Option ℕ
+changes_of_event (Steps reported) = changes_reported reported
+changes_of_event _ = None
+
 -- the act of an event that was made; a command that is taken gets this position
 abbrev pub act_of : ℕ → EventMade → Act
 act_of place made = record { access = made.access; marks = map (placed place) (marks_of made.effect) }

@@ -15,7 +15,7 @@ pub enum StepOutcome {
     /// The doorway is finished, and there is no process to wait for.
     WaitsAndEnters(u32),
     Enters,
-    /// The command is taken, after `changes` changes.
+    /// The command is taken, after `changes` commands have changed the store.
     Took { reply: Reply, changes: u32 },
     Leaves,
     Answers(Answer),

@@ -25,6 +25,7 @@ pub mod CoreKeeps
 pub mod CoreLooks
 pub mod CoreLast
 pub mod CoreOverlaps
+pub mod CoreChanges
 pub mod WorldMainTheorem
 pub mod CoreRefused
 pub mod CoreNext

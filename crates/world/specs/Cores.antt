@@ -11,7 +11,7 @@ use Rattle.process.specs.declared.outcomes.EventOutcome.TheVariants.{Steps}
 use Rattle.process.specs.registers.{AreAlikeMemories}
 use Rattle.model.specs.safe_bit.Cell.{Cell}
 use Rattle.world.specs.Changes.{pending_in, with_taken}
-use Rattle.world.specs.Events.{AddsEvent, GoesOn, InEachPast, IsRefused, IsTurnedAway, UnlessRefused}
+use Rattle.world.specs.Events.{AddsEvent, EventReportsChanges, GoesOn, InEachPast, IsRefused, IsTurnedAway, UnlessRefused}
 use Rattle.choices.specs.{FlickState}
 use Rattle.world.specs.Seats.{Seat}
 use Rattle.world.specs.Shows.{Shows, WorldState}
@@ -82,6 +82,13 @@ CoreAddsQuietly c p flick access = (taken : List Taken) → AddsQuietly (with_hi
 -- with each history, whether the access would end a read that a write overlapped
 abbrev pub CoreReportsOverlapped : CoreState → Access → Bool → Type 0
 CoreReportsOverlapped c access overlapped = (taken : List Taken) → ReportsOverlapped (with_history c taken) access overlapped
+
+-- with each history, if an event reports a number of changes, this many were taken before it; below, a step reports it
+abbrev pub CoreEventReportsChanges : CoreState → EventOutcome → Type 0
+CoreEventReportsChanges c effect = (taken : List Taken) → EventReportsChanges (with_history c taken) effect
+
+abbrev pub CoreReportsChanges : CoreState → StepOutcome → Type 0
+CoreReportsChanges c reported = CoreEventReportsChanges c (Steps reported)
 
 -- the process of the event exists, and the new core with the extended history shows the event too
 pub record CoreMakes (old : CoreState) (event : Event) (effect : EventOutcome) (new : CoreState) : Type 0 where

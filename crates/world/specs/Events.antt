@@ -1,9 +1,10 @@
 -- The effect of an accepted event on a world, in every record that the world shows.
-use Rattle.std.specs.Prelude.{◌≡◌, ◌⊎◌, ℕ, ◌+◌, ◌≤◌, Bool, true, cond, nat_lt, List, ◌∷◌, length, Option, None, Some}
+use Rattle.std.specs.Prelude.{◌≡◌, ◌⊎◌, ℕ, ◌+◌, ◌≤◌, Bool, true, cond, nat_lt, List, ◌∷◌, length, IfSome, Option, None, Some}
+use Rattle.history_laws.specs.{changes_taken}
 use Rattle.model.specs.{Access, Act, Entry, Event, KeepsMainTheorem, Past, Refusal, Stage, entry_of, is_call, past_of, process_of, refused, stage}
 use Rattle.model.specs.declared.events.Event.TheVariants.{Step}
 use Rattle.model.specs.declared.refusals.Refusal.TheVariants.{Memory}
-use Rattle.process.specs.{EventOutcome, StepOutcome, act_of}
+use Rattle.process.specs.{EventOutcome, StepOutcome, act_of, changes_of_event}
 use Rattle.process.specs.declared.outcomes.EventOutcome.TheVariants.{Steps}
 use Rattle.plain_store.specs.{Setup}
 use Rattle.world.specs.Changes.{pending_in}
@@ -50,6 +51,13 @@ AddsStep w p flick reported access = AddsEvent w (Step p flick) (Steps reported)
 
 abbrev pub StepKeepsMainTheorem : WorldState → ℕ → StepOutcome → Access → Type 0
 StepKeepsMainTheorem w p reported access = KeepsTheMainTheorem w p (act_next w (Some access) (Steps reported))
+
+-- if an event reports a number of changes, this many were taken before it, in every record that the world shows; below, a step reports it
+abbrev pub EventReportsChanges : WorldState → EventOutcome → Type 0
+EventReportsChanges w effect = InEachPast w (λ s past. IfSome (changes_of_event effect) (λ changes. changes ≡ changes_taken s past))
+
+abbrev pub ReportsChanges : WorldState → StepOutcome → Type 0
+ReportsChanges w reported = EventReportsChanges w (Steps reported)
 
 -- the world then shows the event too
 abbrev pub GoesOn : WorldState → Event → WorldState → Type 0

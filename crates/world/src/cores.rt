@@ -6,7 +6,7 @@ ghost use Rattle.model.specs.declared.Event.TheVariants.{Call, Step, Fail, Withd
 ghost use Rattle.model.specs.{ahead, newest};
 ghost use Rattle.process.specs.declared.outcomes.EventOutcome.TheVariants.{Calls, Fails, Restarts, Steps, Withdraws};
 ghost use Rattle.process.specs.{WantsNoMemory};
-ghost use Rattle.world.specs.Cores.{CoreAdds, CoreAddsStep, CoreMakes, CoreRefuses, CoreRefusesStep, CoreSteps, CoreReportsOverlapped, CoreWalks, InEachCorePast, PendedBefore, PendedUnlessCall, UnlessCoreRefuses, pending_with, taken_by, with_history};
+ghost use Rattle.world.specs.Cores.{CoreAdds, CoreAddsStep, CoreEventReportsChanges, CoreMakes, CoreRefuses, CoreRefusesStep, CoreReportsChanges, CoreSteps, CoreReportsOverlapped, CoreWalks, InEachCorePast, PendedBefore, PendedUnlessCall, UnlessCoreRefuses, pending_with, taken_by, with_history};
 ghost use Rattle.world.specs.Events.{stage_in};
 ghost use Rattle.world.specs.Going.{CoreGoes};
 ghost use Rattle.world.specs.Shows.{Shows};
@@ -158,6 +158,7 @@ impl Core {
         effect: &mut EventOutcome,
     ) -> Result<Option<Access>, Refusal>
         ensures accepted { IfOk result (CoreAdds self.old event.now effect.new) }
+        ensures changes { OnOk result (CoreEventReportsChanges self.old effect.new) }
         ensures shows { OnOk result (CoreMakes self.old event.now effect.new self.new) }
         ensures pending { OnOk result (PendedUnlessCall event.now self.old effect.new self.new) }
         ensures bounded { OnOk result (pending_with effect.new self.new ≤ length self.old.seats) }
@@ -191,6 +192,7 @@ impl Core {
             (λ made. CoreAddsStep self.old process flick reported.new made.access) }
         ensures overlapped { IfOk result
             (λ made. CoreReportsOverlapped self.old made.access made.overlapped) }
+        ensures changes { OnOk result (CoreReportsChanges self.old reported.new) }
         ensures shows { OnOk result (CoreSteps self.old process flick reported.new self.new) }
         ensures pending { OnOk result (PendedBefore self.old (Steps reported.new) self.new) }
         ensures refused { IfErr result (CoreRefusesStep self.old process flick) }
@@ -235,6 +237,7 @@ impl Core {
         ensures step { CoreGoes self.old (Step process flick) (Steps reported.new)
             (Some result.access) self.new }
         ensures overlapped { CoreReportsOverlapped self.old result.access result.overlapped }
+        ensures changes { CoreReportsChanges self.old reported.new }
         ensures others { KeepOthers self.old.seats process self.new.seats }
     {
         let seat = &mut self.seats[usize::from(process)];
@@ -279,7 +282,8 @@ impl Core {
     /// Makes an event that is not refused, writes its effect to `effect`, and returns the access of a step.
     fn make_event(&mut self, event: &Event, effect: &mut EventOutcome) -> Option<Access>
         requires { CoreRefuses self.old event.now None }
-        ensures { CoreGoes self.old event.now effect.new result self.new }
+        ensures event { CoreGoes self.old event.now effect.new result self.new }
+        ensures changes { CoreEventReportsChanges self.old effect.new }
     {
         event.command_is_sound();
         let before = waiting(&self.seats, event);

@@ -1,9 +1,9 @@
 //! The seat of each process in a world: how an event of its process changes it, and how another process does.
-ghost use Rattle.std.specs.Prelude.{◌≡◌, ◌<◌, None, map, true};
+ghost use Rattle.std.specs.Prelude.{◌≡◌, ◌<◌, IfSome, None, map, true};
 ghost use Rattle.std.specs.List.{list_any};
 ghost use Rattle.laws.specs.{is_inside};
 ghost use Rattle.process.specs.registers.{AreOf, applied, ends_overlapped};
-ghost use Rattle.process.specs.{answered_at, marks_of, marks_on, marks_reported, may_step, refusal_of, stepped};
+ghost use Rattle.process.specs.{answered_at, changes_of_event, changes_read, changes_reported, marks_of, marks_on, marks_reported, may_step, refusal_of, stepped};
 ghost use Rattle.model.specs.{is_call, value_of};
 ghost use Rattle.world.specs.Changes.{reported, waiting_in, waits_in};
 ghost use Rattle.world.specs.Going.{access_made, marks_made, registers_made, seat_made};
@@ -38,6 +38,8 @@ impl Seat {
         ensures registers { registers.new ≡ registers_made registers.old self.old event.now }
         ensures access { result ≡ access_made registers.old self.old event.now }
         ensures marks { marks_of effect.new ≡ marks_made registers.old self.old event.now }
+        ensures changes { IfSome (changes_of_event effect.new)
+            (λ changes. changes ≡ changes_read self.old.process.doing) }
     {
         match event {
             Event::Call(_, command) => {
@@ -91,6 +93,8 @@ impl Seat {
             ≡ seat_stepped (stepped self.old.process flick (value_of result.access.how)) self.old }
         ensures marks { marks_reported reported.new
             ≡ marks_on self.old.process flick (value_of result.access.how) }
+        ensures changes { IfSome (changes_reported reported.new)
+            (λ changes. changes ≡ changes_read self.old.process.doing) }
         ensures registers { registers.new ≡
             applied self.old.process.setup.processes registers.old result.access }
     {

@@ -7,7 +7,7 @@ ghost use Rattle.model.specs.declared.Event.TheVariants.{Call, Step};
 ghost use Rattle.model.specs.declared.Refusal.TheVariants.{Memory};
 ghost use Rattle.model.specs.{ahead, history, is_call, newest, process_of, refused};
 ghost use Rattle.world.specs.Cores.{CoreTurnsAway, HasRoomToTake, MakesRoomForCall, history_with, with_history};
-ghost use Rattle.world.specs.Events.{Adds, AddsEvent, AddsStep, EventKeepsMainTheorem, GoesOn, InEachPast, IsRefused, IsTurnedAway, KeepsTheMainTheorem, StepKeepsMainTheorem, UnlessRefused, stage_in};
+ghost use Rattle.world.specs.Events.{Adds, AddsEvent, AddsStep, EventKeepsMainTheorem, EventReportsChanges, GoesOn, InEachPast, IsRefused, IsTurnedAway, KeepsTheMainTheorem, ReportsChanges, StepKeepsMainTheorem, UnlessRefused, stage_in};
 ghost use Rattle.world.specs.Shows.{Shows};
 ghost use Rattle.process.specs.declared.outcomes.EventOutcome.TheVariants.{Steps};
 ghost use Rattle.world.specs.Walks.{KeepOthers, ReportsOverlapped, Walks, remaining_in};
@@ -106,6 +106,7 @@ impl World {
         effect: &mut EventOutcome,
     ) -> Result<Option<Access>, Refusal>
         ensures accepted { IfOk result (AddsEvent self.old event.now effect.new) }
+        ensures changes { OnOk result (EventReportsChanges self.old effect.new) }
         ensures shows { OnOk result (GoesOn self.old event.now self.new) }
         ensures refused { IfErr result (λ refusal. IsTurnedAway self.old event.now refusal) }
         ensures unchanged { OnErr result (self.new ≡ self.old) }
@@ -150,6 +151,7 @@ impl World {
             (λ made. AddsStep self.old process flick reported.new made.access) }
         ensures overlapped { IfOk result
             (λ made. ReportsOverlapped self.old made.access made.overlapped) }
+        ensures changes { OnOk result (ReportsChanges self.old reported.new) }
         ensures shows { OnOk result (GoesOn self.old (Step process flick) self.new) }
         ensures refused { IfErr result (λ why. IsRefused self.old (Step process flick) (Some why)) }
         ensures unchanged { OnErr result (self.new ≡ self.old) }

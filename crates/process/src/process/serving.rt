@@ -74,6 +74,8 @@ impl Process {
         requires memory { AreOf self.now.setup memory.now }
         ensures access { result.0 ≡ answered_at self.now memory.now flick }
         ensures marks { marks_reported result.1 ≡ marks_on self.now flick (value_of result.0.how) }
+        ensures changes { IfSome (changes_reported result.1)
+            (λ changes. changes ≡ changes_read self.now.doing) }
     {
         let access = self.next_access(memory, flick);
         let reported = self.copied().advance(flick, value_returned(access.how));

@@ -4,7 +4,7 @@ ghost use Rattle.model.specs.{width};
 ghost use Rattle.laws.specs.{doing};
 ghost use Rattle.process.specs.{number_read, process_after};
 ghost use Rattle.process.specs.registers.reader_copies.{copy_state};
-ghost use Rattle.world.specs.Cores.{CoreAddsQuietly, CoreAddsStep, CoreRefusesStep, InEachCorePast};
+ghost use Rattle.world.specs.Cores.{CoreAddsQuietly, CoreAddsStep, CoreRefusesStep, CoreReportsChanges, InEachCorePast};
 ghost use Rattle.world.specs.Looking.{IsNewestAccess, IsStepEntry, bytes_held, copy_held};
 ghost use Rattle.world.specs.Walks.{remaining_in};
 
@@ -86,6 +86,7 @@ impl Core {
     /// Returns why the step is refused.
     pub fn next_step(&self, process: u8, flick: bool) -> Result<(Access, StepOutcome), Refusal>
         ensures accepted { IfOk result (λ next. CoreAddsStep self.now process flick next.1 next.0) }
+        ensures changes { IfOk result (λ next. CoreReportsChanges self.now next.1) }
         ensures refused { IfErr result (CoreRefusesStep self.now process flick) }
     {
         let Some(seat) = self.seat(process) else {

@@ -1,6 +1,7 @@
 use Rattle.std.proofs.Common.{◌++◌, ◌∙◌, length, take, drop, slice_set, sym, ap, arith}
 use Rattle.model.specs.{process_of}
 use Rattle.world.specs.{CoreState, waiting_in}
+use Rattle.world.proofs.CoreChanges.{event-changes}
 use Rattle.world.proofs.CoreCode.{HasMade, made-code, not-refused, seat-made, seated}
 use Rattle.world.proofs.CoreKeeps.{IsNext, core_in, next-at}
 use Rattle.world.proofs.WorldOpen.{IsSeated}
@@ -49,5 +50,10 @@ made c next =
 pub invariant_of-self : goal.invariant_of-self
 invariant_of-self c = let a = goal.at.invariant_of-self c in (made a.After-note_waiting (next a.After-index_mut-seat)).keeps
 
-pub returns : goal.returns
-returns c = let a = goal.at.returns c in (made a.After-note_waiting (next a.After-index_mut-seat)).goes
+pub returns-clause-event : goal.returns-clause-event
+returns-clause-event c = let a = goal.at.returns-clause-event c in (made a.After-note_waiting (next a.After-index_mut-seat)).goes
+
+pub returns-clause-changes : goal.returns-clause-changes
+returns-clause-changes c =
+    let a = (goal.at.returns-clause-changes c).After-index_mut-seat in
+    event-changes (core a) c.args.self.now c.args.event.now c.index_mut-seat.result.now c.make-access.new.effect c.self.view_is (next a).there c.make-access.ensures.marks c.make-access.ensures.changes

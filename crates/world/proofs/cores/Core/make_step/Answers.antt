@@ -1,10 +1,11 @@
-use Rattle.std.proofs.Common.{◌++◌, ◌∙◌, ap, Some, length, take, drop, refl, slice_set, sym, arith}
+use Rattle.std.proofs.Common.{◌++◌, ◌∙◌, ap, Some, length, take, drop, refl, slice_set, subst, sym, arith}
 use Rattle.model.specs.{Access, value_of}
 use Rattle.model.specs.declared.events.Event.TheVariants.{Step}
 use Rattle.process.specs.registers.{applied}
 use Rattle.process.specs.declared.outcomes.EventOutcome.TheVariants.{Steps}
 use Rattle.process.specs.{marks_on, stepped}
-use Rattle.world.specs.{CoreState, seat_stepped}
+use Rattle.world.specs.{CoreReportsChanges, CoreState, seat_stepped}
+use Rattle.world.proofs.CoreChanges.{step-changes}
 use Rattle.world.proofs.CoreCode.{HasMade, made-code, not-refused, seated}
 use Rattle.world.proofs.CoreKeeps.{IsNext, core_in, next-at}
 use Rattle.world.proofs.CoreOverlaps.{reports-overlapped}
@@ -66,6 +67,13 @@ returns-clause-overlapped c =
     let made = c.step-made.result in
     reports-overlapped (core b) c.args.self.now c.args.process c.args.flick made.access (Steps c.step-made.new.reported) made.overlapped c.index_mut-seat.result.now.process.setup c.self.view_is (own b).setup c.step-made.ensures.overlapped
     (returns-clause-step c).adds
+
+pub returns-clause-changes : goal.returns-clause-changes
+returns-clause-changes c =
+    let a = (goal.at.returns-clause-changes c).After-index_mut-seat in
+    let reported = c.step-made.new.reported in
+    subst (λ (x : CoreState). CoreReportsChanges x reported) c.self.view_is
+    (step-changes (core a) c.args.process c.args.flick (value_of c.step-made.result.access.how) c.index_mut-seat.result.now reported (next a).there c.step-made.ensures.marks c.step-made.ensures.changes)
 
 pub returns-clause-others : goal.returns-clause-others
 returns-clause-others c = let a = goal.at.returns-clause-others c in (made a.After-note_waiting (next a.After-index_mut-seat)).others

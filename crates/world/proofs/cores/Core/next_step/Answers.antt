@@ -1,10 +1,11 @@
 use Rattle.std.proofs.Common.{◌≡◌, None, Some, cond, false, true, ap, sym, subst, rules, ◌∙◌}
 use Rattle.std.specs.Prelude.{slice_get}
-use Rattle.model.specs.{Access}
+use Rattle.model.specs.{Access, value_of}
 use Rattle.model.specs.declared.events.Event.TheVariants.{Step}
 use Rattle.model.specs.declared.refusals.Refusal.TheVariants.{NotRunning}
 use Rattle.process.specs.{answered_at}
 use Rattle.world.specs.{CoreRefuses, CoreState}
+use Rattle.world.proofs.CoreChanges.{step-changes}
 use Rattle.world.proofs.CoreCode.{seated}
 use Rattle.world.proofs.CoreNext.{step-next}
 use Rattle.world.proofs.CoreRefused.{refused-beyond, refused-step}
@@ -34,3 +35,8 @@ returns-clause-accepted c =
     step-next c.args.self.now c.args.process c.args.flick seat access c.next_step.result.1 (sym c.in-Some.ensures) (sym c.goes.ensures ∙ goes)
     (c.next_step.ensures.access ∙ ap (λ (d : CoreState). answered_at seat.process d.registers c.args.flick) c.self.view_is)
     c.next_step.ensures.marks
+
+pub returns-clause-changes : goal.returns-clause-changes
+returns-clause-changes c =
+    let next = c.next_step.result in
+    step-changes c.args.self.now c.args.process c.args.flick (value_of next.0.how) c.in-Some.seat.now next.1 (sym c.in-Some.ensures) c.next_step.ensures.marks c.next_step.ensures.changes

@@ -42,3 +42,6 @@ make_step-requires c = c.in_default.ensures.refused c.args.flick
 
 pub returns-in-Some-clause-others : goal.returns-in-Some-clause-others
 returns-in-Some-clause-others c = λ q apart. refl
+
+pub returns-then-remaining-gt0-clause-changes : goal.returns-then-remaining-gt0-clause-changes
+returns-then-remaining-gt0-clause-changes c = λ taken events shows. tt

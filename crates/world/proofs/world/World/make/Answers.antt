@@ -2,7 +2,7 @@ use Rattle.std.proofs.Common.{◌∷◌, List, Some, ap, length, sym, subst, ◌
 use Rattle.std.specs.Vec.{vec_capacity}
 use Rattle.process.specs.{act_of, marks_of}
 use Rattle.model.specs.{Taken, process_of, reply_taken}
-use Rattle.world.specs.{Adds, CoreState, GoesOn, IsRefused, IsTurnedAway, KeepsTheMainTheorem, KeepsWorld, call_in, with_history, with_taken}
+use Rattle.world.specs.{Adds, CoreState, EventReportsChanges, GoesOn, IsRefused, IsTurnedAway, KeepsTheMainTheorem, KeepsWorld, call_in, with_history, with_taken}
 use Rattle.world.specs.Shows.{Shows, WorldState}
 use Rattle.world.proofs.WorldMainTheorem.{keeps_main_theorem}
 use Rattle.world.proofs.WorldKeeps.{made_keeps, made_room, wider_keeps}
@@ -27,6 +27,9 @@ invariant_of-self-in-Err-event c =
 
 pub returns-in-Ok-clause-accepted : goal.returns-in-Ok-clause-accepted
 returns-in-Ok-clause-accepted c = subst (λ (w : WorldState). Adds w c.args.event.now (process_of c.args.event.now) (act_of (length w.history) (record { access = c.in-Ok.access; effect = c.event.new.effect }))) c.self.view_is (c.in-Ok.ensures.accepted c.self.inside.history.items)
+
+pub returns-in-Ok-clause-changes : goal.returns-in-Ok-clause-changes
+returns-in-Ok-clause-changes c = subst (λ (w : WorldState). EventReportsChanges w c.event.new.effect) c.self.view_is (c.in-Ok.ensures.changes c.self.inside.history.items)
 
 pub returns-in-Ok-clause-shows : goal.returns-in-Ok-clause-shows
 returns-in-Ok-clause-shows c =

@@ -4,7 +4,7 @@ use Rattle.model.specs.declared.events.Event.TheVariants.{Step}
 use Rattle.model.specs.{reply_taken}
 use Rattle.process.specs.declared.outcomes.EventOutcome.TheVariants.{Steps}
 use Rattle.process.specs.{act_of, marks_reported}
-use Rattle.world.specs.{Adds, CoreState, GoesOn, IsRefused, KeepOthers, KeepsTheMainTheorem, KeepsWorld, ReportsOverlapped, call_in, with_history, with_taken}
+use Rattle.world.specs.{Adds, CoreState, GoesOn, IsRefused, KeepOthers, KeepsTheMainTheorem, KeepsWorld, ReportsChanges, ReportsOverlapped, call_in, with_history, with_taken}
 use Rattle.world.specs.Shows.{Shows, WorldState}
 use Rattle.world.proofs.WorldMainTheorem.{keeps_main_theorem}
 use Rattle.world.proofs.WorldKeeps.{step_keeps}
@@ -19,6 +19,9 @@ invariant_of-self c =
 
 pub returns-in-Ok-clause-accepted : goal.returns-in-Ok-clause-accepted
 returns-in-Ok-clause-accepted c = subst (λ (w : WorldState). Adds w (Step c.args.process c.args.flick) c.args.process (act_of (length w.history) (record { access = Some c.in-Ok.made.access; effect = Steps c.step.new.reported }))) c.self.view_is (c.in-Ok.ensures.accepted c.self.inside.history.items)
+
+pub returns-in-Ok-clause-changes : goal.returns-in-Ok-clause-changes
+returns-in-Ok-clause-changes c = subst (λ (w : WorldState). ReportsChanges w c.step.new.reported) c.self.view_is (c.in-Ok.ensures.changes c.self.inside.history.items)
 
 pub returns-in-Ok-clause-shows : goal.returns-in-Ok-clause-shows
 returns-in-Ok-clause-shows c =
